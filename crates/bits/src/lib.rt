@@ -1,0 +1,1 @@
+// Bit fields, most significant bit first.

@@ -1,0 +1,4 @@
+pub mod Tests
+pub mod Verdict
+pub mod Written
+pub mod Chain

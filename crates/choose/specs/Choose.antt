@@ -1,0 +1,59 @@
+-- The chooser (document 01, "Chooser and lister").
+use mathlib.Core.Path.{_≡_}
+use mathlib.Core.Bool.{cond}
+use mathlib.Core.List.{List, []}
+use Prim.Native.Nat.{ℕ, _+_}
+use denote.Ref.{RefT, now}
+use Rattle.chain.specs.Tests.{_<?_, _≤?_, _≠?_, _or_}
+use Rattle.chain.specs.Verdict.{Verdict, fine, refused, _then_, refuseIf}
+use Rattle.chain.specs.Chain.{mostColumns, mostPayslips, mostSteps}
+use Rattle.sheet.specs.Sheet.{sheetRule}
+use Rattle.verify.specs.Verify.{scratchSize, verifyRule}
+use Rattle.file.specs.File.{columnsOf, payslipsOf, lengthOf, stepsOf, outputsOf, readRule}
+
+-- "its scratch must hold 16,000 pairs, 64 outputs and 16,017 numbers"
+abbrev pub mostScratch : ℕ
+mostScratch = scratchSize mostColumns mostSteps
+
+-- "those that read and pass": a file read, and held against the sheet. "A file that reads but has another p or q than the sheet is 14, place 0."
+unfoldable pub fileRule : ℕ → ℕ → List ℕ → List ℕ → Verdict
+fileRule p q amounts file =
+    readRule file mostSteps mostPayslips
+    then refuseIf (columnsOf file ≠? p or payslipsOf file ≠? q) 14 0
+    then verifyRule p (stepsOf file) (outputsOf file) amounts mostScratch
+
+-- which file is handed back, or the refusal
+pub data Choice : Type 0 where
+  first : Choice
+  second : Choice
+  neither : ℕ → ℕ → Choice
+
+-- "the file with fewer steps among those that read and pass, the first on equality"; "If neither does, the first file's refusal".
+-- The verdicts on the two files, and their numbers of steps.
+unfoldable pub better : Verdict → Verdict → ℕ → ℕ → Choice
+better fine fine m n = cond (m ≤? n) first second
+better fine (refused k s) m n = first
+better (refused k s) fine m n = second
+better (refused k s) (refused j t) m n = neither k s
+
+-- the choice, unless something was found before either file
+unfoldable pub unless : Verdict → Choice → Choice
+unless fine c = c
+unless (refused k s) c = neither k s
+
+-- "Before either file it tests 1 and 2 of the sheet, then 5"; the last three arguments are how many pairs, outputs and numbers are lent
+unfoldable pub chooseRule : ℕ → ℕ → List ℕ → ℕ → ℕ → ℕ → Verdict
+chooseRule p q amounts pairsLent outputsLent numbersLent =
+    sheetRule p q amounts
+    then refuseIf (pairsLent <? mostSteps or outputsLent <? mostPayslips or numbersLent <? mostScratch) 5 0
+
+unfoldable pub choice : ℕ → ℕ → List ℕ → List ℕ → List ℕ → ℕ → ℕ → ℕ → Choice
+choice p q amounts a b pairsLent outputsLent numbersLent =
+    unless (chooseRule p q amounts pairsLent outputsLent numbersLent)
+    (better (fileRule p q amounts a) (fileRule p q amounts b) (lengthOf a) (lengthOf b))
+
+-- What is handed back of files a and b: "the lender's own bytes", that very slice, with number and place 0; or an empty part and the refusal.
+abbrev pub Handed : Choice → RefT (List ℕ) → RefT (List ℕ) → RefT (List ℕ) → ℕ → ℕ → Type 0
+Handed first a b r number place = (r ≡ a) × ((number ≡ 0) × (place ≡ 0))
+Handed second a b r number place = (r ≡ b) × ((number ≡ 0) × (place ≡ 0))
+Handed (neither k s) a b r number place = (now r ≡ []) × ((number ≡ k) × (place ≡ s))

@@ -1,0 +1,68 @@
+-- Compile (document 01, "The three methods", "Turned down"): from a sheet to a chain by a method's number and its parameter.
+use mathlib.Core.Bool.{Bool, true, false, not, cond}
+use mathlib.Core.List.{List, [], _∷_}
+use Prim.Native.Nat.{ℕ, _*_, _/_}
+use lib.ListN.{length}
+use Rattle.chain.specs.Tests.{_<?_, _=?_, _or_}
+use Rattle.chain.specs.Verdict.{Verdict, _then_, refuseIf, Answer, answer, onFine}
+use Rattle.chain.specs.Written.{over}
+use Rattle.chain.specs.Chain.{Chain, mostSteps, flat, lengthRule}
+use Rattle.sheet.specs.Sheet.{sheetRule}
+use Rattle.straus.specs.Straus.{straus, strausCount, strausCeiling}
+use Rattle.yao.specs.Yao.{yao, yaoCount, yaoCeiling}
+use Rattle.partition.specs.Partition.{partition, partitionCount, partitionCeiling}
+
+-- the parameter is outside lowest .. highest
+abbrev pub outside : ℕ → ℕ → ℕ → Bool
+outside lowest highest k = k <? lowest or highest <? k
+
+-- "Each method has a number and its own range of parameters": 3, "method or parameter"
+unfoldable pub methodRule : ℕ → ℕ → ℕ → Verdict
+methodRule p method k =
+    refuseIf
+    (cond (method =? 1) (outside 1 5 k or 10 <? p * k)
+    (cond (method =? 2) (outside 1 8 k)
+    (cond (method =? 3) (outside 1 8 k)
+    true)))
+    3 0
+
+-- what the method of a number makes of its three definitions' values
+abbrev pub byMethod : {A : Type 0} → ℕ → A → A → A → A
+byMethod method a b c = cond (method =? 1) a (cond (method =? 2) b c)
+
+unfoldable pub chainOf : ℕ → ℕ → List ℕ → ℕ → ℕ → Chain
+chainOf p q amounts method k = byMethod method (straus p q amounts k) (yao p q amounts k) (partition p q amounts k)
+
+unfoldable pub count : ℕ → ℕ → List ℕ → ℕ → ℕ → ℕ
+count p q amounts method k = byMethod method (strausCount p q amounts k) (yaoCount p q amounts k) (partitionCount p q amounts k)
+
+unfoldable pub ceiling : ℕ → ℕ → List ℕ → ℕ → ℕ → ℕ
+ceiling p q amounts method k = byMethod method (strausCeiling p q amounts k) (yaoCeiling p q amounts k) (partitionCeiling p q amounts k)
+
+-- "A sheet, a method and a parameter are accepted together if compile's order below, 5 left aside, finds nothing against them;
+-- for its 4, n is the method's count": 1, 2, 3, 4
+unfoldable pub acceptedRule : ℕ → ℕ → List ℕ → ℕ → ℕ → Verdict
+acceptedRule p q amounts method k =
+    sheetRule p q amounts
+    then methodRule p method k
+    then lengthRule mostSteps (count p q amounts method k)
+
+-- "compile 1, 2, 3, 4, 5"; the last two arguments are how many pairs and outputs are lent
+unfoldable pub compileRule : ℕ → ℕ → List ℕ → ℕ → ℕ → ℕ → ℕ → Verdict
+compileRule p q amounts method k pairsLent outputsLent =
+    acceptedRule p q amounts method k
+    then refuseIf (pairsLent <? count p q amounts method k or outputsLent <? q) 5 0
+
+-- "On success compile and run return n"
+unfoldable pub compileAnswer : ℕ → ℕ → List ℕ → ℕ → ℕ → ℕ → ℕ → Answer
+compileAnswer p q amounts method k pairsLent outputsLent =
+    answer (compileRule p q amounts method k pairsLent outputsLent) (count p q amounts method k ∷ [])
+
+-- what the lent slices are afterwards, steps in turn; each was old before
+unfoldable pub compileSteps : ℕ → ℕ → List ℕ → ℕ → ℕ → ℕ → List ℕ → List ℕ
+compileSteps p q amounts method k outputsLent old =
+    onFine (compileRule p q amounts method k (length old / 2) outputsLent) (over (flat (chainOf p q amounts method k .steps)) old) old
+
+unfoldable pub compileOutputs : ℕ → ℕ → List ℕ → ℕ → ℕ → ℕ → List ℕ → List ℕ
+compileOutputs p q amounts method k pairsLent old =
+    onFine (compileRule p q amounts method k pairsLent (length old)) (over (chainOf p q amounts method k .outputs) old) old

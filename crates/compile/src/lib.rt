@@ -1,0 +1,1 @@
+// From a sheet to a chain by one of the methods.

@@ -1,0 +1,17 @@
+-- Sums and maxima over the numbers below a bound.
+use Prim.Native.Nat.{ℕ, zero, suc, _+_, max}
+
+-- f 0 + .. + f (n - 1)
+abbrev pub sumTo : ℕ → (ℕ → ℕ) → ℕ
+sumTo zero f = 0
+sumTo (suc n) f = sumTo n f + f n
+
+-- the largest of f 0 .. f (n - 1), 0 if there is none
+abbrev pub maxTo : ℕ → (ℕ → ℕ) → ℕ
+maxTo zero f = 0
+maxTo (suc n) f = max (maxTo n f) (f n)
+
+-- 0 for 0, else 1: so a sum counts what is not 0
+abbrev pub sign : ℕ → ℕ
+sign zero = 0
+sign (suc x) = 1

@@ -1,0 +1,1 @@
+// The file of a chain, written and read.

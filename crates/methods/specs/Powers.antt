@@ -1,0 +1,22 @@
+-- Powers of the bases by repeated squaring (document 01, methods 2 and 3). Column c, counted from 0, is squared n c times.
+use mathlib.Core.Bool.{cond}
+use mathlib.Core.List.{List, []}
+use Prim.Native.Nat.{ℕ, zero, suc, _+_}
+use Rattle.chain.specs.Tests.{_=?_}
+use Rattle.chain.specs.declared.Step.{Step}
+use Rattle.digits.specs.Range.{sumTo, maxTo}
+use Rattle.sheet.specs.Sheet.{amount}
+use Rattle.methods.specs.Product.{made, squared}
+
+-- "its largest amount", of column c over q payslips
+abbrev pub largestIn : ℕ → ℕ → List ℕ → ℕ → ℕ
+largestIn p q amounts c = maxTo q (λ i. amount p amounts i c)
+
+-- "Column by column, square the base": the steps of the first columns
+abbrev pub squarings : ℕ → (ℕ → ℕ) → ℕ → List Step
+squarings p n zero = []
+squarings p n (suc c) = squared p (n c) (made (squarings p n c) (c + 1)) .steps
+
+-- the value number of column c's base after j squarings: the base itself, or one of the values after those of the columns before
+abbrev pub powerOf : ℕ → (ℕ → ℕ) → ℕ → ℕ → ℕ
+powerOf p n c j = cond (j =? 0) (c + 1) (p + sumTo c n + j)

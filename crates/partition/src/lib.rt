@@ -1,0 +1,1 @@
+// Method 3: partition.

@@ -1,0 +1,1 @@
+// Residues: products and powers modulo a number.

@@ -1,0 +1,1 @@
+// Sheets: columns, payslips and amounts.

@@ -1,0 +1,1 @@
+// Method 1: Straus, or Brauer for one column.

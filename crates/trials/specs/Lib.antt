@@ -1,0 +1,4 @@
+pub mod Rows
+pub mod Trials
+pub mod Samples
+pub mod Refusals

@@ -1,0 +1,88 @@
+-- Tables of examples: a row is what the definitions give and what it should be, both as numbers. One computed test proves a whole table.
+use mathlib.Core.Path.{_≡_, refl, ap₂}
+use mathlib.Core.Bool.{Bool, true, false, _&&_}
+use mathlib.Core.List.{List, [], _∷_, _++_}
+use Prim.Native.Nat.{ℕ, zero, suc, _<_}
+use lib.ListN.{length, getD}
+use lib.Dec.{T, eqb, eqb→eq}
+use native.Mathlib.Nat.{not-suc-le-zero, le-of-suc-le-suc}
+use Rattle.chain.specs.Tests.{_<?_, _≤?_, _=?_, _≠?_, _or_}
+use Rattle.chain.specs.Verdict.{Verdict, fine, refused, _then_, refuseIf, refuseAt, Answer, done, refusal, answer, onFine}
+use Rattle.chain.specs.Written.{over}
+use Rattle.chain.specs.Chain.{sizesRule, lengthRule, stepRule, chainRule, legalRule, exponents}
+use Rattle.sheet.specs.Sheet.{amountsRule, sheetRule}
+use Rattle.digits.specs.Digits.{digitCount, bitLength}
+use Rattle.residue.specs.Residue.{figure}
+use Rattle.verify.specs.Verify.{overOr, otherOr, exponentsRule, payslipsRule, fittingRule, verifyRule, verifyAnswer, verifyScratch}
+use Rattle.run.specs.Run.{residues, runRule, runAnswer, runValues, runFigures}
+use Rattle.bits.specs.Bits.{bits, fields, value, bytesBits, front, pack, fieldsAt}
+use Rattle.file.specs.File.{fileBits, fileOf, writeRule, writeAnswer, writeBytes, stepsOf, outputsOf, readRule, readAnswer, readSteps, readOutputs}
+use Rattle.methods.specs.Product.{times}
+use Rattle.methods.specs.Table.{entry, tableNext}
+use Rattle.straus.specs.Straus.{strausDigits, straus, strausCount, strausCeiling}
+use Rattle.yao.specs.Yao.{yaoDigits, gatherOne, yao, yaoCount, yaoCeiling}
+use Rattle.partition.specs.Partition.{columnBits, inputs, taken, partition, partitionCount, partitionCeiling}
+use Rattle.compile.specs.Compile.{methodRule, chainOf, count, ceiling, acceptedRule, compileRule, compileAnswer, compileSteps, compileOutputs}
+use Rattle.choose.specs.Choose.{Choice, first, second, neither, fileRule, better, unless, chooseRule, choice}
+use Rattle.listing.specs.Listing.{listingRule, textFor, listing}
+
+pub record Row : Type 0 where
+  pub got : List ℕ
+  pub want : List ℕ
+
+infix 90 _gives_
+abbrev pub _gives_ : List ℕ → List ℕ → Row
+got gives want = record { got = got; want = want }
+
+abbrev pub Holds : Row → Type 0
+Holds r = r .got ≡ r .want
+
+abbrev pub same : List ℕ → List ℕ → Bool
+same [] [] = true
+same [] (y ∷ ys) = false
+same (x ∷ xs) [] = false
+same (x ∷ xs) (y ∷ ys) = eqb x y && same xs ys
+
+abbrev pub all : List Row → Bool
+all [] = true
+all (r ∷ rs) = same (r .got) (r .want) && all rs
+
+and-left : (a b : Bool) → T (a && b) → T a
+and-left true b t = tt
+and-left false b t = t
+
+and-right : (a b : Bool) → T (a && b) → T b
+and-right true b t = t
+and-right false b t = absurd t
+
+same-equal : (xs ys : List ℕ) → T (same xs ys) → xs ≡ ys
+same-equal [] [] t = refl
+same-equal [] (y ∷ ys) t = absurd t
+same-equal (x ∷ xs) [] t = absurd t
+same-equal (x ∷ xs) (y ∷ ys) t =
+    ap₂ _∷_ (eqb→eq x y (and-left (eqb x y) (same xs ys) t)) (same-equal xs ys (and-right (eqb x y) (same xs ys) t))
+
+-- each row of a table that passes the test holds
+pub rows-hold : (l : List Row) (d : Row) → T (all l) → (k : ℕ) → k < length l → Holds (getD l k d)
+rows-hold [] d t k h = absurd (not-suc-le-zero h)
+rows-hold (r ∷ rs) d t zero h = same-equal (r .got) (r .want) (and-left (same (r .got) (r .want)) (all rs) t)
+rows-hold (r ∷ rs) d t (suc k) h = rows-hold rs d (and-right (same (r .got) (r .want)) (all rs) t) k (le-of-suc-le-suc h)
+
+-- a verdict, an answer and a choice as numbers: the refusal's number, 0 for none, and its place; an answer's values; the file chosen
+abbrev pub verdict : Verdict → List ℕ
+verdict fine = 0 ∷ []
+verdict (refused n s) = n ∷ s ∷ []
+
+abbrev pub answered : Answer → List ℕ
+answered (done vs) = 0 ∷ vs
+answered (refusal n s) = n ∷ s ∷ []
+
+abbrev pub chosen : Choice → List ℕ
+chosen first = 1 ∷ []
+chosen second = 2 ∷ []
+chosen (neither n s) = 0 ∷ n ∷ s ∷ []
+
+-- all that the tables compute with: a table that unfolds this unfolds every definition of document 01
+unfoldable pub definitions : Unit {0}
+unfolding _<?_ _≤?_ _=?_ _≠?_ _or_ _then_ refuseIf refuseAt answer onFine over sizesRule lengthRule stepRule chainRule legalRule exponents amountsRule sheetRule digitCount bitLength figure overOr otherOr exponentsRule payslipsRule fittingRule verifyRule verifyAnswer verifyScratch residues runRule runAnswer runValues runFigures bits fields value bytesBits front pack fieldsAt fileBits fileOf writeRule writeAnswer writeBytes stepsOf outputsOf readRule readAnswer readSteps readOutputs times entry tableNext strausDigits straus strausCount strausCeiling yaoDigits gatherOne yao yaoCount yaoCeiling columnBits inputs taken partition partitionCount partitionCeiling methodRule chainOf count ceiling acceptedRule compileRule compileAnswer compileSteps compileOutputs fileRule better unless chooseRule choice listingRule textFor listing
+definitions = tt

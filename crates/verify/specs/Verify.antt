@@ -1,0 +1,77 @@
+-- The check (document 01, "Check"): "A chain is held against a sheet, whoever made it."
+use mathlib.Core.Bool.{cond}
+use mathlib.Core.List.{List, [], _∷_}
+use Prim.Native.Nat.{ℕ, zero, suc, _+_, min}
+use lib.ListN.{length, getD, drop, replicate}
+use Rattle.chain.specs.Tests.{_<?_, _=?_}
+use Rattle.chain.specs.Verdict.{Verdict, _then_, refuseIf, refuseAt, Answer, answer, onFine}
+use Rattle.chain.specs.Written.{over}
+use Rattle.chain.specs.Chain.{mostSteps, mostAmount, sizesRule, lengthRule, chainRule, exponents}
+use Rattle.chain.specs.declared.Step.{Step}
+use Rattle.sheet.specs.Sheet.{amount, amountsRule}
+
+-- the earlier of two places, 0 being none
+abbrev pub earlier : ℕ → ℕ → ℕ
+earlier zero b = b
+earlier (suc a) zero = suc a
+earlier (suc a) (suc b) = min (suc a) (suc b)
+
+-- the earliest of the places f 0 .. f (n - 1)
+abbrev pub earliest : ℕ → (ℕ → ℕ) → ℕ
+earliest zero f = 0
+earliest (suc n) f = earlier (earliest n f) (f n)
+
+-- s where the number is over the limit, else the place found later
+unfoldable pub overOr : ℕ → ℕ → ℕ → ℕ
+overOr x s later = cond (mostAmount <? x) s later
+
+-- the first place, from s, of a number over the limit; 0 if there is none
+abbrev pub firstOver : ℕ → List ℕ → ℕ
+firstOver s [] = 0
+firstOver s (x ∷ r) = overOr x s (firstOver (suc s) r)
+
+-- s where the two numbers differ, else the place found later
+unfoldable pub otherOr : ℕ → ℕ → ℕ → ℕ → ℕ
+otherOr x y s later = cond (x =? y) later s
+
+-- the first payslip, from i, counted from 0, whose output's exponent in column c is not its amount; 0 if there is none, else counted from 1
+abbrev pub firstOther : ℕ → ℕ → List ℕ → List ℕ → ℕ → List ℕ → ℕ
+firstOther p c amounts es i [] = 0
+firstOther p c amounts es i (o ∷ r) = otherOr (getD es o 0) (amount p amounts i c) (suc i) (firstOther p c amounts es (suc i) r)
+
+-- 13, "exponent too large": the first step with one, over all columns; also where no output uses that value
+unfoldable pub exponentsRule : ℕ → List Step → Verdict
+exponentsRule p steps = refuseAt 13 (earliest p (λ c. firstOver 1 (drop (p + 1) (exponents p c steps))))
+
+-- 14, "an output's exponents are not its payslip": the first payslip, over all columns
+unfoldable pub payslipsRule : ℕ → List ℕ → List Step → List ℕ → Verdict
+payslipsRule p amounts steps outputs = refuseAt 14 (earliest p (λ c. firstOther p c amounts (exponents p c steps) 0 outputs))
+
+-- "Scratch of p + n + 1 numbers is lent."
+abbrev pub scratchSize : ℕ → ℕ → ℕ
+scratchSize p n = p + n + 1
+
+-- "check 1, 4, 2, steps, 12, 5": what is found before the scratch is used; the last argument is how many numbers are lent
+unfoldable pub fittingRule : ℕ → List Step → List ℕ → List ℕ → ℕ → Verdict
+fittingRule p steps outputs amounts scratch =
+    sizesRule p (length outputs)
+    then lengthRule mostSteps (length steps)
+    then amountsRule p (length outputs) amounts
+    then chainRule p steps outputs
+    then refuseIf (scratch <? scratchSize p (length steps)) 5 0
+
+-- "13, 14"
+unfoldable pub verifyRule : ℕ → List Step → List ℕ → List ℕ → ℕ → Verdict
+verifyRule p steps outputs amounts scratch =
+    fittingRule p steps outputs amounts scratch
+    then exponentsRule p steps
+    then payslipsRule p amounts steps outputs
+
+-- "On success .. the check [returns] that the chain passed."
+unfoldable pub verifyAnswer : ℕ → List Step → List ℕ → List ℕ → ℕ → Answer
+verifyAnswer p steps outputs amounts scratch = answer (verifyRule p steps outputs amounts scratch) []
+
+-- "on 13, 14 and passing its first p + n + 1 cells are 0", else untouched
+unfoldable pub verifyScratch : ℕ → List Step → List ℕ → List ℕ → List ℕ → List ℕ
+verifyScratch p steps outputs amounts old =
+    onFine (fittingRule p steps outputs amounts (length old)) (over (replicate (scratchSize p (length steps)) 0) old) old

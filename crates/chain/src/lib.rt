@@ -1,4 +1,17 @@
 // Chains: the rules of a step and of an output, and what a chain is judged by. Nothing here knows of methods, files or residues.
+ghost use mathlib.Core.Path.{_≡_};
+ghost use Prim.Native.Nat.{_≤_};
+ghost use lib.ListN.{length};
+ghost use Rattle.chain.specs.Verdict.{_then_};
+ghost use Rattle.chain.specs.Chain.{mostColumns, by, pairs, sizesRule, lengthRule, stepRule, stepsRule, outputsRule, chainRule, legalRule};
+ghost use Rattle.chain.specs.Judgement.{verdictOf};
+
+// Limits of document 01: columns, payslips, steps.
+pub const MOST_COLUMNS: usize = 16;
+
+pub const MOST_PAYSLIPS: usize = 64;
+
+pub const MOST_STEPS: usize = 16000;
 
 // A step: the numbers of the two values that it multiplies.
 pub struct Step {
@@ -6,13 +19,170 @@ pub struct Step {
     pub second: u32,
 }
 
-// A refusal: its number in document 01, and the place it is at, 0 for none.
-pub struct Refusal {
-    pub number: u32,
-    pub place: usize,
-}
-
+// What a rule finds: nothing, or a refusal with its number in document 01 and its place, 0 for none.
 pub enum Judgement {
     Fine,
-    Refused(Refusal),
+    Refused { number: u32, place: usize },
+}
+
+// 1: p or q out of range.
+pub fn judge_sizes(p: usize, q: usize) -> Judgement
+    ensures { λ r. ⌜ verdictOf r ≡ sizesRule p q ⌝ }
+{
+    if p < 1 {
+        return Judgement::Refused {
+            number: 1,
+            place: 0,
+        };
+    }
+    if MOST_COLUMNS < p {
+        return Judgement::Refused {
+            number: 1,
+            place: 0,
+        };
+    }
+    if q < 1 {
+        return Judgement::Refused {
+            number: 1,
+            place: 0,
+        };
+    }
+    if MOST_PAYSLIPS < q {
+        return Judgement::Refused {
+            number: 1,
+            place: 0,
+        };
+    }
+    Judgement::Fine
+}
+
+// 4: more steps than the limit.
+pub fn judge_length(limit: usize, n: usize) -> Judgement
+    ensures { λ r. ⌜ verdictOf r ≡ lengthRule limit n ⌝ }
+{
+    if limit < n {
+        return Judgement::Refused {
+            number: 4,
+            place: 0,
+        };
+    }
+    Judgement::Fine
+}
+
+// Step s, which makes value v: 9, 10, 11.
+pub fn judge_step(v: usize, s: usize, first: u32, second: u32) -> Judgement
+    ensures { λ r. ⌜ verdictOf r ≡ stepRule v s (by first second) ⌝ }
+{
+    let a = first as usize;
+    let b = second as usize;
+    if a == 0 {
+        return Judgement::Refused {
+            number: 9,
+            place: s,
+        };
+    }
+    if b == 0 {
+        return Judgement::Refused {
+            number: 9,
+            place: s,
+        };
+    }
+    if v <= a {
+        return Judgement::Refused {
+            number: 10,
+            place: s,
+        };
+    }
+    if v <= b {
+        return Judgement::Refused {
+            number: 10,
+            place: s,
+        };
+    }
+    if a < b {
+        return Judgement::Refused {
+            number: 11,
+            place: s,
+        };
+    }
+    Judgement::Fine
+}
+
+// The steps in order, first and second in turn.
+pub fn judge_steps(p: usize, steps: &[u32]) -> Judgement
+    requires { ⌜ p ≤ mostColumns ⌝ }
+    ensures { λ r. ⌜ verdictOf r ≡ stepsRule p 1 (pairs (now (steps .entry))) ⌝ }
+{
+    let n = steps.len() / 2;
+    let mut s: usize = 0;
+    while s < n {
+        match judge_step(p + s + 1, s + 1, steps[2 * s], steps[2 * s + 1]) {
+            Judgement::Refused { number, place } => {
+                return Judgement::Refused {
+                    number: number,
+                    place: place,
+                };
+            }
+            Judgement::Fine => {}
+        }
+        s += 1;
+    }
+    Judgement::Fine
+}
+
+// 12: an output above top, the number of the last value.
+pub fn judge_outputs(top: usize, outputs: &[u32]) -> Judgement
+    ensures { λ r. ⌜ verdictOf r ≡ outputsRule top 1 (now (outputs .entry)) ⌝ }
+{
+    let mut i: usize = 0;
+    while i < outputs.len() {
+        let o = outputs[i] as usize;
+        if top < o {
+            return Judgement::Refused {
+                number: 12,
+                place: i + 1,
+            };
+        }
+        i += 1;
+    }
+    Judgement::Fine
+}
+
+// The steps, then 12.
+pub fn judge_chain(p: usize, steps: &[u32], outputs: &[u32]) -> Judgement
+    requires { ⌜ p ≤ mostColumns ⌝ }
+    ensures { λ r. ⌜ verdictOf r ≡ chainRule p (pairs (now (steps .entry))) (now (outputs .entry)) ⌝ }
+{
+    match judge_steps(p, steps) {
+        Judgement::Refused { number, place } => Judgement::Refused {
+            number: number,
+            place: place,
+        },
+        Judgement::Fine => judge_outputs(p + steps.len() / 2, outputs),
+    }
+}
+
+// Whether a chain is legal: 1, 4, steps, 12.
+pub fn judge_legal(p: usize, steps: &[u32], outputs: &[u32]) -> Judgement
+    ensures { λ r. ⌜ verdictOf r ≡ legalRule p (pairs (now (steps .entry))) (now (outputs .entry)) ⌝ }
+{
+    match judge_sizes(p, outputs.len()) {
+        Judgement::Refused { number, place } => {
+            return Judgement::Refused {
+                number: number,
+                place: place,
+            };
+        }
+        Judgement::Fine => {}
+    }
+    match judge_length(MOST_STEPS, steps.len() / 2) {
+        Judgement::Refused { number, place } => {
+            return Judgement::Refused {
+                number: number,
+                place: place,
+            };
+        }
+        Judgement::Fine => {}
+    }
+    judge_chain(p, steps, outputs)
 }

@@ -1,0 +1,9 @@
+pub mod Rules
+pub mod Pairs
+pub mod Sizes
+pub mod Steps
+pub mod Outputs
+pub mod Values
+pub mod Exponents
+pub mod Written
+pub mod Filling

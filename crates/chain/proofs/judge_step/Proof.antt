@@ -1,0 +1,33 @@
+use Rattle.chain.specs.Chain.{stepRule}
+use Rattle.chain.proofs.Rules.{judging}
+use Rattle.chain.proofs.judge_step.Statement.{statement}
+use Rattle.chain.proofs.judge_step.Tie as tie
+use Rattle.chain.proofs.judge_step.Reads as reads
+use Rattle.chain.proofs.judge_step.Lts as lts
+
+returns : tie.Need-returns
+unfolding stepRule
+returns c = search judging depth 8
+
+returns-2 : tie.Need-returns-2
+unfolding stepRule
+returns-2 c = search judging depth 8
+
+returns-3 : tie.Need-returns-3
+unfolding stepRule
+returns-3 c = search judging depth 8
+
+returns-4 : tie.Need-returns-4
+unfolding stepRule
+returns-4 c = search judging depth 8
+
+returns-5 : tie.Need-returns-5
+unfolding stepRule
+returns-5 c = search judging depth 8
+
+returns-6 : tie.Need-returns-6
+unfolding stepRule
+returns-6 c = search judging depth 8
+
+pub judge-step-spec : {M : Type 1} → statement M
+judge-step-spec = tie.close (tie.spec returns returns-2 returns-3 returns-4 returns-5 returns-6)

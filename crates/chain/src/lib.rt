@@ -22,7 +22,7 @@ pub struct Step {
 // What a rule finds: nothing, or a refusal with its number in document 01 and its place, 0 for none.
 pub enum Judgement {
     Fine,
-    Refused { number: u32, place: usize },
+    Refused(u32, usize),
 }
 
 // 1: p or q out of range.
@@ -30,28 +30,16 @@ pub fn judge_sizes(p: usize, q: usize) -> Judgement
     ensures { λ r. ⌜ verdictOf r ≡ sizesRule p q ⌝ }
 {
     if p < 1 {
-        return Judgement::Refused {
-            number: 1,
-            place: 0,
-        };
+        return Judgement::Refused(1, 0);
     }
     if MOST_COLUMNS < p {
-        return Judgement::Refused {
-            number: 1,
-            place: 0,
-        };
+        return Judgement::Refused(1, 0);
     }
     if q < 1 {
-        return Judgement::Refused {
-            number: 1,
-            place: 0,
-        };
+        return Judgement::Refused(1, 0);
     }
     if MOST_PAYSLIPS < q {
-        return Judgement::Refused {
-            number: 1,
-            place: 0,
-        };
+        return Judgement::Refused(1, 0);
     }
     Judgement::Fine
 }
@@ -61,10 +49,7 @@ pub fn judge_length(limit: usize, n: usize) -> Judgement
     ensures { λ r. ⌜ verdictOf r ≡ lengthRule limit n ⌝ }
 {
     if limit < n {
-        return Judgement::Refused {
-            number: 4,
-            place: 0,
-        };
+        return Judgement::Refused(4, 0);
     }
     Judgement::Fine
 }
@@ -76,34 +61,19 @@ pub fn judge_step(v: usize, s: usize, first: u32, second: u32) -> Judgement
     let a = first as usize;
     let b = second as usize;
     if a == 0 {
-        return Judgement::Refused {
-            number: 9,
-            place: s,
-        };
+        return Judgement::Refused(9, s);
     }
     if b == 0 {
-        return Judgement::Refused {
-            number: 9,
-            place: s,
-        };
+        return Judgement::Refused(9, s);
     }
     if v <= a {
-        return Judgement::Refused {
-            number: 10,
-            place: s,
-        };
+        return Judgement::Refused(10, s);
     }
     if v <= b {
-        return Judgement::Refused {
-            number: 10,
-            place: s,
-        };
+        return Judgement::Refused(10, s);
     }
     if a < b {
-        return Judgement::Refused {
-            number: 11,
-            place: s,
-        };
+        return Judgement::Refused(11, s);
     }
     Judgement::Fine
 }
@@ -117,11 +87,8 @@ pub fn judge_steps(p: usize, steps: &[u32]) -> Judgement
     let mut s: usize = 0;
     while s < n {
         match judge_step(p + s + 1, s + 1, steps[2 * s], steps[2 * s + 1]) {
-            Judgement::Refused { number, place } => {
-                return Judgement::Refused {
-                    number: number,
-                    place: place,
-                };
+            Judgement::Refused(number, place) => {
+                return Judgement::Refused(number, place);
             }
             Judgement::Fine => {}
         }
@@ -138,10 +105,7 @@ pub fn judge_outputs(top: usize, outputs: &[u32]) -> Judgement
     while i < outputs.len() {
         let o = outputs[i] as usize;
         if top < o {
-            return Judgement::Refused {
-                number: 12,
-                place: i + 1,
-            };
+            return Judgement::Refused(12, i + 1);
         }
         i += 1;
     }
@@ -154,10 +118,7 @@ pub fn judge_chain(p: usize, steps: &[u32], outputs: &[u32]) -> Judgement
     ensures { λ r. ⌜ verdictOf r ≡ chainRule p (pairs (now (steps .entry))) (now (outputs .entry)) ⌝ }
 {
     match judge_steps(p, steps) {
-        Judgement::Refused { number, place } => Judgement::Refused {
-            number: number,
-            place: place,
-        },
+        Judgement::Refused(number, place) => Judgement::Refused(number, place),
         Judgement::Fine => judge_outputs(p + steps.len() / 2, outputs),
     }
 }
@@ -167,20 +128,14 @@ pub fn judge_legal(p: usize, steps: &[u32], outputs: &[u32]) -> Judgement
     ensures { λ r. ⌜ verdictOf r ≡ legalRule p (pairs (now (steps .entry))) (now (outputs .entry)) ⌝ }
 {
     match judge_sizes(p, outputs.len()) {
-        Judgement::Refused { number, place } => {
-            return Judgement::Refused {
-                number: number,
-                place: place,
-            };
+        Judgement::Refused(number, place) => {
+            return Judgement::Refused(number, place);
         }
         Judgement::Fine => {}
     }
     match judge_length(MOST_STEPS, steps.len() / 2) {
-        Judgement::Refused { number, place } => {
-            return Judgement::Refused {
-                number: number,
-                place: place,
-            };
+        Judgement::Refused(number, place) => {
+            return Judgement::Refused(number, place);
         }
         Judgement::Fine => {}
     }

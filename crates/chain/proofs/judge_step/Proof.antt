@@ -2,8 +2,6 @@ use Rattle.chain.specs.Chain.{stepRule}
 use Rattle.chain.proofs.Rules.{judging}
 use Rattle.chain.proofs.judge_step.Statement.{statement}
 use Rattle.chain.proofs.judge_step.Tie as tie
-use Rattle.chain.proofs.judge_step.Reads as reads
-use Rattle.chain.proofs.judge_step.Lts as lts
 
 returns : tie.Need-returns
 unfolding stepRule

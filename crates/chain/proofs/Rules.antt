@@ -2,12 +2,13 @@
 -- `search`. Backward, from a verdict that is fine to facts.
 use mathlib.Core.Path.{_≡_, refl, sym, _∙_}
 use mathlib.Core.Bool.{Bool, true, false, not}
+use mathlib.Core.List.{List}
 use Prim.Native.Nat.{ℕ, zero, suc, _≤_, _<_}
 use native.Mathlib.Omega.{arith}
 use lib.Dec.{eqb}
 use borrow.Author.Tests.{le-ltb, lt-ltb, le-leb, lt-leb, eq-eqb, ne-eqb, ltb-true, ltb-false, leb-true, leb-false, eqb-true, eqb-false}
 use Rattle.chain.specs.Tests.{_<?_, _≤?_, _=?_, _≠?_, _or_}
-use Rattle.chain.specs.Verdict.{Verdict, fine, refused, _then_, refuseIf, refuseAt}
+use Rattle.chain.specs.Verdict.{Verdict, fine, refused, _then_, refuseIf, refuseAt, Answer, done, refusal, answer, onFine}
 use Rattle.chain.specs.Judgement.{verdictOf}
 use Rattle.chain.specs.declared.Judgement.{Judgement}
 use Rattle.chain.specs.declared.Judgement.the-variants.{Fine, Refused}
@@ -143,6 +144,34 @@ module _ (j : Judgement) (v : Verdict) where
 
   pub told-fine : verdictOf j ≡ v → j ≡ Fine → fine ≡ v
   told-fine e f = rw f at e
+
+-- what a call answers, and what it leaves in a lent slice, once its rules' verdict is known
+module _ (v : Verdict) where
+  pub answer-refused : (vs : List ℕ) (n s : ℕ) → refused n s ≡ v → refusal n s ≡ answer v vs
+  unfolding answer
+  answer-refused vs n s e = rw (← e)
+
+  pub answer-done : (vs : List ℕ) → fine ≡ v → done vs ≡ answer v vs
+  unfolding answer
+  answer-done vs e = rw (← e)
+
+  pub kept : (new old : List ℕ) (n s : ℕ) → refused n s ≡ v → old ≡ onFine v new old
+  unfolding onFine
+  kept new old n s e = rw (← e)
+
+  pub renewed : (new old w : List ℕ) → fine ≡ v → w ≡ new → w ≡ onFine v new old
+  unfolding onFine
+  renewed new old w e f = rw (← e) f
+
+-- the test that a callee's result tells
+module _ (t u : Bool) where
+  pub told-true : t ≡ u → t ≡ true → u ≡ true
+  told-true e f = sym e ∙ f
+
+  pub told-false : t ≡ u → t ≡ false → u ≡ false
+  told-false e f = sym e ∙ f
+
+pub ruleset telling = (told-true, told-false)
 
 pub ruleset tests = (lt-yes, lt-no, le-yes, le-no, eq-yes, eq-no, ne-yes, ne-no, or-left, or-right, or-none)
 

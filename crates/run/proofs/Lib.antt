@@ -1,0 +1,4 @@
+pub mod Bases
+pub mod Opening
+pub mod Figures
+pub mod Accepted

@@ -98,6 +98,10 @@ pub sign-some : (x : ℕ) → 0 < x → sign x ≡ 1
 sign-some zero h = absurd (omega arith)
 sign-some (suc x) h = refl
 
+pub sign-pos : (x : ℕ) → sign x ≡ 1 → 0 < x
+sign-pos zero e = absurd (omega arith)
+sign-pos (suc x) e = omega arith
+
 -- at most as many are not 0 as there are
 pub signs-low : (n : ℕ) (f : ℕ → ℕ) → sumTo n (λ i. sign (f i)) ≤ n
 signs-low zero f = zero-le

@@ -1,2 +1,4 @@
 pub mod Sound
 pub mod Product
+pub mod Payslips
+pub mod Powers

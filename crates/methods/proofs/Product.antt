@@ -4,6 +4,7 @@ use mathlib.Core.Path.{_≡_, refl, sym, ap, subst, _∙_}
 use mathlib.Core.List.{List, [], _∷_, _++_}
 use Prim.Native.Nat.{ℕ, zero, suc, _+_, _*_, _^_, _≤_, _<_}
 use native.Mathlib.Nat.{mul-one, one-mul, mul-zero, zero-mul, mul-suc, mul-assoc, pow-suc}
+use native.Mathlib.Decide.{decLe}
 use native.Mathlib.Omega.{arith}
 use lib.ListN.{length, length-append}
 use Rattle.chain.specs.Tests.{_=?_}
@@ -29,6 +30,14 @@ module _ (p : ℕ) (m : Made) (y : ℕ) where
   pub times-new : 0 < m .value → 0 < y → times p m y ≡ made (m .steps ++ ordered (m .value) y ∷ []) (p + length (m .steps) + 1)
   unfolding times
   times-new h g = rw (eq-no (m .value) 0 (omega arith), eq-no y 0 (omega arith))
+
+  pub times-begins : Begins (m .steps) (times p m y .steps)
+  times-begins = by-value (m .value) refl y refl
+    where
+      by-value : (a : ℕ) → m .value ≡ a → (b : ℕ) → y ≡ b → Begins (m .steps) (times p m y .steps)
+      by-value zero ea b eb = rw (times-start ea) (begins-own (m .steps))
+      by-value (suc a) ea zero eb = rw (times-copy (omega arith) eb) (begins-own (m .steps))
+      by-value (suc a) ea (suc b) eb = rw (times-new (omega arith) (omega arith)) (begins-more (m .steps) _)
 
 -- A product costs a step where neither side is empty, and is empty where both are.
 pub record Cost (p : ℕ) (m : Made) (y : ℕ) (r : Made) : Type 0 where
@@ -79,6 +88,18 @@ squared-last p k m h =
     let some : 0 < r .value = sign-pos (r .value) (squared-sign p k m ∙ sign-some (m .value) h) in
     rw (times-new p r (r .value) some some)
     (omega (arith, squared-count p k m, ap (λ (n : ℕ). n * k) (sign-some (m .value) h), one-mul k))
+
+-- fewer squarings are made on the way
+pub squared-begins : (p : ℕ) (m : Made) (j k : ℕ) → j ≤ k → Begins (squared p j m .steps) (squared p k m .steps)
+squared-begins p m zero zero h = begins-own (m .steps)
+squared-begins p m (suc j) zero h = absurd (omega arith)
+squared-begins p m j (suc k) h = by-place (squared-begins p m j k) (decLe j k)
+  where
+    by-place : (j ≤ k → Begins (squared p j m .steps) (squared p k m .steps)) → Dec (j ≤ k) → Begins (squared p j m .steps) (squared p (suc k) m .steps)
+    by-place ih (yes le) = begins-on (ih le) (times-begins p (squared p k m) (squared p k m .value))
+    by-place ih (no gt) =
+        let last : j ≡ suc k = omega arith in
+        rw last (begins-own (squared p (suc k) m .steps))
 
 -- After the steps before, a product with the exponents x.
 pub record Result (p limit : ℕ) (before : List Step) (m : Made) (x : ℕ → ℕ) : Type 0 where

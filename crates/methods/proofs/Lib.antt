@@ -2,3 +2,5 @@ pub mod Sound
 pub mod Product
 pub mod Payslips
 pub mod Powers
+pub mod Table
+pub mod Entries

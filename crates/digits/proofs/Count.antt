@@ -1,10 +1,10 @@
 -- The law of digit counts: a number has at most c digits in base 2^k exactly if it is below 2^(kc). All else follows from it.
-use mathlib.Core.Path.{_≡_, refl, sym, ap, subst, _∙_}
-use Prim.Native.Nat.{ℕ, zero, suc, _+_, _-_, _*_, _/_, _%_, _^_, _≤_, _<_, zero-le, suc-le-suc}
+use mathlib.Core.Path.{_≡_, refl, subst}
+use Prim.Native.Nat.{ℕ, zero, suc, _*_, _/_, _^_, _≤_, _<_, zero-le, suc-le-suc}
 use native.Mathlib.Nat.{add-comm, mul-suc, mul-zero, one-mul, pow-zero, le-refl, mul-lt-mul-of-pos-left, mod-eq-of-lt, div-lt-self, div-lt-iff-lt-mul, le-div-iff-mul-le}
 use native.Mathlib.Decide.{decLt}
 use native.Mathlib.Omega.{arith}
-use lib.Pow.{pow-add, pow-pos, pow-lt, pow-mono}
+use lib.Pow.{pow-add, pow-pos, pow-lt}
 use Rattle.digits.specs.Digits.{digitsIn, digitCount, bitLength, digit}
 
 module _ (k : ℕ) (some : 0 < k) where

@@ -1,7 +1,7 @@
 -- Laws of sums and maxima over the numbers below a bound.
-use mathlib.Core.Path.{_≡_, refl, ap₂, _∙_}
+use mathlib.Core.Path.{_≡_, refl, sym, ap, ap₂, _∙_}
 use Prim.Native.Nat.{ℕ, zero, suc, _+_, _*_, _≤_, _<_, max, zero-le}
-use native.Mathlib.Nat.{add-mul, zero-mul, le-refl}
+use native.Mathlib.Nat.{add-mul, suc-mul, zero-mul, le-refl}
 use native.Mathlib.Decide.{decLt}
 use native.Mathlib.Omega.{arith}
 use Rattle.digits.specs.Range.{sumTo, maxTo, sign}
@@ -26,6 +26,15 @@ sum-mul (suc n) f a = omega (arith, sum-mul n f a, add-mul (sumTo n f) (f n) a)
 pub sum-le : (n : ℕ) (f g : ℕ → ℕ) → ((i : ℕ) → i < n → f i ≤ g i) → sumTo n f ≤ sumTo n g
 sum-le zero f g h = le-refl 0
 sum-le (suc n) f g h = omega (arith, sum-le n f g (λ i g. h i (omega arith)), h n (omega arith))
+
+pub sum-low : (n : ℕ) (f : ℕ → ℕ) (a : ℕ) → ((i : ℕ) → i < n → f i ≤ a) → sumTo n f ≤ n * a
+sum-low zero f a h = zero-le
+sum-low (suc n) f a h = omega (arith, sum-low n f a (λ i g. h i (omega arith)), h n (omega arith), suc-mul n a)
+
+-- the order of two sums does not matter
+pub sum-swap : (m n : ℕ) (f : ℕ → ℕ → ℕ) → sumTo m (λ i. sumTo n (λ j. f i j)) ≡ sumTo n (λ j. sumTo m (λ i. f i j))
+sum-swap zero n f = sym (sum-zero n _ (λ j h. refl))
+sum-swap (suc m) n f = ap (λ (s : ℕ). s + sumTo n (f m)) (sum-swap m n f) ∙ sym (sum-add n _ (f m))
 
 -- each part of a sum is at most the sum
 pub le-sum : (n : ℕ) (f : ℕ → ℕ) (i : ℕ) → i < n → f i ≤ sumTo n f
@@ -104,5 +113,4 @@ sign-pos (suc x) e = omega arith
 
 -- at most as many are not 0 as there are
 pub signs-low : (n : ℕ) (f : ℕ → ℕ) → sumTo n (λ i. sign (f i)) ≤ n
-signs-low zero f = zero-le
-signs-low (suc n) f = omega (arith, signs-low n f, sign-low (f n))
+signs-low n f = omega (arith, sum-low n (λ i. sign (f i)) 1 (λ i h. sign-low (f i)))

@@ -1,6 +1,6 @@
 -- Vectors of digits as numbers: a vector's number has its digits, a number is that of its digits, and what one unit less does to them.
 use mathlib.Core.Bool.{Bool, true, false, cond}
-use mathlib.Core.Path.{_≡_, refl, sym, ap, ap₂, subst, _∙_}
+use mathlib.Core.Path.{_≡_, refl, sym, ap, subst, _∙_}
 use Prim.Native.Nat.{ℕ, zero, suc, _+_, _-_, _*_, _/_, _%_, _^_, _≤_, _<_}
 use native.Mathlib.Nat.{add-comm, add-mul, mul-add, mul-suc, mul-zero, mul-assoc, one-mul, zero-mul, zero-div, zero-mod, div-eq-of-lt, div-div-eq-div-mul, div-add-mod', mod-one, mod-lt, mod-eq-of-lt, add-mul-div-right, add-mul-mod-self-right}
 use native.Mathlib.Decide.{decLt, ℕ-discrete}

@@ -1,6 +1,6 @@
 -- What a table's entries make, for any inputs: entry t makes the sum of digit j of t times the exponents of input j.
 use mathlib.Core.Bool.{Bool, true, false}
-use mathlib.Core.Path.{_≡_, refl, sym, ap, subst, _∙_}
+use mathlib.Core.Path.{_≡_, refl, sym, ap, _∙_}
 use mathlib.Core.List.{List, [], _∷_, _++_, append-nil, append-assoc}
 use Prim.Native.Nat.{ℕ, zero, suc, _+_, _-_, _*_, _^_, _≤_, _<_}
 use native.Mathlib.Nat.{add-mul, zero-mul, le-refl}
@@ -18,7 +18,7 @@ use Rattle.digits.proofs.Count.{low-count, count-some, weights-rise}
 use Rattle.digits.proofs.Vector.{delta, digit-zero, digit-unit, sum-delta, Less, digit-less}
 use Rattle.methods.specs.Product.{ordered}
 use Rattle.methods.specs.Table.{isUnit, entry, lowest, table}
-use Rattle.methods.proofs.Sound.{Begins, begins-own, begins-more, begins-on, makes-on, Sound, makes-ordered, sound-ordered}
+use Rattle.methods.proofs.Sound.{Begins, begins-own, begins-more, makes-on, Sound, makes-ordered, sound-ordered}
 use Rattle.methods.proofs.Table.{Lowest, lowest-digit, next-zero, next-unit, next-new, entry-zero, entry-unit, entry-new, entry-sign}
 
 -- the sum of digit j of t times the exponents of input j, of n inputs
@@ -84,14 +84,16 @@ module _ (p limit k : ℕ) (some : 0 < k) (before : List Step) (inputs : List �
       let d : ℕ = digitCount k (suc t) - 1 in
       let d-low : d < length inputs = omega (arith, count-some k t, low-count k some (suc t) (length inputs) h) in
       let power : suc t ≡ 2 ^ (k * d) = is-eq _ _ u in
-      let same : (c : ℕ) → x d c ≡ combined k (length inputs) x (suc t) c = λ c. sym (ap (λ (n : ℕ). combined k (length inputs) x n c) power ∙ combined-unit k (length inputs) some x c d d-low) in
+      let same : (c : ℕ) → combined k (length inputs) x (suc t) c ≡ x d c =
+      λ c. ap (λ (n : ℕ). combined k (length inputs) x n c) power ∙ combined-unit k (length inputs) some x c d d-low in
       extend-free (suc t) r (next-unit k some inputs at t (table k inputs at (suc t)) u)
       (rw (entry-unit k some inputs at t u)
-      (makes-like p _ _ _ _ (λ c g. same c) (makes-on (begins-more before (table k inputs at (suc t))) (given .makes d d-low))))
+      (makes-like p _ _ _ _ (λ c g. sym (same c)) (makes-on (begins-more before (table k inputs at (suc t))) (given .makes d d-low))))
 
   make-step : (t : ℕ) → suc t < 2 ^ (k * length inputs) → isUnit k (suc t) ≡ false → Done (suc t) → Done (suc (suc t))
   make-step t h u r =
-      extend (suc t) r (rw next (begins-more (After (suc t)) _)) (rw next (sound-ordered p (After (suc t)) a b limit (r .sound) a-some b-some a-makes b-makes limited))
+      extend (suc t) r (rw next (begins-more (After (suc t)) _))
+      (rw next (sound-ordered p (After (suc t)) a b limit (r .sound) a-some b-some a-makes b-makes limited))
       (rw (next, here) (makes-like p _ _ _ _ (λ c g. sums c) (makes-ordered p (After (suc t)) a b a-makes b-makes)))
     where
       l : ℕ

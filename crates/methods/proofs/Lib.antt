@@ -1,4 +1,5 @@
 pub mod Sound
+pub mod Nonempty
 pub mod Product
 pub mod Payslips
 pub mod Powers

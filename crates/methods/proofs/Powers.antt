@@ -1,14 +1,11 @@
 -- Laws of the powers of the bases by repeated squaring: what they make, and how many steps they cost.
-use mathlib.Core.Path.{_≡_, refl, sym, ap, subst, _∙_}
-use mathlib.Core.List.{List, []}
-use Prim.Native.Nat.{ℕ, zero, suc, _+_, _-_, _*_, _^_, _≤_, _<_}
+use mathlib.Core.Path.{_≡_, refl, sym, ap, _∙_}
+use Prim.Native.Nat.{ℕ, zero, suc, _+_, _*_, _^_, _≤_, _<_}
 use native.Mathlib.Nat.{one-mul, le-refl, le-trans, mul-le-mul-right}
 use native.Mathlib.Decide.{decLt}
 use native.Mathlib.Omega.{arith}
 use lib.ListN.{length}
 use lib.Pow.{pow-mono}
-use Rattle.chain.specs.Tests.{_=?_}
-use Rattle.chain.specs.declared.Step.{Step}
 use Rattle.chain.proofs.Rules.{eq-yes, eq-no}
 use Rattle.chain.proofs.Exponents.{Makes}
 use Rattle.digits.specs.Range.{sumTo, sign}
@@ -16,7 +13,7 @@ use Rattle.digits.proofs.Range.{sign-some}
 use Rattle.digits.proofs.Vector.{delta, delta-low}
 use Rattle.methods.specs.Product.{Made, made, squared}
 use Rattle.methods.specs.Powers.{squarings, powerOf}
-use Rattle.methods.proofs.Sound.{Begins, makes-on, makes-base, Sound, sound-none}
+use Rattle.methods.proofs.Sound.{makes-on, makes-base, Sound, sound-none}
 use Rattle.methods.proofs.Product.{squared-count, squared-last, squared-begins, Result, result-value, result-squared}
 
 -- as many steps as squarings

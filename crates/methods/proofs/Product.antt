@@ -1,13 +1,11 @@
 -- Laws of products in the making: what a product makes, and how many steps it costs.
-use mathlib.Core.Bool.{cond}
-use mathlib.Core.Path.{_≡_, refl, sym, ap, subst, _∙_}
+use mathlib.Core.Path.{_≡_, refl, sym, ap, _∙_}
 use mathlib.Core.List.{List, [], _∷_, _++_}
 use Prim.Native.Nat.{ℕ, zero, suc, _+_, _*_, _^_, _≤_, _<_}
 use native.Mathlib.Nat.{mul-one, one-mul, mul-zero, zero-mul, mul-suc, mul-assoc, pow-suc}
 use native.Mathlib.Decide.{decLe}
 use native.Mathlib.Omega.{arith}
 use lib.ListN.{length, length-append}
-use Rattle.chain.specs.Tests.{_=?_}
 use Rattle.chain.specs.Chain.{exponentOf}
 use Rattle.chain.specs.declared.Step.{Step}
 use Rattle.chain.proofs.Rules.{eq-yes, eq-no}
@@ -15,7 +13,7 @@ use Rattle.chain.proofs.Exponents.{exponent-zero, Makes, makes-zero, makes-like
 use Rattle.digits.specs.Range.{sign}
 use Rattle.digits.proofs.Range.{sign-some, sign-pos}
 use Rattle.methods.specs.Product.{Made, made, ordered, times, squared}
-use Rattle.methods.proofs.Sound.{Begins, begins-own, begins-more, begins-on, makes-on, Sound, makes-ordered, sound-ordered}
+use Rattle.methods.proofs.Sound.{Begins, begins-own, begins-more, begins-on, Sound, makes-ordered, sound-ordered}
 
 -- the three cases of a product: an empty one, an empty factor, and a step
 module _ (p : ℕ) (m : Made) (y : ℕ) where
@@ -40,14 +38,14 @@ module _ (p : ℕ) (m : Made) (y : ℕ) where
       by-value (suc a) ea (suc b) eb = rw (times-new (omega arith) (omega arith)) (begins-more (m .steps) _)
 
 -- A product costs a step where neither side is empty, and is empty where both are.
-pub record Cost (p : ℕ) (m : Made) (y : ℕ) (r : Made) : Type 0 where
+pub record Cost (m : Made) (y : ℕ) (r : Made) : Type 0 where
   pub count : length (r .steps) ≡ length (m .steps) + sign (m .value) * sign y
   pub value : sign (r .value) ≡ sign (m .value + y)
 
-pub times-cost : (p : ℕ) (m : Made) (y : ℕ) → Cost p m y (times p m y)
+pub times-cost : (p : ℕ) (m : Made) (y : ℕ) → Cost m y (times p m y)
 times-cost p m y = by-value (m .value) refl y refl
   where
-    by-value : (a : ℕ) → m .value ≡ a → (b : ℕ) → y ≡ b → Cost p m y (times p m y)
+    by-value : (a : ℕ) → m .value ≡ a → (b : ℕ) → y ≡ b → Cost m y (times p m y)
     by-value zero ea b eb =
         let only : y ≡ m .value + y = omega arith in
         rw (times-start p m y ea) (record { count = rw ea (omega (arith, zero-mul (sign y))); value = ap sign only })
@@ -124,7 +122,8 @@ module _ {p limit : ℕ} where
   result-after f r = record { sound = r .sound; begins = begins-on f (r .begins); makes = r .makes }
 
   -- times a value: the sum
-  pub result-times : {before : List Step} {m : Made} {y : ℕ} {x g : ℕ → ℕ} → Result p limit before m x → Makes p (m .steps) y g → ((c : ℕ) → c < p → x c + g c ≤ limit)
+  pub result-times : {before : List Step} {m : Made} {y : ℕ} {x g : ℕ → ℕ}
+      → Result p limit before m x → Makes p (m .steps) y g → ((c : ℕ) → c < p → x c + g c ≤ limit)
       → Result p limit before (times p m y) (λ c. x c + g c)
   result-times {before} {m} {y} {x} {g} r n low = by-value (m .value) refl y refl
     where

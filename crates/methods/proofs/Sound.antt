@@ -1,17 +1,16 @@
 -- Chains in the making: steps that begin with others, and sound steps, which are legal and keep every exponent to a limit.
-use mathlib.Core.Path.{_≡_, refl, sym, ap, subst, _∙_}
+use mathlib.Core.Path.{_≡_, refl, sym, ap, _∙_}
 use mathlib.Core.List.{List, [], _∷_, _++_, append-nil, append-assoc}
 use Prim.Native.Nat.{ℕ, zero, suc, _+_, _≤_, _<_, min, max}
-use native.Mathlib.Decide.{decLt, decLe, ℕ-discrete}
-use native.Mathlib.Nat.{add-comm, le-refl}
+use native.Mathlib.Decide.{decLt, ℕ-discrete}
+use native.Mathlib.Nat.{add-comm}
 use native.Mathlib.Omega.{arith}
-use lib.ListN.{length, getD, take, length-append}
-use lib.Seq.{take-suc, take-length, length-take-le}
+use lib.ListN.{length, length-append}
 use Rattle.chain.specs.Verdict.{fine}
-use Rattle.chain.specs.Chain.{by, stepsRule, exponentOf}
+use Rattle.chain.specs.Chain.{stepsRule, exponentOf}
 use Rattle.chain.specs.declared.Step.{Step}
-use Rattle.chain.proofs.Steps.{LegalStep, steps-snoc, steps-legal}
-use Rattle.chain.proofs.Exponents.{exponent-keep, exponent-new, exponent-zero, exponent-unit, exponent-other, Makes, makes-keep, makes-new, makes-like, Within, within-new}
+use Rattle.chain.proofs.Steps.{steps-snoc}
+use Rattle.chain.proofs.Exponents.{exponent-zero, exponent-unit, exponent-other, Makes, makes-keep, makes-new, makes-like, Within, within-new}
 use Rattle.digits.proofs.Vector.{delta, delta-same, delta-other, delta-low}
 use Rattle.methods.specs.Product.{ordered}
 
@@ -87,54 +86,3 @@ module _ (p : ℕ) (steps : List Step) (a b : ℕ) {x y : ℕ → ℕ} where
             (record { first-some = omega arith; second-some = omega arith; first-low = omega arith; second-low = omega arith; in-order = omega arith });
         within = within-new p steps (ordered a b) limit _ (s .within) (makes-ordered m n) low;
       }
-
--- a column in which a value's exponent is not 0
-pub record Nonempty (p : ℕ) (steps : List Step) (v : ℕ) : Type 0 where
-  pub column : ℕ
-  pub below : column < p
-  pub exponent : 0 < exponentOf p steps column v
-
-module _ (p : ℕ) (steps : List Step) where
-  nonempty-keep : (more : List Step) (v : ℕ) → v < p + 1 + length steps → Nonempty p steps v → Nonempty p (steps ++ more) v
-  nonempty-keep more v h r =
-      record { column = r .column; below = r .below; exponent = rw (exponent-keep p (r .column) steps more v h) (r .exponent) }
-
-  nonempty-new : (x : Step) → Nonempty p steps (x .first) → Nonempty p (steps ++ x ∷ []) (p + length steps + 1)
-  nonempty-new x r =
-      record { column = r .column; below = r .below; exponent = rw (exponent-new p (r .column) steps x) (omega (arith, r .exponent)) }
-
--- of legal steps, value 0 alone is empty
-module _ (p : ℕ) (steps : List Step) (legal : stepsRule p 1 steps ≡ fine) where
-  up-to : (n : ℕ) → n ≤ length steps → (v : ℕ) → 0 < v → v ≤ p + n → Nonempty p (take n steps) v
-  up-to zero h zero some low = absurd (omega arith)
-  up-to zero h (suc b) some low =
-      let e : suc b ≡ b + 1 = omega arith in
-      record { column = b; below = omega arith; exponent = rw (e, exponent-unit p b [] (omega arith)) (le-refl 1) }
-  up-to (suc n) h v some low = rw (take-suc steps n (by 0 0)) (by-place (up-to n (omega arith)) (decLe v (p + n)))
-    where
-      l : List Step
-      l = take n steps
-
-      x : Step
-      x = getD steps n (by 0 0)
-
-      len : length l ≡ n
-      len = length-take-le n steps (omega arith)
-
-      keeps : LegalStep (p + (1 + n)) x
-      keeps = steps-legal p 1 steps (by 0 0) legal n (omega arith)
-
-      by-place : ((u : ℕ) → 0 < u → u ≤ p + n → Nonempty p l u) → Dec (v ≤ p + n) → Nonempty p (l ++ x ∷ []) v
-      by-place ih (yes lt) = nonempty-keep p l (x ∷ []) v (omega (arith, len)) (ih v some lt)
-      by-place ih (no ge) =
-          let last : v ≡ p + length l + 1 = omega (arith, len) in
-          rw last (nonempty-new p l x (ih (x .first) (keeps .first-some) (omega (arith, keeps .first-low))))
-
-  pub value-nonempty : (v : ℕ) → 0 < v → v ≤ p + length steps → Nonempty p steps v
-  value-nonempty v some low = rw take-length at (up-to (length steps) (le-refl (length steps)) v some low)
-
-  pub empty-zero : (v : ℕ) (x : ℕ → ℕ) → Makes p steps v x → ((c : ℕ) → c < p → x c ≡ 0) → v ≡ 0
-  empty-zero zero x m none = refl
-  empty-zero (suc v) x m none =
-      let r = value-nonempty (suc v) (omega arith) (m .there) in
-      absurd (omega (arith, r .exponent, m .exponent (r .column) (r .below), none (r .column) (r .below)))

@@ -1,6 +1,6 @@
 -- Laws of a table's shape: its entries' value numbers, the lowest digit, and how many steps it has.
-use mathlib.Core.Bool.{Bool, true, false, cond}
-use mathlib.Core.Path.{_≡_, refl, sym, ap, subst, _∙_}
+use mathlib.Core.Bool.{Bool, true, false}
+use mathlib.Core.Path.{_≡_, refl, sym, ap, _∙_}
 use mathlib.Core.List.{List, [], _∷_, _++_}
 use Prim.Native.Nat.{ℕ, zero, suc, _+_, _-_, _*_, _^_, _≤_, _<_, zero-le}
 use native.Mathlib.Nat.{le-refl}
@@ -8,7 +8,7 @@ use native.Mathlib.Decide.{decLt, ℕ-discrete}
 use native.Mathlib.Omega.{arith}
 use lib.ListN.{length, getD, length-append}
 use lib.Pow.{pow-pos}
-use Rattle.chain.specs.Tests.{_=?_, _or_}
+use Rattle.chain.specs.Tests.{_=?_}
 use Rattle.chain.specs.declared.Step.{Step}
 use Rattle.chain.proofs.Rules.{eq-yes, eq-no, is-eq, not-eq, or-left, or-right, or-none}
 use Rattle.digits.specs.Digits.{digitCount, digit}

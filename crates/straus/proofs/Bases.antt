@@ -1,6 +1,6 @@
 -- Straus's table: its inputs are the bases, and entry t makes the digits of t.
-use mathlib.Core.Path.{_≡_, refl, sym, ap, subst, _∙_}
-use mathlib.Core.List.{List, [], _∷_, _++_}
+use mathlib.Core.Path.{_≡_, refl, _∙_}
+use mathlib.Core.List.{[], _∷_, _++_}
 use Prim.Native.Nat.{ℕ, zero, suc, _+_, _-_, _*_, _^_, _≤_, _<_}
 use native.Mathlib.Nat.{mul-comm, le-refl}
 use native.Mathlib.Decide.{decLt}
@@ -8,13 +8,12 @@ use native.Mathlib.Omega.{arith}
 use lib.ListN.{length, getD, length-append, List·getD-append}
 use lib.Seq.{getD-at}
 use lib.Pow.{pow-lt}
-use Rattle.chain.specs.declared.Step.{Step}
 use Rattle.chain.proofs.Exponents.{Makes, makes-like}
 use Rattle.digits.specs.Digits.{digit}
-use Rattle.digits.specs.Range.{sumTo, sign}
+use Rattle.digits.specs.Range.{sign}
 use Rattle.digits.proofs.Range.{sum-same}
 use Rattle.digits.proofs.Vector.{delta, digit-low, sum-delta}
-use Rattle.methods.specs.Table.{entry, table}
+use Rattle.methods.specs.Table.{entry}
 use Rattle.methods.proofs.Sound.{makes-base, Sound, sound-none}
 use Rattle.methods.proofs.Table.{table-count, entry-sign}
 use Rattle.methods.proofs.Entries.{combined, Inputs, Entries, table-makes}

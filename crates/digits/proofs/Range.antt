@@ -1,0 +1,116 @@
+-- Laws of sums and maxima over the numbers below a bound.
+use mathlib.Core.Path.{_≡_, refl, sym, ap, ap₂, _∙_}
+use Prim.Native.Nat.{ℕ, zero, suc, _+_, _*_, _≤_, _<_, max, zero-le}
+use native.Mathlib.Nat.{add-mul, suc-mul, zero-mul, le-refl}
+use native.Mathlib.Decide.{decLt}
+use native.Mathlib.Omega.{arith}
+use Rattle.digits.specs.Range.{sumTo, maxTo, sign}
+
+-- sums
+pub sum-same : (n : ℕ) (f g : ℕ → ℕ) → ((i : ℕ) → i < n → f i ≡ g i) → sumTo n f ≡ sumTo n g
+sum-same zero f g e = refl
+sum-same (suc n) f g e = ap₂ _+_ (sum-same n f g (λ i h. e i (omega arith))) (e n (omega arith))
+
+pub sum-zero : (n : ℕ) (f : ℕ → ℕ) → ((i : ℕ) → i < n → f i ≡ 0) → sumTo n f ≡ 0
+sum-zero zero f e = refl
+sum-zero (suc n) f e = ap₂ _+_ (sum-zero n f (λ i h. e i (omega arith))) (e n (omega arith))
+
+pub sum-add : (n : ℕ) (f g : ℕ → ℕ) → sumTo n (λ i. f i + g i) ≡ sumTo n f + sumTo n g
+sum-add zero f g = refl
+sum-add (suc n) f g = omega (arith, sum-add n f g)
+
+pub sum-mul : (n : ℕ) (f : ℕ → ℕ) (a : ℕ) → sumTo n (λ i. f i * a) ≡ sumTo n f * a
+sum-mul zero f a = omega (arith, zero-mul a)
+sum-mul (suc n) f a = omega (arith, sum-mul n f a, add-mul (sumTo n f) (f n) a)
+
+pub sum-le : (n : ℕ) (f g : ℕ → ℕ) → ((i : ℕ) → i < n → f i ≤ g i) → sumTo n f ≤ sumTo n g
+sum-le zero f g h = le-refl 0
+sum-le (suc n) f g h = omega (arith, sum-le n f g (λ i g. h i (omega arith)), h n (omega arith))
+
+pub sum-low : (n : ℕ) (f : ℕ → ℕ) (a : ℕ) → ((i : ℕ) → i < n → f i ≤ a) → sumTo n f ≤ n * a
+sum-low zero f a h = zero-le
+sum-low (suc n) f a h = omega (arith, sum-low n f a (λ i g. h i (omega arith)), h n (omega arith), suc-mul n a)
+
+-- the order of two sums does not matter
+pub sum-swap : (m n : ℕ) (f : ℕ → ℕ → ℕ) → sumTo m (λ i. sumTo n (λ j. f i j)) ≡ sumTo n (λ j. sumTo m (λ i. f i j))
+sum-swap zero n f = sym (sum-zero n _ (λ j h. refl))
+sum-swap (suc m) n f = ap (λ (s : ℕ). s + sumTo n (f m)) (sum-swap m n f) ∙ sym (sum-add n _ (f m))
+
+-- each part of a sum is at most the sum
+pub le-sum : (n : ℕ) (f : ℕ → ℕ) (i : ℕ) → i < n → f i ≤ sumTo n f
+le-sum zero f i h = absurd (omega arith)
+le-sum (suc n) f i h = by-place (le-sum n f i) (decLt i n)
+  where
+    by-place : (i < n → f i ≤ sumTo n f) → Dec (i < n) → f i ≤ sumTo n f + f n
+    by-place ih (yes lt) = omega (arith, ih lt)
+    by-place ih (no ge) =
+        let last : i ≡ n = omega arith in
+        rw last (omega arith)
+
+-- a sum of which only one part is not 0
+pub sum-single : (n : ℕ) (f : ℕ → ℕ) (j : ℕ) → j < n → ((i : ℕ) → i < n → (i ≡ j → ⊥) → f i ≡ 0) → sumTo n f ≡ f j
+sum-single zero f j h none = absurd (omega arith)
+sum-single (suc n) f j h none = by-place (λ lt. sum-single n f j lt (λ i g. none i (omega arith))) (decLt j n)
+  where
+    by-place : (j < n → sumTo n f ≡ f j) → Dec (j < n) → sumTo n f + f n ≡ f j
+    by-place ih (yes lt) = omega (arith, ih lt, none n (omega arith) (omega arith))
+    by-place ih (no ge) =
+        let last : j ≡ n = omega arith in
+        rw last (omega (arith, sum-zero n f (λ i g. none i (omega arith) (omega arith))))
+
+-- a sum over m numbers, then over n more
+pub sum-split : (m n : ℕ) (f : ℕ → ℕ) → sumTo (m + n) f ≡ sumTo m f + sumTo n (λ i. f (m + i))
+sum-split m zero f =
+    let e : m + 0 ≡ m = omega arith in
+    rw e (omega arith)
+sum-split m (suc n) f =
+    let e : m + suc n ≡ suc (m + n) = omega arith in
+    rw e (omega (arith, sum-split m n f))
+
+-- maxima
+pub le-max : (n : ℕ) (f : ℕ → ℕ) (i : ℕ) → i < n → f i ≤ maxTo n f
+le-max zero f i h = absurd (omega arith)
+le-max (suc n) f i h = by-place (le-max n f i) (decLt i n)
+  where
+    by-place : (i < n → f i ≤ maxTo n f) → Dec (i < n) → f i ≤ max (maxTo n f) (f n)
+    by-place ih (yes lt) = omega (arith, ih lt)
+    by-place ih (no ge) =
+        let last : i ≡ n = omega arith in
+        rw last (omega arith)
+
+pub max-low : (n : ℕ) (f : ℕ → ℕ) (limit : ℕ) → ((i : ℕ) → i < n → f i ≤ limit) → maxTo n f ≤ limit
+max-low zero f limit h = zero-le
+max-low (suc n) f limit h = omega (arith, max-low n f limit (λ i g. h i (omega arith)), h n (omega arith))
+
+-- a maximum that is not 0 is one of the numbers
+pub record Attained (n : ℕ) (f : ℕ → ℕ) : Type 0 where
+  pub place : ℕ
+  pub below : place < n
+  pub largest : f place ≡ maxTo n f
+
+pub max-attained : (n : ℕ) (f : ℕ → ℕ) → 0 < maxTo n f → Attained n f
+max-attained zero f h = absurd (omega arith)
+max-attained (suc n) f h = by-size (max-attained n f) (decLt (f n) (maxTo n f))
+  where
+    by-size : (0 < maxTo n f → Attained n f) → Dec (f n < maxTo n f) → Attained (suc n) f
+    by-size ih (yes lt) =
+        let a = ih (omega arith) in
+        record { place = a .place; below = omega (arith, a .below); largest = omega (arith, a .largest) }
+    by-size ih (no ge) = record { place = n; below = omega arith; largest = omega arith }
+
+-- signs
+pub sign-low : (x : ℕ) → sign x ≤ 1
+sign-low zero = zero-le
+sign-low (suc x) = le-refl 1
+
+pub sign-some : (x : ℕ) → 0 < x → sign x ≡ 1
+sign-some zero h = absurd (omega arith)
+sign-some (suc x) h = refl
+
+pub sign-pos : (x : ℕ) → sign x ≡ 1 → 0 < x
+sign-pos zero e = absurd (omega arith)
+sign-pos (suc x) e = omega arith
+
+-- at most as many are not 0 as there are
+pub signs-low : (n : ℕ) (f : ℕ → ℕ) → sumTo n (λ i. sign (f i)) ≤ n
+signs-low n f = omega (arith, sum-low n (λ i. sign (f i)) 1 (λ i h. sign-low (f i)))

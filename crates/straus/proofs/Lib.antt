@@ -1,0 +1,4 @@
+pub mod Bases
+pub mod Horner
+pub mod Payslip
+pub mod Straus

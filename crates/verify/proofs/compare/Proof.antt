@@ -1,0 +1,71 @@
+use borrow.Author.Needs.{needs}
+use Rattle.verify.proofs.compare.Statement.{statement}
+use Rattle.verify.proofs.compare.Tie as tie
+use Rattle.verify.proofs.compare.Reads as reads
+use Rattle.verify.proofs.compare.Lts as lts
+use Rattle.sheet.proofs.amount.Reads as amount-reads
+
+abbrev Inv-loop : tie.InvT-loop
+Inv-loop p c outputs amounts scratch i₀ i = ?
+
+abbrev μ-loop : tie.MeasureT-loop
+μ-loop p c outputs amounts scratch i₀ i = ?
+
+loop-holds : tie.Need-loop-holds Inv-loop μ-loop
+loop-holds c = search needs
+
+mul-o : tie.Need-mul-o Inv-loop μ-loop
+mul-o c = search needs
+
+shared-slice-read-o : tie.Need-shared-slice-read-o Inv-loop μ-loop
+shared-slice-read-o c = search needs
+
+cast-o : tie.Need-cast-o Inv-loop μ-loop
+cast-o c = search needs
+
+mul-if1 : tie.Need-mul-if1 Inv-loop μ-loop
+mul-if1 c = search needs
+
+shared-slice-read-if1 : tie.Need-shared-slice-read-if1 Inv-loop μ-loop
+shared-slice-read-if1 c = search needs
+
+amount-requires : tie.Need-amount-requires Inv-loop μ-loop
+amount-requires c κs = search needs
+
+add-result : tie.Need-add-result Inv-loop μ-loop
+add-result c = search needs
+
+returns : tie.Need-returns Inv-loop μ-loop
+returns c = search needs
+
+add-i : tie.Need-add-i Inv-loop μ-loop
+add-i c = search needs
+
+loop-less : tie.Need-loop-less Inv-loop μ-loop
+loop-less c = search needs
+
+loop-again : tie.Need-loop-again Inv-loop μ-loop
+loop-again c = search needs
+
+returns-2 : tie.Need-returns-2 Inv-loop μ-loop
+returns-2 c = search needs
+
+pub compare-spec : {M : Type 1} → statement M
+compare-spec =
+    tie.close
+    (tie.spec
+    Inv-loop
+    μ-loop
+    loop-holds
+    mul-o
+    shared-slice-read-o
+    cast-o
+    mul-if1
+    shared-slice-read-if1
+    amount-requires
+    add-result
+    returns
+    add-i
+    loop-less
+    loop-again
+    returns-2)

@@ -3,11 +3,12 @@ ghost use mathlib.Core.Path.{_≡_};
 ghost use mathlib.Core.List.{[]};
 ghost use Prim.Native.Nat.{ℕ, _+_, _*_, _/_, _≤_, _<_};
 ghost use lib.ListN.{length, getD, take, drop, replicate};
-ghost use Rattle.chain.specs.Verdict.{fine, _then_, answer};
+ghost use Rattle.chain.specs.Tests.{_<?_};
+ghost use Rattle.chain.specs.Verdict.{fine, _then_, refuseIf, answer};
 ghost use Rattle.chain.specs.Written.{over};
-ghost use Rattle.chain.specs.Chain.{mostColumns, mostPayslips, pairs, stepsRule, outputsRule, values, exponents};
+ghost use Rattle.chain.specs.Chain.{mostColumns, mostPayslips, pairs, stepsRule, outputsRule, chainRule, values, exponents};
 ghost use Rattle.chain.specs.Judgement.{verdictOf};
-ghost use Rattle.verify.specs.Verify.{earlier, firstOver, firstOther, exponentsRule, payslipsRule, fittingRule, verifyAnswer, verifyScratch};
+ghost use Rattle.verify.specs.Verify.{earlier, firstOver, firstOther, exponentsRule, payslipsRule, scratchSize, fittingRule, verifyAnswer, verifyScratch};
 ghost use Rattle.verify.specs.Verified.{verifiedOf};
 use chain::Judgement;
 
@@ -20,11 +21,33 @@ pub enum Verified {
 // The largest exponent.
 const MOST_AMOUNT: u64 = 4294967295;
 
+// The steps, 12, then 5: scratch is the number of cells lent.
+fn judge_room(p: usize, steps: &[u32], outputs: &[u32], scratch: usize) -> Judgement
+    requires { ⌜ p ≤ mostColumns ⌝ }
+    ensures { λ r. ⌜ verdictOf r ≡ (chainRule p (pairs (now (steps .entry))) (now (outputs .entry)) then refuseIf (scratch <? scratchSize p (length (pairs (now (steps .entry))))) 5 0) ⌝ }
+{
+    match chain::judge_chain(p, steps, outputs) {
+        Judgement::Refused { number, place } => {
+            return Judgement::Refused {
+                number: number,
+                place: place,
+            };
+        }
+        Judgement::Fine => {}
+    }
+    if scratch < p + steps.len() / 2 + 1 {
+        return Judgement::Refused {
+            number: 5,
+            place: 0,
+        };
+    }
+    Judgement::Fine
+}
+
 // What is found before the scratch is used: 1, 4, 2, steps, 12, 5.
 fn judge(p: usize, steps: &[u32], outputs: &[u32], amounts: &[u32], scratch: usize) -> Judgement
     ensures { λ r. ⌜ verdictOf r ≡ fittingRule p (pairs (now (steps .entry))) (now (outputs .entry)) (now (amounts .entry)) scratch ⌝ }
 {
-    let n = steps.len() / 2;
     match chain::judge_sizes(p, outputs.len()) {
         Judgement::Refused { number, place } => {
             return Judgement::Refused {
@@ -34,7 +57,7 @@ fn judge(p: usize, steps: &[u32], outputs: &[u32], amounts: &[u32], scratch: usi
         }
         Judgement::Fine => {}
     }
-    match chain::judge_length(chain::MOST_STEPS, n) {
+    match chain::judge_length(chain::MOST_STEPS, steps.len() / 2) {
         Judgement::Refused { number, place } => {
             return Judgement::Refused {
                 number: number,
@@ -52,22 +75,7 @@ fn judge(p: usize, steps: &[u32], outputs: &[u32], amounts: &[u32], scratch: usi
         }
         Judgement::Fine => {}
     }
-    match chain::judge_chain(p, steps, outputs) {
-        Judgement::Refused { number, place } => {
-            return Judgement::Refused {
-                number: number,
-                place: place,
-            };
-        }
-        Judgement::Fine => {}
-    }
-    if scratch < p + n + 1 {
-        return Judgement::Refused {
-            number: 5,
-            place: 0,
-        };
-    }
-    Judgement::Fine
+    judge_room(p, steps, outputs, scratch)
 }
 
 // The earlier of two places, 0 being none.
@@ -109,7 +117,7 @@ fn plus(a: u32, b: u32) -> u64
 fn sum(p: usize, steps: &[u32], scratch: &mut [u32]) -> usize
     requires { ⌜ (p ≤ mostColumns) × (stepsRule p 1 (pairs (now steps)) ≡ fine) × (p + length (now steps) / 2 < length (now scratch)) ⌝ }
     ensures { λ r. ⌜ r ≡ firstOver 1 (drop (p + 1) (values _+_ (take (p + 1) (now (scratch .entry))) (pairs (now (steps .entry))))) ⌝ }
-    ensures { λ r. ⌜ r ≡ 0 → now (scratch .exit) ≡ over (values _+_ (take (p + 1) (now (scratch .entry))) (pairs (now (steps .entry)))) (now (scratch .entry)) ⌝ }
+    ensures { λ r. ⌜ (r ≡ 0 → now (scratch .exit) ≡ over (values _+_ (take (p + 1) (now (scratch .entry))) (pairs (now (steps .entry)))) (now (scratch .entry))) ⌝ }
     ensures { λ r. ⌜ drop (p + length (now (steps .entry)) / 2 + 1) (now (scratch .exit)) ≡ drop (p + length (now (steps .entry)) / 2 + 1) (now (scratch .entry)) ⌝ }
 {
     let n = steps.len() / 2;
@@ -131,7 +139,7 @@ fn sum(p: usize, steps: &[u32], scratch: &mut [u32]) -> usize
 fn column(p: usize, c: usize, steps: &[u32], scratch: &mut [u32]) -> usize
     requires { ⌜ (c < p) × (p ≤ mostColumns) × (stepsRule p 1 (pairs (now steps)) ≡ fine) × (p + length (now steps) / 2 < length (now scratch)) ⌝ }
     ensures { λ r. ⌜ r ≡ firstOver 1 (drop (p + 1) (exponents p c (pairs (now (steps .entry))))) ⌝ }
-    ensures { λ r. ⌜ r ≡ 0 → now (scratch .exit) ≡ over (exponents p c (pairs (now (steps .entry)))) (now (scratch .entry)) ⌝ }
+    ensures { λ r. ⌜ (r ≡ 0 → now (scratch .exit) ≡ over (exponents p c (pairs (now (steps .entry)))) (now (scratch .entry))) ⌝ }
     ensures { λ r. ⌜ drop (p + length (now (steps .entry)) / 2 + 1) (now (scratch .exit)) ≡ drop (p + length (now (steps .entry)) / 2 + 1) (now (scratch .entry)) ⌝ }
 {
     clear(p + 1, scratch);

@@ -1,12 +1,17 @@
 use borrow.Author.Needs.{needs}
+use Rattle.chain.proofs.Rules.{judging}
+use Rattle.chain.proofs.Pairs.{length-pairs}
+use Rattle.chain.proofs.Sizes.{columns-low}
+use Rattle.verify.specs.Verify.{fittingRule}
+use Rattle.verify.proofs.Answers.{payslips-low}
 use Rattle.verify.proofs.judge.Statement.{statement}
 use Rattle.verify.proofs.judge.Tie as tie
 use Rattle.verify.proofs.judge.Reads as reads
 use Rattle.verify.proofs.judge.Lts as lts
-use Rattle.chain.proofs.judge_chain.Reads as judge-chain-reads
 use Rattle.chain.proofs.judge_length.Reads as judge-length-reads
 use Rattle.chain.proofs.judge_sizes.Reads as judge-sizes-reads
 use Rattle.sheet.proofs.judge_amounts.Reads as judge-amounts-reads
+use Rattle.verify.proofs.judge_room.Reads as judge-room-reads
 
 judge-sizes-requires : tie.Need-judge-sizes-requires
 judge-sizes-requires c κs = search needs
@@ -15,7 +20,8 @@ enum-known-number : tie.Need-enum-known-number
 enum-known-number c = search needs
 
 returns : tie.Need-returns
-returns c = search needs
+unfolding fittingRule
+returns c = search (judging, length-pairs) depth 12
 
 enum-told : tie.Need-enum-told
 enum-told c = search needs
@@ -27,46 +33,31 @@ enum-known-number-2 : tie.Need-enum-known-number-2
 enum-known-number-2 c = search needs
 
 returns-2 : tie.Need-returns-2
-returns-2 c = search needs
+unfolding fittingRule
+returns-2 c = search (judging, length-pairs) depth 12
 
 enum-told-2 : tie.Need-enum-told-2
 enum-told-2 c = search needs
 
 judge-amounts-requires : tie.Need-judge-amounts-requires
-judge-amounts-requires c κs = search needs
+judge-amounts-requires c κs = (search columns-low, search payslips-low)
 
 enum-known-number-3 : tie.Need-enum-known-number-3
 enum-known-number-3 c = search needs
 
 returns-3 : tie.Need-returns-3
-returns-3 c = search needs
+unfolding fittingRule
+returns-3 c = search (judging, length-pairs) depth 12
 
 enum-told-3 : tie.Need-enum-told-3
 enum-told-3 c = search needs
 
-judge-chain-requires : tie.Need-judge-chain-requires
-judge-chain-requires c κs = search needs
-
-enum-known-number-4 : tie.Need-enum-known-number-4
-enum-known-number-4 c = search needs
+judge-room-requires : tie.Need-judge-room-requires
+judge-room-requires c κs = search columns-low
 
 returns-4 : tie.Need-returns-4
-returns-4 c = search needs
-
-enum-told-4 : tie.Need-enum-told-4
-enum-told-4 c = search needs
-
-add-if1 : tie.Need-add-if1
-add-if1 c = search needs
-
-add-if1-2 : tie.Need-add-if1-2
-add-if1-2 c = search needs
-
-returns-5 : tie.Need-returns-5
-returns-5 c = search needs
-
-returns-6 : tie.Need-returns-6
-returns-6 c = search needs
+unfolding fittingRule
+returns-4 c = search (judging, length-pairs) depth 12
 
 pub judge-spec : {M : Type 1} → statement M
 judge-spec =
@@ -84,11 +75,5 @@ judge-spec =
     enum-known-number-3
     returns-3
     enum-told-3
-    judge-chain-requires
-    enum-known-number-4
-    returns-4
-    enum-told-4
-    add-if1
-    add-if1-2
-    returns-5
-    returns-6)
+    judge-room-requires
+    returns-4)

@@ -3,4 +3,7 @@ pub mod Over
 pub mod Other
 pub mod Cleared
 pub mod Sums
+pub mod Start
+pub mod Columns
+pub mod Fitting
 pub mod Answers

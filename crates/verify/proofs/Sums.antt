@@ -62,8 +62,8 @@ module _ (p : ℕ) (l d : List ℕ) (s : ℕ) (vs : List ℕ) where
     sum-bad x h ok room same e i high w =
         over-bad p (sums p l d) s f (omega (arith, length-sums p l d (omega arith))) (rw (sum-is x h ok room same e i) at high) w
 
-    pub sum-end : length l / 2 ≤ s → p < length d → f ≡ overLeft p (sums p l d) s → 0 ≡ f
-    sum-end h some w = over-end p (sums p l d) s f (omega (arith, length-sums p l d some)) w
+    pub sum-end : length l / 2 ≤ s → p + length l / 2 < length vs → length vs ≡ length d → f ≡ overLeft p (sums p l d) s → 0 ≡ f
+    sum-end h room same w = over-end p (sums p l d) s f (omega (arith, length-sums p l d (omega arith))) w
 
   -- cells past the last value never change
   pub sum-past : s ≤ length l / 2 → p + length l / 2 < length vs → length vs ≡ length d → over (sums p l d) d ≡ filledFrom _+_ p l s vs

@@ -78,7 +78,11 @@ same-length : tie.Need-same-length Inv-loop μ-loop
 same-length c = search needs
 
 returns : tie.Need-returns Inv-loop μ-loop
-returns c = (?, λ z. absurd (omega arith), search sum-past)
+returns c =
+    let b = c .before .before .before .before .before .before in
+    let l = b .before .loop in
+    let start = b .before .before .before .before in
+    (sum-bad _ _ _ _ _ _ _ (b .loop-test .taken) (start .pre .1) (l .inv .2) (l .inv .1) (c .before .plus .ensures) (l .inv .3) (c .if1 .taken) (l .inv .4), (λ z. absurd (omega arith), search sum-past))
 
 cast-scratch : tie.Need-cast-scratch Inv-loop μ-loop
 cast-scratch c = search needs
@@ -102,13 +106,17 @@ loop-less : tie.Need-loop-less Inv-loop μ-loop
 loop-less c = search needs
 
 loop-again : tie.Need-loop-again Inv-loop μ-loop
-loop-again c = (search needs, simp length-set (search needs), simp length-set (search needs), search fill-on, ?)
+loop-again c =
+    let b = c .before .before .before .before .before .before in
+    let l = b .before .loop in
+    let start = b .before .before .before .before in
+    (search needs, simp length-set (search needs), simp length-set (search needs), search fill-on, sum-on _ _ _ _ _ _ _ (b .loop-test .taken) (start .pre .1) (l .inv .2) (l .inv .1) (c .before .plus .ensures) (l .inv .3) (c .if1 .left) (l .inv .4))
 
 same-length-2 : tie.Need-same-length-2 Inv-loop μ-loop
 same-length-2 c = search needs
 
 returns-2 : tie.Need-returns-2 Inv-loop μ-loop
-returns-2 c = (search sum-end, λ z. search fill-end, search sum-past)
+returns-2 c = (search sum-end, (λ z. search fill-end, search sum-past))
 
 pub sum-spec : {M : Type 1} → statement M
 sum-spec =

@@ -18,28 +18,28 @@ enum-told : tie.Need-enum-told
 enum-told c = search needs
 
 hold-requires : tie.Need-hold-requires
-hold-requires c κs = search needs
+hold-requires c κs = ?
 
 add-clear : tie.Need-add-clear
-add-clear c = search needs
+add-clear c = ?
 
 add-clear-2 : tie.Need-add-clear-2
-add-clear-2 c = search needs
+add-clear-2 c = ?
 
 clear-requires : tie.Need-clear-requires
-clear-requires c κs = search needs
+clear-requires c κs = ?
 
 tell-requires : tie.Need-tell-requires
 tell-requires c κs = search needs
 
 returns : tie.Need-returns
-returns c = search needs
+returns c = ?
 
 same-length : tie.Need-same-length
 same-length c = search needs
 
 returns-2 : tie.Need-returns-2
-returns-2 c = search needs
+returns-2 c = ?
 
 pub verify-spec : {M : Type 1} → statement M
 verify-spec =

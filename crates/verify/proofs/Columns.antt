@@ -41,7 +41,7 @@ unfolding refuseAt
 at-some n k zero some e = absurd (some refl)
 at-some n k (suc s) some e = rw (← e)
 
-at-none : (n k : ℕ) → k ≡ 0 → fine ≡ refuseAt n k
+pub at-none : (n k : ℕ) → k ≡ 0 → fine ≡ refuseAt n k
 unfolding refuseAt
 at-none n k e = rw e
 

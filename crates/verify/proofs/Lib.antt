@@ -7,3 +7,4 @@ pub mod Start
 pub mod Columns
 pub mod Fitting
 pub mod Answers
+pub mod Passing

@@ -3,7 +3,7 @@ use mathlib.Core.Path.{_≡_, refl, sym, ap, subst, _∙_}
 use mathlib.Core.List.{List, [], _∷_}
 use Prim.Native.Nat.{ℕ, zero, suc, _+_, _-_, _*_, _≤_, _<_}
 use native.Mathlib.Nat.{le-trans}
-use native.Mathlib.Decide.{decLt, decEq}
+use native.Mathlib.Decide.{decLt, ℕ-discrete}
 use native.Mathlib.Omega.{arith}
 use lib.ListN.{length, getD, drop, length-drop}
 use lib.Seq.{getD-drop}
@@ -30,13 +30,15 @@ pub record Passing (p : ℕ) (steps : List Step) (outputs amounts : List ℕ) : 
 -- value 0 and the bases have no exponent above 1
 start-low : (p : ℕ) (steps : List Step) (c v : ℕ) → c < p → v ≤ p → exponentOf p steps c v ≤ 1
 start-low p steps c zero h g = omega (arith, exponent-zero p c steps)
-start-low p steps c (suc b) h g = by-base (decEq b c)
+start-low p steps c (suc b) h g = by-base (ℕ-discrete b c)
   where
-    e : b + 1 ≡ suc b
-    e = omega arith
     by-base : Dec (b ≡ c) → exponentOf p steps c (suc b) ≤ 1
-    by-base (yes is) = omega (arith, rw (← is, e) at (exponent-unit p c steps h))
-    by-base (no not) = omega (arith, rw e at (exponent-other p c steps b (omega arith) not))
+    by-base (yes is) =
+        let e : suc b ≡ c + 1 = omega arith in
+        rw e (omega (arith, exponent-unit p c steps h))
+    by-base (no not) =
+        let e : suc b ≡ b + 1 = omega arith in
+        rw e (omega (arith, exponent-other p c steps b (omega arith) not))
 
 -- the steps' exponents alone decide whether any is too large
 module _ (p : ℕ) (steps : List Step) where

@@ -4,10 +4,6 @@ use lib.ListN.{length-set}
 use Rattle.verify.proofs.Start.{start-place, start-written, start-past}
 use Rattle.verify.proofs.column.Statement.{statement}
 use Rattle.verify.proofs.column.Tie as tie
-use Rattle.verify.proofs.column.Reads as reads
-use Rattle.verify.proofs.column.Lts as lts
-use Rattle.verify.proofs.clear.Reads as clear-reads
-use Rattle.verify.proofs.sum.Reads as sum-reads
 
 add-clear : tie.Need-add-clear
 add-clear c = search needs

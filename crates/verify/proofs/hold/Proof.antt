@@ -12,11 +12,6 @@ use Rattle.verify.proofs.Places.{earliest-next}
 use Rattle.verify.proofs.Columns.{largeIn, otherIn, other-next, held-large, held-other, held-fine}
 use Rattle.verify.proofs.hold.Statement.{statement}
 use Rattle.verify.proofs.hold.Tie as tie
-use Rattle.verify.proofs.hold.Reads as reads
-use Rattle.verify.proofs.hold.Lts as lts
-use Rattle.verify.proofs.column.Reads as column-reads
-use Rattle.verify.proofs.compare.Reads as compare-reads
-use Rattle.verify.proofs.earlier.Reads as earlier-reads
 
 abbrev Inv-loop : tie.InvT-loop
 Inv-loop p steps outputs amounts scratch₀ large₀ other₀ c₀ scratch large other c =
@@ -66,10 +61,10 @@ loop-again c =
       b .column .kept .1 .1 .1 .0 ∙ l .inv .1,
       earliest-next (l .c) (largeIn (start .args .p) (pairs (start .args .steps .now))) _ _ _ (c .before .earlier .ensures) (l .inv .2) (b .column .ensures .0),
       λ z. ⊎-elim
-      (λ w. w .4
-      ∙ other-next _ _ _ (pairs (start .args .steps .now)) (start .args .outputs .now) _ _ _ _ _ _ _ _ (start .pre .2) (c .before .earlier .ensures) z (b .column .ensures .1 .0) (l .inv .3) (w .2 .ensures) (w .3 .ensures))
-      (λ w. absurd (w .0 .left z))
-      (c .if1 .came),
+          (λ w. w .4
+          ∙ other-next _ _ _ (pairs (start .args .steps .now)) (start .args .outputs .now) _ _ _ _ _ _ _ _ (start .pre .2) (c .before .earlier .ensures) z (b .column .ensures .1 .0) (l .inv .3) (w .2 .ensures) (w .3 .ensures))
+          (λ w. absurd (w .0 .left z))
+          (c .if1 .came),
       b .column .ensures .1 .1 ∙ l .inv .4,
     )
 

@@ -6,12 +6,6 @@ use Rattle.verify.specs.Verify.{fittingRule}
 use Rattle.verify.proofs.Answers.{payslips-low}
 use Rattle.verify.proofs.judge.Statement.{statement}
 use Rattle.verify.proofs.judge.Tie as tie
-use Rattle.verify.proofs.judge.Reads as reads
-use Rattle.verify.proofs.judge.Lts as lts
-use Rattle.chain.proofs.judge_length.Reads as judge-length-reads
-use Rattle.chain.proofs.judge_sizes.Reads as judge-sizes-reads
-use Rattle.sheet.proofs.judge_amounts.Reads as judge-amounts-reads
-use Rattle.verify.proofs.judge_room.Reads as judge-room-reads
 
 judge-sizes-requires : tie.Need-judge-sizes-requires
 judge-sizes-requires c κs = search needs
@@ -21,7 +15,7 @@ enum-known-number c = search needs
 
 returns : tie.Need-returns
 unfolding fittingRule
-returns c = search (judging, length-pairs) depth 12
+returns c = search judging depth 12
 
 enum-told : tie.Need-enum-told
 enum-told c = search needs

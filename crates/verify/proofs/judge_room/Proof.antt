@@ -3,9 +3,6 @@ use Rattle.chain.proofs.Rules.{judging}
 use Rattle.chain.proofs.Pairs.{length-pairs}
 use Rattle.verify.proofs.judge_room.Statement.{statement}
 use Rattle.verify.proofs.judge_room.Tie as tie
-use Rattle.verify.proofs.judge_room.Reads as reads
-use Rattle.verify.proofs.judge_room.Lts as lts
-use Rattle.chain.proofs.judge_chain.Reads as judge-chain-reads
 
 judge-chain-requires : tie.Need-judge-chain-requires
 judge-chain-requires c κs = search needs
@@ -14,7 +11,7 @@ enum-known-number : tie.Need-enum-known-number
 enum-known-number c = search needs
 
 returns : tie.Need-returns
-returns c = search (judging, length-pairs) depth 12
+returns c = search judging depth 12
 
 enum-told : tie.Need-enum-told
 enum-told c = search needs

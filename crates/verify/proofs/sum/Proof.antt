@@ -11,9 +11,6 @@ use Rattle.verify.proofs.Over.{overLeft, over-start}
 use Rattle.verify.proofs.Sums.{sums, sum-on, sum-bad, sum-end, sum-past}
 use Rattle.verify.proofs.sum.Statement.{statement}
 use Rattle.verify.proofs.sum.Tie as tie
-use Rattle.verify.proofs.sum.Reads as reads
-use Rattle.verify.proofs.sum.Lts as lts
-use Rattle.verify.proofs.plus.Reads as plus-reads
 
 abbrev Inv-loop : tie.InvT-loop
 Inv-loop p steps scratch₀ n s₀ scratch s =

@@ -10,10 +10,10 @@ enum-told : tie.Need-enum-told
 enum-told c = search needs
 
 returns : tie.Need-returns
-returns c = search (told-passed, told-refusal)
+returns c = search told-refusal
 
 returns-2 : tie.Need-returns-2
-returns-2 c = search (told-passed, told-refusal)
+returns-2 c = search told-passed
 
 pub tell-spec : {M : Type 1} → statement M
 tell-spec = tie.close (tie.spec enum-known-found enum-told returns returns-2)

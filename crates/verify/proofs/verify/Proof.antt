@@ -12,12 +12,6 @@ use Rattle.verify.proofs.Fitting.{Fitting, fitting, LegalChain, legal-c
 use Rattle.verify.proofs.Answers.{early-answer, early-scratch, late-answer, late-scratch}
 use Rattle.verify.proofs.verify.Statement.{statement}
 use Rattle.verify.proofs.verify.Tie as tie
-use Rattle.verify.proofs.verify.Reads as reads
-use Rattle.verify.proofs.verify.Lts as lts
-use Rattle.verify.proofs.clear.Reads as clear-reads
-use Rattle.verify.proofs.hold.Reads as hold-reads
-use Rattle.verify.proofs.judge.Reads as judge-reads
-use Rattle.verify.proofs.tell.Reads as tell-reads
 
 judge-requires : tie.Need-judge-requires
 judge-requires c κs = search needs

@@ -1,7 +1,7 @@
 -- What the amounts' rule promises, and where an amount stands.
 use mathlib.Core.Path.{_≡_, sym}
 use mathlib.Core.List.{List}
-use Prim.Native.Nat.{ℕ, suc, _+_, _*_, _^_, _≤_, _<_}
+use Prim.Native.Nat.{ℕ, suc, _+_, _*_, _≤_, _<_}
 use native.Mathlib.Nat.{mul-le-mul, mul-le-mul-right, mul-comm, suc-mul}
 use native.Mathlib.Omega.{arith}
 use lib.ListN.{length}

@@ -1,8 +1,7 @@
 -- What a callee's judgement tells: the sizes that it found in range, the answer to it, and what the scratch holds then.
-use mathlib.Core.Path.{_≡_, refl, sym, ap, _∙_}
+use mathlib.Core.Path.{_≡_, sym, ap, _∙_}
 use mathlib.Core.List.{List, [], _++_}
 use Prim.Native.Nat.{ℕ, _+_, _/_, _≤_}
-use native.Mathlib.Omega.{arith}
 use lib.ListN.{length, drop, replicate, length-replicate}
 use Rattle.chain.specs.Verdict.{Verdict, fine, refused, _then_, Answer, refusal, answer, onFine}
 use Rattle.chain.specs.Judgement.{verdictOf}
@@ -13,7 +12,7 @@ use Rattle.chain.specs.declared.Step.{Step}
 use Rattle.chain.proofs.Rules.{told-fine, stop, pass}
 use Rattle.chain.proofs.Pairs.{length-pairs}
 use Rattle.chain.proofs.Sizes.{sizes-fit}
-use Rattle.verify.specs.Verify.{exponentsRule, payslipsRule, scratchSize, fittingRule, verifyRule, verifyAnswer, verifyScratch}
+use Rattle.verify.specs.Verify.{exponentsRule, payslipsRule, fittingRule, verifyRule, verifyAnswer, verifyScratch}
 use Rattle.verify.specs.Verified.{verifiedOf}
 use Rattle.verify.specs.declared.Verified.the-variants.{Passed, Refused}
 

@@ -1,10 +1,10 @@
 -- The loop over the columns, and the verdict at its end.
 use mathlib.Core.Path.{_≡_, refl, sym, ap, _∙_}
-use mathlib.Core.List.{List, [], _∷_}
+use mathlib.Core.List.{List}
 use Prim.Native.Nat.{ℕ, zero, suc, _+_, _≤_, _<_}
 use native.Mathlib.Omega.{arith}
 use lib.ListN.{length, getD, drop}
-use Rattle.chain.specs.Verdict.{Verdict, fine, refused, _then_, refuseAt}
+use Rattle.chain.specs.Verdict.{fine, refused, _then_, refuseAt}
 use Rattle.chain.specs.Written.{over}
 use Rattle.chain.specs.Chain.{outputsRule, exponents}
 use Rattle.chain.specs.declared.Step.{Step}

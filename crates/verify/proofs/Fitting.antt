@@ -1,15 +1,13 @@
 -- What it means that nothing is found before the scratch is used.
 use mathlib.Core.Path.{_≡_, sym}
 use mathlib.Core.List.{List}
-use Prim.Native.Nat.{ℕ, _+_, _*_, _≤_, _<_}
-use native.Mathlib.Omega.{arith}
+use Prim.Native.Nat.{ℕ, _+_, _*_, _≤_}
 use lib.ListN.{length}
-use Rattle.chain.specs.Verdict.{fine, _then_}
-use Rattle.chain.specs.Chain.{mostSteps, sizesRule, lengthRule, stepsRule, outputsRule, chainRule, Legal, legalRule}
+use Rattle.chain.specs.Verdict.{fine}
+use Rattle.chain.specs.Chain.{mostSteps, stepsRule, outputsRule, chainRule, Legal, legalRule}
 use Rattle.chain.specs.declared.Step.{Step}
 use Rattle.chain.proofs.Rules.{then-fine, refuseIf-fine, not-lt, refuse-no, lt-no, pass}
 use Rattle.chain.proofs.Sizes.{Sizes, sizes-fit, length-fits}
-use Rattle.sheet.specs.Sheet.{amountsRule}
 use Rattle.sheet.proofs.Amounts.{amounts-fit, fit-amounts}
 use Rattle.verify.specs.Verify.{scratchSize, fittingRule}
 

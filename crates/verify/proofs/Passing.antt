@@ -1,25 +1,24 @@
 -- What passing the check means: the chain is legal, no exponent exceeds the limit, and each output's exponents are its payslip.
-use mathlib.Core.Path.{_≡_, refl, sym, ap, subst, _∙_}
-use mathlib.Core.List.{List, [], _∷_}
+use mathlib.Core.Path.{_≡_, sym}
+use mathlib.Core.List.{List}
 use Prim.Native.Nat.{ℕ, zero, suc, _+_, _-_, _*_, _≤_, _<_}
-use native.Mathlib.Nat.{le-trans}
 use native.Mathlib.Decide.{decLt, ℕ-discrete}
 use native.Mathlib.Omega.{arith}
 use lib.ListN.{length, getD, drop, length-drop}
 use lib.Seq.{getD-drop}
-use Rattle.chain.specs.Verdict.{fine, _then_}
+use Rattle.chain.specs.Verdict.{fine}
 use Rattle.chain.specs.Chain.{mostAmount, Legal, exponents, exponentOf}
 use Rattle.chain.specs.declared.Step.{Step}
 use Rattle.chain.proofs.Rules.{then-fine, refuseAt-fine, pass}
 use Rattle.chain.proofs.Exponents.{Makes, Within, length-exponents, exponent-zero, exponent-unit, exponent-other}
 use Rattle.chain.proofs.Outputs.{outputs-low}
 use Rattle.sheet.specs.Sheet.{amount}
-use Rattle.verify.specs.Verify.{earliest, firstOver, scratchSize, exponentsRule, payslipsRule, fittingRule, verifyRule}
+use Rattle.verify.specs.Verify.{firstOver, scratchSize, exponentsRule, payslipsRule, verifyRule}
 use Rattle.verify.proofs.Places.{earliest-none, none-earliest}
 use Rattle.verify.proofs.Over.{over-none, none-over}
 use Rattle.verify.proofs.Other.{other-none, none-other}
 use Rattle.verify.proofs.Columns.{largeIn, otherIn, at-none}
-use Rattle.verify.proofs.Fitting.{Fitting, fitting, fits, legal-chain}
+use Rattle.verify.proofs.Fitting.{fitting, fits, legal-chain}
 
 pub record Passing (p : ℕ) (steps : List Step) (outputs amounts : List ℕ) : Type 0 where
   pub legal : Legal p steps outputs

@@ -1,14 +1,13 @@
 -- The start of a column: value 0 and the bases in the scratch, whose first p + 1 cells were cleared.
-use mathlib.Core.Path.{_≡_, refl, sym, ap, ap₂, _∙_}
-use mathlib.Core.List.{List, [], _∷_, _++_}
-use Prim.Native.Nat.{ℕ, suc, _+_, _/_, _≤_, _<_}
+use mathlib.Core.Path.{_≡_, sym, ap, ap₂, _∙_}
+use mathlib.Core.List.{List, _∷_}
+use Prim.Native.Nat.{ℕ, _+_, _/_, _<_}
 use native.Mathlib.Omega.{arith}
 use native.Mathlib.Numerals.{add-one}
-use lib.ListN.{length, take, drop, set, replicate, length-set, length-replicate}
+use lib.ListN.{length, take, drop, set, replicate, length-replicate}
 use lib.Seq.{take-set-lt}
 use Rattle.chain.specs.Written.{over}
 use Rattle.chain.specs.Chain.{pairs, values, exponents}
-use Rattle.chain.specs.declared.Step.{Step}
 use Rattle.chain.proofs.Pairs.{length-pairs}
 use Rattle.chain.proofs.Exponents.{length-exponents}
 use Rattle.chain.proofs.Written.{take-over, over-set, over-over}

@@ -1,14 +1,13 @@
 -- The loop that sums one column in the scratch.
-use mathlib.Core.Path.{_≡_, refl, sym, ap, _∙_}
-use mathlib.Core.List.{List, [], _∷_, _++_}
-use Prim.Native.Nat.{ℕ, suc, _+_, _*_, _/_, _≤_, _<_}
+use mathlib.Core.Path.{_≡_, sym, ap, _∙_}
+use mathlib.Core.List.{List}
+use Prim.Native.Nat.{ℕ, _+_, _/_, _≤_, _<_}
 use native.Mathlib.Omega.{arith}
 use lib.ListN.{length, getD, take, drop, set, length-drop, length-set}
 use lib.Seq.{length-take-le, getD-take, getD-set-same, drop-at}
 use Rattle.chain.specs.Verdict.{fine}
 use Rattle.chain.specs.Written.{over}
 use Rattle.chain.specs.Chain.{mostAmount, pairs, stepsRule, values}
-use Rattle.chain.specs.declared.Step.{Step}
 use Rattle.chain.proofs.Pairs.{length-pairs}
 use Rattle.chain.proofs.Values.{length-values, values-before}
 use Rattle.chain.proofs.Filling.{filledFrom, valueAt, fill-on}

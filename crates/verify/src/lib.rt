@@ -6,7 +6,7 @@ ghost use lib.ListN.{length, getD, take, drop, replicate};
 ghost use Rattle.chain.specs.Tests.{_<?_};
 ghost use Rattle.chain.specs.Verdict.{fine, _then_, refuseIf, answer};
 ghost use Rattle.chain.specs.Written.{over};
-ghost use Rattle.chain.specs.Chain.{mostColumns, mostPayslips, pairs, stepsRule, outputsRule, chainRule, values, exponents};
+ghost use Rattle.chain.specs.Chain.{mostColumns, pairs, stepsRule, outputsRule, chainRule, values, exponents};
 ghost use Rattle.chain.specs.Judgement.{verdictOf};
 ghost use Rattle.verify.specs.Verify.{earlier, firstOver, firstOther, exponentsRule, payslipsRule, scratchSize, fittingRule, verifyAnswer, verifyScratch};
 ghost use Rattle.verify.specs.Verified.{verifiedOf};

@@ -1,4 +1,3 @@
-use borrow.Author.Needs.{needs}
 use native.Mathlib.Omega.{arith}
 use Rattle.chain.proofs.Rules.{judging}
 use Rattle.sheet.specs.Sheet.{amountsRule}

@@ -1,14 +1,14 @@
 use borrow.Author.Needs.{needs}
 use mathlib.Core.Path.{_≡_, sym}
-use Prim.Native.Nat.{_+_, _/_, _<_, _≤_}
+use Prim.Native.Nat.{_+_, _/_, _<_}
 use native.Mathlib.Omega.{arith}
 use lib.ListN.{length}
 use Rattle.chain.specs.Verdict.{fine}
-use Rattle.chain.specs.Chain.{pairs, mostColumns}
+use Rattle.chain.specs.Chain.{pairs}
 use Rattle.chain.proofs.Rules.{told-fine, told-refused}
 use Rattle.chain.proofs.Pairs.{length-pairs}
 use Rattle.verify.specs.Verify.{fittingRule}
-use Rattle.verify.proofs.Fitting.{Fitting, fitting, LegalChain, legal-chain}
+use Rattle.verify.proofs.Fitting.{Fitting, fitting, legal-chain}
 use Rattle.verify.proofs.Answers.{early-answer, early-scratch, late-answer, late-scratch}
 use Rattle.verify.proofs.verify.Statement.{statement}
 use Rattle.verify.proofs.verify.Tie as tie

@@ -69,9 +69,9 @@ module _ (p : ℕ) (l d : List ℕ) (s : ℕ) (vs : List ℕ) where
       → drop (p + length l / 2 + 1) vs ≡ drop (p + length l / 2 + 1) d
   unfolding filledFrom
   sum-past h room same i =
-      let made : List ℕ = values _+_ (take (p + s + 1) vs) (drop s (pairs l)) in
-      let n : length made ≡ p + length l / 2 + 1 = omega (arith, length-values _+_ (take (p + s + 1) vs) (drop s (pairs l)), length-take-le (p + s + 1) vs (omega arith), length-drop s (pairs l), length-pairs l) in
+      let all : List ℕ = values _+_ (take (p + s + 1) vs) (drop s (pairs l)) in
+      let n : length all ≡ p + length l / 2 + 1 = omega (arith, length-values _+_ (take (p + s + 1) vs) (drop s (pairs l)), length-take-le (p + s + 1) vs (omega arith), length-drop s (pairs l), length-pairs l) in
       sym
       (sym (drop-over (p + length l / 2 + 1) (sums p l d) d (length-sums p l d (omega arith)))
       ∙ ap (drop (p + length l / 2 + 1)) i
-      ∙ drop-over (p + length l / 2 + 1) made vs n)
+      ∙ drop-over (p + length l / 2 + 1) all vs n)

@@ -1,1 +1,233 @@
 // The check of a chain against a sheet.
+ghost use mathlib.Core.Path.{_≡_};
+ghost use mathlib.Core.List.{[]};
+ghost use Prim.Native.Nat.{ℕ, _+_, _*_, _/_, _≤_, _<_};
+ghost use lib.ListN.{length, getD, take, drop, replicate};
+ghost use Rattle.chain.specs.Tests.{_<?_};
+ghost use Rattle.chain.specs.Verdict.{fine, _then_, refuseIf, answer};
+ghost use Rattle.chain.specs.Written.{over};
+ghost use Rattle.chain.specs.Chain.{mostColumns, pairs, stepsRule, outputsRule, chainRule, values, exponents};
+ghost use Rattle.chain.specs.Judgement.{verdictOf};
+ghost use Rattle.verify.specs.Verify.{earlier, firstOver, firstOther, exponentsRule, payslipsRule, scratchSize, fittingRule, verifyAnswer, verifyScratch};
+ghost use Rattle.verify.specs.Verified.{verifiedOf};
+use chain::Judgement;
+
+// What the check answers: the chain passed, or a refusal with its number in document 01 and its place, 0 for none.
+pub enum Verified {
+    Passed,
+    Refused { number: u32, place: usize },
+}
+
+// The largest exponent.
+const MOST_AMOUNT: u64 = 4294967295;
+
+// The steps, 12, then 5: scratch is the number of cells lent.
+fn judge_room(p: usize, steps: &[u32], outputs: &[u32], scratch: usize) -> Judgement
+    requires { ⌜ p ≤ mostColumns ⌝ }
+    ensures { λ r. ⌜ verdictOf r ≡ (chainRule p (pairs (now (steps .entry))) (now (outputs .entry)) then refuseIf (scratch <? scratchSize p (length (pairs (now (steps .entry))))) 5 0) ⌝ }
+{
+    match chain::judge_chain(p, steps, outputs) {
+        Judgement::Refused { number, place } => {
+            return Judgement::Refused {
+                number: number,
+                place: place,
+            };
+        }
+        Judgement::Fine => {}
+    }
+    if scratch < p + steps.len() / 2 + 1 {
+        return Judgement::Refused {
+            number: 5,
+            place: 0,
+        };
+    }
+    Judgement::Fine
+}
+
+// What is found before the scratch is used: 1, 4, 2, steps, 12, 5.
+fn judge(p: usize, steps: &[u32], outputs: &[u32], amounts: &[u32], scratch: usize) -> Judgement
+    ensures { λ r. ⌜ verdictOf r ≡ fittingRule p (pairs (now (steps .entry))) (now (outputs .entry)) (now (amounts .entry)) scratch ⌝ }
+{
+    match chain::judge_sizes(p, outputs.len()) {
+        Judgement::Refused { number, place } => {
+            return Judgement::Refused {
+                number: number,
+                place: place,
+            };
+        }
+        Judgement::Fine => {}
+    }
+    match chain::judge_length(chain::MOST_STEPS, steps.len() / 2) {
+        Judgement::Refused { number, place } => {
+            return Judgement::Refused {
+                number: number,
+                place: place,
+            };
+        }
+        Judgement::Fine => {}
+    }
+    match sheet::judge_amounts(p, outputs.len(), amounts) {
+        Judgement::Refused { number, place } => {
+            return Judgement::Refused {
+                number: number,
+                place: place,
+            };
+        }
+        Judgement::Fine => {}
+    }
+    judge_room(p, steps, outputs, scratch)
+}
+
+// The earlier of two places, 0 being none.
+fn earlier(a: usize, b: usize) -> usize
+    ensures { λ r. ⌜ r ≡ earlier a b ⌝ }
+{
+    if a == 0 {
+        return b;
+    }
+    if b == 0 {
+        return a;
+    }
+    if a < b {
+        return a;
+    }
+    b
+}
+
+// The first n cells 0.
+fn clear(n: usize, scratch: &mut [u32])
+    requires { ⌜ n ≤ length (now scratch) ⌝ }
+    ensures { λ r. ⌜ now (scratch .exit) ≡ over (replicate n 0) (now (scratch .entry)) ⌝ }
+{
+    let mut i: usize = 0;
+    while i < n {
+        scratch[i] = 0;
+        i += 1;
+    }
+}
+
+// The sum of two exponents, which 64 bits hold.
+fn plus(a: u32, b: u32) -> u64
+    ensures { λ r. ⌜ r ≡ a + b ⌝ }
+{
+    (a as u64) + (b as u64)
+}
+
+// One sum for each step, after the p + 1 values that stand in the scratch already, up to the first that is too large: its place, 0 for none.
+fn sum(p: usize, steps: &[u32], scratch: &mut [u32]) -> usize
+    requires { ⌜ (p ≤ mostColumns) × (stepsRule p 1 (pairs (now steps)) ≡ fine) × (p + length (now steps) / 2 < length (now scratch)) ⌝ }
+    ensures { λ r. ⌜ r ≡ firstOver 1 (drop (p + 1) (values _+_ (take (p + 1) (now (scratch .entry))) (pairs (now (steps .entry))))) ⌝ }
+    ensures { λ r. ⌜ (r ≡ 0 → now (scratch .exit) ≡ over (values _+_ (take (p + 1) (now (scratch .entry))) (pairs (now (steps .entry)))) (now (scratch .entry))) ⌝ }
+    ensures { λ r. ⌜ drop (p + length (now (steps .entry)) / 2 + 1) (now (scratch .exit)) ≡ drop (p + length (now (steps .entry)) / 2 + 1) (now (scratch .entry)) ⌝ }
+{
+    let n = steps.len() / 2;
+    let mut s: usize = 0;
+    while s < n {
+        let a = steps[2 * s] as usize;
+        let b = steps[2 * s + 1] as usize;
+        let x = plus(scratch[a], scratch[b]);
+        if MOST_AMOUNT < x {
+            return s + 1;
+        }
+        scratch[p + s + 1] = x as u32;
+        s += 1;
+    }
+    0
+}
+
+// The exponents of column c into the scratch, up to the first that is too large: its place, 0 for none.
+fn column(p: usize, c: usize, steps: &[u32], scratch: &mut [u32]) -> usize
+    requires { ⌜ (c < p) × (p ≤ mostColumns) × (stepsRule p 1 (pairs (now steps)) ≡ fine) × (p + length (now steps) / 2 < length (now scratch)) ⌝ }
+    ensures { λ r. ⌜ r ≡ firstOver 1 (drop (p + 1) (exponents p c (pairs (now (steps .entry))))) ⌝ }
+    ensures { λ r. ⌜ (r ≡ 0 → now (scratch .exit) ≡ over (exponents p c (pairs (now (steps .entry)))) (now (scratch .entry))) ⌝ }
+    ensures { λ r. ⌜ drop (p + length (now (steps .entry)) / 2 + 1) (now (scratch .exit)) ≡ drop (p + length (now (steps .entry)) / 2 + 1) (now (scratch .entry)) ⌝ }
+{
+    clear(p + 1, scratch);
+    scratch[c + 1] = 1;
+    sum(p, steps, scratch)
+}
+
+// The first payslip whose amount in column c is not what stands in the scratch for its output: its place, 0 for none.
+fn compare(p: usize, c: usize, outputs: &[u32], amounts: &[u32], scratch: &[u32]) -> usize
+    requires { ⌜ (c < p) × (length (now amounts) ≡ p * length (now outputs)) × ((i : ℕ) → i < length (now outputs) → getD (now outputs) i 0 < length (now scratch)) ⌝ }
+    ensures { λ r. ⌜ r ≡ firstOther p c (now (amounts .entry)) (now (scratch .entry)) 0 (now (outputs .entry)) ⌝ }
+{
+    let mut i: usize = 0;
+    while i < outputs.len() {
+        let o = outputs[i] as usize;
+        if scratch[o] != sheet::amount(p, amounts, i, c) {
+            return i + 1;
+        }
+        i += 1;
+    }
+    0
+}
+
+// 13, then 14: column by column, each place the earliest over all columns. With an exponent too large no payslip is looked at any more.
+fn hold(p: usize, steps: &[u32], outputs: &[u32], amounts: &[u32], scratch: &mut [u32]) -> Judgement
+    requires { ⌜ (p ≤ mostColumns) × (stepsRule p 1 (pairs (now steps)) ≡ fine) × (outputsRule (p + length (pairs (now steps))) 1 (now outputs) ≡ fine) × (length (now amounts) ≡ p * length (now outputs)) × (p + length (now steps) / 2 < length (now scratch)) ⌝ }
+    ensures { λ r. ⌜ verdictOf r ≡ (exponentsRule p (pairs (now (steps .entry))) then payslipsRule p (now (amounts .entry)) (pairs (now (steps .entry))) (now (outputs .entry))) ⌝ }
+    ensures { λ r. ⌜ drop (p + length (now (steps .entry)) / 2 + 1) (now (scratch .exit)) ≡ drop (p + length (now (steps .entry)) / 2 + 1) (now (scratch .entry)) ⌝ }
+{
+    let mut large: usize = 0;
+    let mut other: usize = 0;
+    let mut c: usize = 0;
+    while c < p {
+        let place = column(p, c, steps, scratch);
+        large = earlier(large, place);
+        if large == 0 {
+            other = earlier(other, compare(p, c, outputs, amounts, scratch));
+        }
+        c += 1;
+    }
+    if large != 0 {
+        return Judgement::Refused {
+            number: 13,
+            place: large,
+        };
+    }
+    if other != 0 {
+        return Judgement::Refused {
+            number: 14,
+            place: other,
+        };
+    }
+    Judgement::Fine
+}
+
+// The answer to a verdict.
+fn tell(found: Judgement) -> Verified
+    ensures { λ r. ⌜ verifiedOf r ≡ answer (verdictOf found) [] ⌝ }
+{
+    match found {
+        Judgement::Refused { number, place } => Verified::Refused {
+            number: number,
+            place: place,
+        },
+        Judgement::Fine => Verified::Passed,
+    }
+}
+
+// Whether a chain makes a sheet: on 13, 14 and passing the first p + n + 1 cells of the scratch are 0 afterwards, else it is untouched.
+pub fn verify(
+    p: usize,
+    steps: &[u32],
+    outputs: &[u32],
+    amounts: &[u32],
+    scratch: &mut [u32],
+) -> Verified
+    ensures { λ r. ⌜ verifiedOf r ≡ verifyAnswer p (pairs (now (steps .entry))) (now (outputs .entry)) (now (amounts .entry)) (length (now (scratch .entry))) ⌝ }
+    ensures { λ r. ⌜ now (scratch .exit) ≡ verifyScratch p (pairs (now (steps .entry))) (now (outputs .entry)) (now (amounts .entry)) (now (scratch .entry)) ⌝ }
+{
+    match judge(p, steps, outputs, amounts, scratch.len()) {
+        Judgement::Refused { number, place } => Verified::Refused {
+            number: number,
+            place: place,
+        },
+        Judgement::Fine => {
+            let found = hold(p, steps, outputs, amounts, scratch);
+            clear(p + steps.len() / 2 + 1, scratch);
+            tell(found)
+        }
+    }
+}

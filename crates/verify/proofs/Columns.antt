@@ -1,0 +1,69 @@
+-- The loop over the columns, and the verdict at its end.
+use mathlib.Core.Path.{_≡_, refl, sym, ap, _∙_}
+use mathlib.Core.List.{List}
+use Prim.Native.Nat.{ℕ, zero, suc, _+_, _≤_, _<_}
+use native.Mathlib.Omega.{arith}
+use lib.ListN.{length, getD, drop}
+use Rattle.chain.specs.Verdict.{fine, refused, _then_, refuseAt}
+use Rattle.chain.specs.Written.{over}
+use Rattle.chain.specs.Chain.{outputsRule, exponents}
+use Rattle.chain.specs.declared.Step.{Step}
+use Rattle.chain.proofs.Rules.{stop, pass}
+use Rattle.chain.proofs.Exponents.{length-exponents}
+use Rattle.chain.proofs.Outputs.{outputs-low}
+use Rattle.verify.specs.Verify.{earlier, earliest, firstOver, firstOther, exponentsRule, payslipsRule}
+use Rattle.verify.proofs.Places.{earlier-none, earliest-next}
+use Rattle.verify.proofs.Other.{other-over}
+
+-- the first step with too large an exponent in column c
+abbrev pub largeIn : ℕ → List Step → ℕ → ℕ
+largeIn p steps c = firstOver 1 (drop (p + 1) (exponents p c steps))
+
+-- the first payslip whose amount in column c is not its output's exponent
+abbrev pub otherIn : ℕ → List ℕ → List Step → List ℕ → ℕ → ℕ
+otherIn p amounts steps outputs c = firstOther p c amounts (exponents p c steps) 0 outputs
+
+-- column c compared, where no exponent was too large: `vs` is the scratch after its sums, `r` the place found in it
+pub other-next : (p c : ℕ) (amounts : List ℕ) (steps : List Step) (outputs : List ℕ) (large place large′ other r other′ : ℕ) (d vs : List ℕ)
+    → outputsRule (p + length steps) 1 outputs ≡ fine → large′ ≡ earlier large place → large′ ≡ 0 → (place ≡ 0 → vs ≡ over (exponents p c steps) d)
+    → (large ≡ 0 → other ≡ earliest c (otherIn p amounts steps outputs)) → r ≡ firstOther p c amounts vs 0 outputs → other′ ≡ earlier other r
+    → other′ ≡ earliest (c + 1) (otherIn p amounts steps outputs)
+other-next p c amounts steps outputs large place large′ other r other′ d vs ok e z written before found e′ =
+    let none = earlier-none large place (sym e ∙ z) in
+    let n : length (exponents p c steps) ≡ p + 1 + length steps = length-exponents p c steps in
+    let low : (i : ℕ) → i < length outputs → getD outputs i 0 < length (exponents p c steps) = λ i h. omega (arith, outputs-low (p + length steps) 1 outputs ok i h) in
+    earliest-next c (otherIn p amounts steps outputs) other r other′ e′ (before (none .0))
+    (found ∙ ap (λ (t : List ℕ). firstOther p c amounts t 0 outputs) (written (none .1)) ∙ other-over p c amounts (exponents p c steps) d 0 outputs low)
+
+-- a place, or none, as a verdict
+at-some : (n k s : ℕ) → (s ≡ 0 → ⊥) → s ≡ k → refused n s ≡ refuseAt n k
+unfolding refuseAt
+at-some n k zero some e = absurd (some refl)
+at-some n k (suc s) some e = rw (← e)
+
+pub at-none : (n k : ℕ) → k ≡ 0 → fine ≡ refuseAt n k
+unfolding refuseAt
+at-none n k e = rw e
+
+-- the verdict from the places of all columns
+module _ (p : ℕ) (amounts : List ℕ) (steps : List Step) (outputs : List ℕ) (c large other : ℕ) (h : p ≤ c) (h′ : c ≤ p) (e : large ≡ earliest c (largeIn p steps)) where
+  pub held-large : (large ≡ 0 → ⊥) → refused 13 large ≡ (exponentsRule p steps then payslipsRule p amounts steps outputs)
+  unfolding exponentsRule
+  held-large some =
+      let q : c ≡ p = omega arith in
+      stop _ _ 13 large (at-some 13 _ large some (e ∙ ap (λ (k : ℕ). earliest k (largeIn p steps)) q))
+
+  module _ (none : large ≡ 0) (d : large ≡ 0 → other ≡ earliest c (otherIn p amounts steps outputs)) where
+    pub held-other : (other ≡ 0 → ⊥) → refused 14 other ≡ (exponentsRule p steps then payslipsRule p amounts steps outputs)
+    unfolding exponentsRule payslipsRule
+    held-other some =
+        let q : c ≡ p = omega arith in
+        pass _ _ (refused 14 other) (at-none 13 _ (sym (e ∙ ap (λ (k : ℕ). earliest k (largeIn p steps)) q) ∙ none))
+        (at-some 14 _ other some (d none ∙ ap (λ (k : ℕ). earliest k (otherIn p amounts steps outputs)) q))
+
+    pub held-fine : other ≡ 0 → fine ≡ (exponentsRule p steps then payslipsRule p amounts steps outputs)
+    unfolding exponentsRule payslipsRule
+    held-fine same =
+        let q : c ≡ p = omega arith in
+        pass _ _ fine (at-none 13 _ (sym (e ∙ ap (λ (k : ℕ). earliest k (largeIn p steps)) q) ∙ none))
+        (at-none 14 _ (sym (d none ∙ ap (λ (k : ℕ). earliest k (otherIn p amounts steps outputs)) q) ∙ same))

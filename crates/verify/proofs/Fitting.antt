@@ -1,0 +1,58 @@
+-- What it means that nothing is found before the scratch is used.
+use mathlib.Core.Path.{_≡_, sym}
+use mathlib.Core.List.{List}
+use Prim.Native.Nat.{ℕ, _+_, _*_, _≤_}
+use lib.ListN.{length}
+use Rattle.chain.specs.Verdict.{fine}
+use Rattle.chain.specs.Chain.{mostSteps, stepsRule, outputsRule, chainRule, Legal, legalRule}
+use Rattle.chain.specs.declared.Step.{Step}
+use Rattle.chain.proofs.Rules.{then-fine, refuseIf-fine, not-lt, refuse-no, lt-no, pass}
+use Rattle.chain.proofs.Sizes.{Sizes, sizes-fit, length-fits}
+use Rattle.sheet.proofs.Amounts.{amounts-fit, fit-amounts}
+use Rattle.verify.specs.Verify.{scratchSize, fittingRule}
+
+pub record Fitting (p : ℕ) (steps : List Step) (outputs amounts : List ℕ) (scratch : ℕ) : Type 0 where
+  pub legal : Legal p steps outputs
+  pub amounts-fit : length amounts ≡ p * length outputs
+  pub room : scratchSize p (length steps) ≤ scratch
+
+pub fitting : (p : ℕ) (steps : List Step) (outputs amounts : List ℕ) (scratch : ℕ) → fittingRule p steps outputs amounts scratch ≡ fine
+    → Fitting p steps outputs amounts scratch
+unfolding fittingRule legalRule
+fitting p steps outputs amounts scratch e =
+    let a = then-fine _ _ e in
+    let b = then-fine _ _ (a .1) in
+    let k = then-fine _ _ (b .1) in
+    let f = then-fine _ _ (k .1) in
+    record {
+      legal = sym (pass _ _ fine (sym (a .0)) (pass _ _ fine (sym (b .0)) (sym (f .0))));
+      amounts-fit = amounts-fit p (length outputs) amounts (k .0);
+      room = not-lt _ _ (refuseIf-fine _ 5 0 (f .1));
+    }
+
+pub fits : (p : ℕ) (steps : List Step) (outputs amounts : List ℕ) (scratch : ℕ) → Fitting p steps outputs amounts scratch
+    → fittingRule p steps outputs amounts scratch ≡ fine
+unfolding fittingRule legalRule
+fits p steps outputs amounts scratch f =
+    let a = then-fine _ _ (f .legal) in
+    let b = then-fine _ _ (a .1) in
+    sym
+    (pass _ _ fine (sym (a .0))
+    (pass _ _ fine (sym (b .0))
+    (pass _ _ fine (sym (fit-amounts p (length outputs) amounts (f .amounts-fit)))
+    (pass _ _ fine (sym (b .1)) (refuse-no _ 5 0 (lt-no _ _ (f .room)))))))
+
+-- the parts of a legal chain
+pub record LegalChain (p : ℕ) (steps : List Step) (outputs : List ℕ) : Type 0 where
+  pub sizes : Sizes p (length outputs)
+  pub length-low : length steps ≤ mostSteps
+  pub steps-fine : stepsRule p 1 steps ≡ fine
+  pub outputs-fine : outputsRule (p + length steps) 1 outputs ≡ fine
+
+pub legal-chain : (p : ℕ) (steps : List Step) (outputs : List ℕ) → Legal p steps outputs → LegalChain p steps outputs
+unfolding legalRule chainRule
+legal-chain p steps outputs e =
+    let a = then-fine _ _ e in
+    let b = then-fine _ _ (a .1) in
+    let k = then-fine _ _ (b .1) in
+    record { sizes = sizes-fit _ _ (a .0); length-low = length-fits _ _ (b .0); steps-fine = k .0; outputs-fine = k .1 }

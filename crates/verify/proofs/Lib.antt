@@ -1,0 +1,10 @@
+pub mod Places
+pub mod Over
+pub mod Other
+pub mod Cleared
+pub mod Sums
+pub mod Start
+pub mod Columns
+pub mod Fitting
+pub mod Answers
+pub mod Passing

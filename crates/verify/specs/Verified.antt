@@ -1,0 +1,9 @@
+-- What the code's `Verified` says in document 01's terms: for each of its cases the answer.
+use mathlib.Core.List.{[]}
+use Rattle.chain.specs.Verdict.{Answer, done, refusal}
+use Rattle.verify.specs.declared.Verified.{Verified}
+use Rattle.verify.specs.declared.Verified.the-variants.{Passed, Refused}
+
+abbrev pub verifiedOf : Verified → Answer
+verifiedOf Passed = done []
+verifiedOf (Refused number place) = refusal number place

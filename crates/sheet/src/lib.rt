@@ -13,10 +13,7 @@ pub fn judge_amounts(p: usize, q: usize, amounts: &[u32]) -> Judgement
     ensures { λ r. ⌜ verdictOf r ≡ amountsRule p q (now (amounts .entry)) ⌝ }
 {
     if amounts.len() != p * q {
-        return Judgement::Refused {
-            number: 2,
-            place: 0,
-        };
+        return Judgement::Refused(2, 0);
     }
     Judgement::Fine
 }

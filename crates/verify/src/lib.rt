@@ -15,7 +15,7 @@ use chain::Judgement;
 // What the check answers: the chain passed, or a refusal with its number in document 01 and its place, 0 for none.
 pub enum Verified {
     Passed,
-    Refused { number: u32, place: usize },
+    Refused(u32, usize),
 }
 
 // The largest exponent.
@@ -27,19 +27,13 @@ fn judge_room(p: usize, steps: &[u32], outputs: &[u32], scratch: usize) -> Judge
     ensures { λ r. ⌜ verdictOf r ≡ (chainRule p (pairs (now (steps .entry))) (now (outputs .entry)) then refuseIf (scratch <? scratchSize p (length (pairs (now (steps .entry))))) 5 0) ⌝ }
 {
     match chain::judge_chain(p, steps, outputs) {
-        Judgement::Refused { number, place } => {
-            return Judgement::Refused {
-                number: number,
-                place: place,
-            };
+        Judgement::Refused(number, place) => {
+            return Judgement::Refused(number, place);
         }
         Judgement::Fine => {}
     }
     if scratch < p + steps.len() / 2 + 1 {
-        return Judgement::Refused {
-            number: 5,
-            place: 0,
-        };
+        return Judgement::Refused(5, 0);
     }
     Judgement::Fine
 }
@@ -49,29 +43,20 @@ fn judge(p: usize, steps: &[u32], outputs: &[u32], amounts: &[u32], scratch: usi
     ensures { λ r. ⌜ verdictOf r ≡ fittingRule p (pairs (now (steps .entry))) (now (outputs .entry)) (now (amounts .entry)) scratch ⌝ }
 {
     match chain::judge_sizes(p, outputs.len()) {
-        Judgement::Refused { number, place } => {
-            return Judgement::Refused {
-                number: number,
-                place: place,
-            };
+        Judgement::Refused(number, place) => {
+            return Judgement::Refused(number, place);
         }
         Judgement::Fine => {}
     }
     match chain::judge_length(chain::MOST_STEPS, steps.len() / 2) {
-        Judgement::Refused { number, place } => {
-            return Judgement::Refused {
-                number: number,
-                place: place,
-            };
+        Judgement::Refused(number, place) => {
+            return Judgement::Refused(number, place);
         }
         Judgement::Fine => {}
     }
     match sheet::judge_amounts(p, outputs.len(), amounts) {
-        Judgement::Refused { number, place } => {
-            return Judgement::Refused {
-                number: number,
-                place: place,
-            };
+        Judgement::Refused(number, place) => {
+            return Judgement::Refused(number, place);
         }
         Judgement::Fine => {}
     }
@@ -181,16 +166,10 @@ fn hold(p: usize, steps: &[u32], outputs: &[u32], amounts: &[u32], scratch: &mut
         c += 1;
     }
     if large != 0 {
-        return Judgement::Refused {
-            number: 13,
-            place: large,
-        };
+        return Judgement::Refused(13, large);
     }
     if other != 0 {
-        return Judgement::Refused {
-            number: 14,
-            place: other,
-        };
+        return Judgement::Refused(14, other);
     }
     Judgement::Fine
 }
@@ -200,10 +179,7 @@ fn tell(found: Judgement) -> Verified
     ensures { λ r. ⌜ verifiedOf r ≡ answer (verdictOf found) [] ⌝ }
 {
     match found {
-        Judgement::Refused { number, place } => Verified::Refused {
-            number: number,
-            place: place,
-        },
+        Judgement::Refused(number, place) => Verified::Refused(number, place),
         Judgement::Fine => Verified::Passed,
     }
 }
@@ -220,10 +196,7 @@ pub fn verify(
     ensures { λ r. ⌜ now (scratch .exit) ≡ verifyScratch p (pairs (now (steps .entry))) (now (outputs .entry)) (now (amounts .entry)) (now (scratch .entry)) ⌝ }
 {
     match judge(p, steps, outputs, amounts, scratch.len()) {
-        Judgement::Refused { number, place } => Verified::Refused {
-            number: number,
-            place: place,
-        },
+        Judgement::Refused(number, place) => Verified::Refused(number, place),
         Judgement::Fine => {
             let found = hold(p, steps, outputs, amounts, scratch);
             clear(p + steps.len() / 2 + 1, scratch);

@@ -1,0 +1,63 @@
+// The C interface: one function for each entry point, on numbers and slices. Each returns the refusal's number, 0 for none, and writes four words:
+// the values that the call answers, or the refusal's place, and zeros.
+ghost use mathlib.Core.Path.{_≡_};
+ghost use mathlib.Core.List.{[], _∷_};
+ghost use lib.ListN.{length};
+ghost use Rattle.chain.specs.Verdict.{Answer, done, refusal};
+ghost use Rattle.chain.specs.Chain.{pairs};
+ghost use Rattle.verify.specs.Verify.{verifyAnswer, verifyScratch};
+ghost use Rattle.run.specs.Run.{runAnswer, runValues, runFigures};
+ghost use Rattle.spoutbasket.specs.Told.{numberOf, wordsOf};
+use run::Ran;
+use verify::Verified;
+
+// The number returned, and the four words.
+fn tell(number: u32, a: usize, b: usize, c: usize, answer: &mut [u64; 4]) -> u32
+    ensures { λ r. ⌜ (r ≡ number) × (now (answer .exit) ≡ a ∷ b ∷ c ∷ 0 ∷ []) ⌝ }
+{
+    *answer = [a as u64, b as u64, c as u64, 0];
+    number
+}
+
+// The check of a chain against a sheet.
+#[no_mangle]
+pub extern "C" fn spoutbasket_verify(
+    p: usize,
+    steps: &[u32],
+    outputs: &[u32],
+    amounts: &[u32],
+    scratch: &mut [u32],
+    answer: &mut [u64; 4],
+) -> u32
+    ensures { λ r. ⌜ r ≡ numberOf (verifyAnswer p (pairs (now (steps .entry))) (now (outputs .entry)) (now (amounts .entry)) (length (now (scratch .entry)))) ⌝ }
+    ensures { λ r. ⌜ now (answer .exit) ≡ wordsOf (verifyAnswer p (pairs (now (steps .entry))) (now (outputs .entry)) (now (amounts .entry)) (length (now (scratch .entry)))) ⌝ }
+    ensures { λ r. ⌜ now (scratch .exit) ≡ verifyScratch p (pairs (now (steps .entry))) (now (outputs .entry)) (now (amounts .entry)) (now (scratch .entry)) ⌝ }
+{
+    match verify::verify(p, steps, outputs, amounts, scratch) {
+        Verified::Refused(number, place) => tell(number, place, 0, 0, answer),
+        Verified::Passed => tell(0, 0, 0, 0, answer),
+    }
+}
+
+// The run of a chain over residues.
+#[no_mangle]
+pub extern "C" fn spoutbasket_run(
+    p: usize,
+    steps: &[u32],
+    outputs: &[u32],
+    m: u32,
+    bases: &[u32],
+    values: &mut [u32],
+    figures: &mut [u32],
+    answer: &mut [u64; 4],
+) -> u32
+    ensures { λ r. ⌜ r ≡ numberOf (runAnswer p (pairs (now (steps .entry))) (now (outputs .entry)) m (now (bases .entry)) (length (now (values .entry))) (length (now (figures .entry)))) ⌝ }
+    ensures { λ r. ⌜ now (answer .exit) ≡ wordsOf (runAnswer p (pairs (now (steps .entry))) (now (outputs .entry)) m (now (bases .entry)) (length (now (values .entry))) (length (now (figures .entry)))) ⌝ }
+    ensures { λ r. ⌜ now (values .exit) ≡ runValues p (pairs (now (steps .entry))) (now (outputs .entry)) m (now (bases .entry)) (length (now (figures .entry))) (now (values .entry)) ⌝ }
+    ensures { λ r. ⌜ now (figures .exit) ≡ runFigures p (pairs (now (steps .entry))) (now (outputs .entry)) m (now (bases .entry)) (length (now (values .entry))) (now (figures .entry)) ⌝ }
+{
+    match run::run(p, steps, outputs, m, bases, values, figures) {
+        Ran::Refused(number, place) => tell(number, place, 0, 0, answer),
+        Ran::Multiplications(n) => tell(0, n, 0, 0, answer),
+    }
+}

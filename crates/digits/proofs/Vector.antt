@@ -2,7 +2,7 @@
 use mathlib.Core.Bool.{Bool, true, false, cond}
 use mathlib.Core.Path.{_≡_, refl, sym, ap, subst, _∙_}
 use Prim.Native.Nat.{ℕ, zero, suc, _+_, _-_, _*_, _/_, _%_, _^_, _≤_, _<_}
-use native.Mathlib.Nat.{add-comm, add-mul, mul-add, mul-suc, mul-zero, mul-assoc, one-mul, zero-mul, zero-div, zero-mod, div-eq-of-lt, div-div-eq-div-mul, div-add-mod', mod-one, mod-lt, mod-eq-of-lt, add-mul-div-right, add-mul-mod-self-right}
+use native.Mathlib.Nat.{add-comm, add-mul, mul-add, mul-suc, mul-zero, mul-assoc, one-mul, zero-mul, mul-le-mul-right, le-refl, zero-div, zero-mod, div-eq-of-lt, div-div-eq-div-mul, div-add-mod', mod-one, mod-lt, mod-eq-of-lt, add-mul-div-right, add-mul-mod-self-right}
 use native.Mathlib.Decide.{decLt, ℕ-discrete}
 use native.Mathlib.Omega.{arith}
 use lib.Arith.{digits-lt}
@@ -104,6 +104,9 @@ delta-low i j limit h = by-test (eqb i j)
     by-test : (b : Bool) → cond b 1 0 ≤ limit
     by-test true = h
     by-test false = omega arith
+
+pub delta-part : (i j m : ℕ) → delta i j * m ≤ m
+delta-part i j m = rw one-mul at (mul-le-mul-right m (delta-low i j 1 (le-refl 1)))
 
 -- the part of a sum that delta picks
 pub sum-delta : (n : ℕ) (f : ℕ → ℕ) (j : ℕ) → j < n → sumTo n (λ i. delta i j * f i) ≡ f j

@@ -121,6 +121,10 @@ pub sign-pos : (x : ℕ) → sign x ≡ 1 → 0 < x
 sign-pos zero e = absurd (omega arith)
 sign-pos (suc x) e = omega arith
 
+pub sign-sign : (x : ℕ) → sign (sign x) ≡ sign x
+sign-sign zero = refl
+sign-sign (suc x) = refl
+
 pub sign-mono : (x y : ℕ) → x ≤ y → sign x ≤ sign y
 sign-mono zero y h = zero-le
 sign-mono (suc x) y h = omega (arith, sign-some y (omega arith))

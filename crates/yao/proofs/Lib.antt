@@ -1,1 +1,4 @@
 pub mod Gather
+pub mod Rounds
+pub mod Running
+pub mod Cost

@@ -11,7 +11,7 @@ use lib.Pow.{pow-add, pow-pos, pow-lt, high, mod-pow-add}
 use borrow.Author.Tests.{eq-eqb, ne-eqb}
 use Rattle.digits.specs.Digits.{digit}
 use Rattle.digits.specs.Range.{sumTo}
-use Rattle.digits.proofs.Range.{sum-same, sum-add, sum-single}
+use Rattle.digits.proofs.Range.{sum-same, sum-zero, sum-add, sum-single}
 
 pub digit-low : (k x j : ℕ) → digit k x j < 2 ^ k
 digit-low k x j = mod-lt (x / 2 ^ (k * j)) (pow-pos k)
@@ -81,6 +81,9 @@ vector-digits k t (suc n) =
 -- a number below 2^(kn) is that of its n digits
 pub vector-own : (k t n : ℕ) → t < 2 ^ (k * n) → vector k (digit k t) n ≡ t
 vector-own k t n h = vector-digits k t n ∙ mod-eq-of-lt h
+
+pub vector-zero : (k : ℕ) (x : ℕ → ℕ) (n : ℕ) → ((j : ℕ) → j < n → x j ≡ 0) → vector k x n ≡ 0
+vector-zero k x n none = sum-zero n _ (λ j h. ap (λ (d : ℕ). d * 2 ^ (k * j)) (none j h) ∙ zero-mul (2 ^ (k * j)))
 
 pub vector-add : (k : ℕ) (x y : ℕ → ℕ) (n : ℕ) → vector k (λ j. x j + y j) n ≡ vector k x n + vector k y n
 vector-add k x y n = sum-same n _ _ (λ j h. add-mul (x j) (y j) (2 ^ (k * j))) ∙ sum-add n _ _

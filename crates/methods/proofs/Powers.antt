@@ -23,6 +23,11 @@ squarings-count p n (suc c) =
     let some : sign (c + 1) ≡ 1 = sign-some (c + 1) (omega arith) in
     omega (arith, squared-count p (n c) (made (squarings p n c) (c + 1)), squarings-count p n c, ap (λ (s : ℕ). s * n c) some, one-mul (n c))
 
+-- no power is empty
+pub power-some : (p : ℕ) (n : ℕ → ℕ) (c j : ℕ) → 0 < powerOf p n c j
+power-some p n c zero = rw (eq-yes 0 0 refl) (omega arith)
+power-some p n c (suc j) = rw (eq-no (suc j) 0 (omega arith)) (omega arith)
+
 -- the value number of a power is that of its last squaring
 power-last : (p : ℕ) (n : ℕ → ℕ) (c j : ℕ) → powerOf p n c j ≡ squared p j (made (squarings p n c) (c + 1)) .value
 power-last p n c zero = rw (eq-yes 0 0 refl)

@@ -1,8 +1,8 @@
 -- The cost of an amount: a step for each nonzero digit but the first, and one for each value of d up to the largest digit but the first.
 use mathlib.Core.Path.{_≡_, sym, ap, _∙_}
 use mathlib.Core.List.{List}
-use Prim.Native.Nat.{ℕ, zero, suc, _+_, _-_, _*_, _^_, _≤_, _<_, max}
-use native.Mathlib.Nat.{one-mul, zero-mul}
+use Prim.Native.Nat.{ℕ, zero, suc, _+_, _-_, _*_, _^_, _≤_, _<_}
+use native.Mathlib.Nat.{one-mul}
 use native.Mathlib.Omega.{arith}
 use lib.ListN.{length}
 use lib.Pow.{pow-pos}
@@ -11,7 +11,7 @@ use Rattle.digits.specs.Digits.{digit}
 use Rattle.digits.specs.Range.{sumTo, maxTo, sign}
 use Rattle.digits.proofs.Range.{sum-same, sum-zero, sum-add, sum-sign, max-sign, max-low, sign-mono, sign-sign, sign-add, sign-mul, signs-low}
 use Rattle.digits.proofs.Vector.{digit-low, digit-zero, vector-own}
-use Rattle.methods.specs.Product.{Made, made, times}
+use Rattle.methods.specs.Product.{Made, made}
 use Rattle.methods.proofs.Product.{times-cost, times-spent}
 use Rattle.yao.specs.Yao.{gather, Running, running, amountCount}
 use Rattle.yao.proofs.Gather.{gather-count}

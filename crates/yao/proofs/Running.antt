@@ -2,15 +2,14 @@
 use mathlib.Core.Path.{_≡_, sym, ap, _∙_}
 use mathlib.Core.List.{List}
 use Prim.Native.Nat.{ℕ, zero, suc, _+_, _-_, _*_, _^_, _≤_, _<_}
-use native.Mathlib.Nat.{mul-add, mul-zero, zero-mul, le-trans}
+use native.Mathlib.Nat.{mul-add, mul-zero, le-trans}
 use native.Mathlib.Omega.{arith}
 use lib.Pow.{pow-pos}
 use Rattle.chain.specs.declared.Step.{Step}
 use Rattle.chain.proofs.Exponents.{Makes, makes-zero, makes-like}
 use Rattle.digits.specs.Digits.{digit}
 use Rattle.digits.specs.Range.{sign}
-use Rattle.digits.proofs.Range.{sum-zero}
-use Rattle.digits.proofs.Vector.{vector, digit-low, delta, delta-part}
+use Rattle.digits.proofs.Vector.{vector, vector-zero, digit-low, delta, delta-part}
 use Rattle.methods.specs.Product.{Made, made, times}
 use Rattle.methods.proofs.Sound.{Begins, begins-own, begins-on, makes-on, Sound}
 use Rattle.methods.proofs.Product.{Result, result-value, result-like, result-times}
@@ -30,14 +29,14 @@ module _ (p limit k column : ℕ) (power : ℕ → ℕ) (x J : ℕ) {before : Li
     (short : x < 2 ^ (k * J)) (low : x ≤ limit) where
   runs : (n : ℕ) → n < 2 ^ k → Runs p limit k column x J before n (running p k power J x before n)
   runs zero h =
-      let nothing : (f : ℕ → ℕ) → ((j : ℕ) → j < J → f j ≡ 0) → (c : ℕ) → 0 ≡ delta column c * vector k f J =
-      λ f e c. sym (ap (λ (s : ℕ). delta column c * s) (sum-zero J _ (λ j g. ap (λ (s : ℕ). s * 2 ^ (k * j)) (e j g) ∙ zero-mul (2 ^ (k * j)))) ∙ mul-zero (delta column c)) in
       let none : (j : ℕ) → each k x 0 j ≡ 0 = λ j. rounds-none k (digit k x j) (digit-low k x j) in
+      let nothing : (f : ℕ → ℕ) → ((j : ℕ) → f j ≡ 0) → (c : ℕ) → 0 ≡ delta column c * vector k f J =
+      λ f e c. sym (ap (λ (s : ℕ). delta column c * s) (vector-zero k f J (λ j g. e j)) ∙ mul-zero (delta column c)) in
       record {
         sound = sound;
         begins = begins-own before;
-        makes-a = makes-like p _ _ _ _ (λ c g. nothing (each k x 0) (λ j i. none j) c) (makes-zero p before);
-        makes-b = makes-like p _ _ _ _ (λ c g. nothing (in-b k x 0) (λ j i. ap sign (none j)) c) (makes-zero p before);
+        makes-a = makes-like p _ _ _ _ (λ c g. nothing (each k x 0) none c) (makes-zero p before);
+        makes-b = makes-like p _ _ _ _ (λ c g. nothing (in-b k x 0) (λ j. ap sign (none j)) c) (makes-zero p before);
       }
   runs (suc n) h = more (runs n (omega arith))
     where

@@ -11,7 +11,7 @@ use Rattle.chain.specs.declared.Step.{Step}
 use Rattle.chain.proofs.Rules.{eq-yes, eq-no}
 use Rattle.chain.proofs.Exponents.{exponent-zero, Makes, makes-zero, makes-like}
 use Rattle.digits.specs.Range.{sign}
-use Rattle.digits.proofs.Range.{sign-some, sign-pos}
+use Rattle.digits.proofs.Range.{sign-low, sign-some, sign-pos, sign-add}
 use Rattle.methods.specs.Product.{Made, made, ordered, times, squared}
 use Rattle.methods.proofs.Sound.{Begins, begins-own, begins-more, begins-on, Sound, makes-ordered, sound-ordered}
 
@@ -58,13 +58,22 @@ times-cost p m y = by-value (m .value) refl y refl
         rw (times-new p m y (omega arith) (omega arith))
         (record { count = length-append (m .steps) _ ∙ rw (ea, eb); value = rw (both, v) })
 
+-- So the steps, with one more for a product that is not empty, grow by one with each factor that is not empty.
+sign-both : (x y : ℕ) → sign x * sign y + sign (x + y) ≡ sign x + sign y
+sign-both zero y = omega (arith, zero-mul (sign y), sign-add 0 y)
+sign-both (suc x) y = omega (arith, one-mul (sign y), sign-add (suc x) y, sign-low y)
+
+pub times-spent : (p : ℕ) (m : Made) (y : ℕ) → length (times p m y .steps) + sign (times p m y .value) ≡ length (m .steps) + sign (m .value) + sign y
+times-spent p m y =
+    let r = times-cost p m y in
+    omega (arith, r .count, r .value, sign-both (m .value) y)
+
 sign-square : (x : ℕ) → sign x * sign x ≡ sign x
 sign-square zero = refl
 sign-square (suc x) = refl
 
 sign-double : (x : ℕ) → sign (x + x) ≡ sign x
-sign-double zero = refl
-sign-double (suc x) = let e : suc x + suc x ≡ suc (x + suc x) = omega arith in rw e
+sign-double x = omega (arith, sign-add x x)
 
 -- squaring k times: k steps, unless the product is empty
 pub squared-sign : (p k : ℕ) (m : Made) → sign (squared p k m .value) ≡ sign (m .value)

@@ -43,9 +43,11 @@ weigh-vector [] = refl
 weigh-vector (b ∷ l) =
     let n : ℕ = length l in
     let f : ℕ → ℕ = λ j. getD (b ∷ l) j 0 * 2 ^ (1 * j) in
-    let split : sumTo (suc n) f ≡ f 0 + sumTo n (λ j. f (1 + j)) = ap (λ (k : ℕ). sumTo k f) (omega arith) ∙ sum-split 1 n f in
+    let all : suc n ≡ 1 + n = omega arith in
+    let first : sumTo (1 + n) f ≡ sumTo 1 f + sumTo n (λ j. f (1 + j)) = sum-split 1 n f in
+    let split : sumTo (suc n) f ≡ b + sumTo n (λ j. f (1 + j)) = ap (λ (k : ℕ). sumTo k f) all ∙ first ∙ omega arith in
     let rest : sumTo n (λ j. f (1 + j)) ≡ vector 1 (λ j. getD l j 0) n * 2 =
-      sum-same n _ _ (λ j h. shift j) ∙ sum-mul n (λ j. getD l j 0 * 2 ^ (1 * j)) 2 in
+    sum-same n _ _ (λ j h. shift j) ∙ sum-mul n (λ j. getD l j 0 * 2 ^ (1 * j)) 2 in
     omega (arith, split, rest, weigh-vector l)
   where
     shift : (j : ℕ) → getD (b ∷ l) (1 + j) 0 * 2 ^ (1 * (1 + j)) ≡ getD l j 0 * 2 ^ (1 * j) * 2

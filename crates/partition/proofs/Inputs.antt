@@ -1,5 +1,5 @@
 -- Lists over the inputs: column by column, low power first. Which input stands at a place, and sums over all inputs.
-use mathlib.Core.Path.{_≡_, refl, sym, ap, ap₂, subst, _∙_}
+use mathlib.Core.Path.{_≡_, refl, ap₂, _∙_}
 use mathlib.Core.List.{List, [], _∷_, _++_}
 use Prim.Native.Nat.{ℕ, zero, suc, _+_, _-_, _≤_, _<_}
 use native.Mathlib.Decide.{decLt}
@@ -7,7 +7,7 @@ use native.Mathlib.Omega.{arith}
 use lib.ListN.{length, getD, length-append, List·getD-append}
 use lib.Seq.{getD-at, getD-append-add}
 use Rattle.digits.specs.Range.{sumTo}
-use Rattle.digits.proofs.Range.{sum-same, sum-split}
+use Rattle.digits.proofs.Range.{sum-same, sum-split, sum-more}
 use Rattle.partition.specs.Partition.{powersOf, overInputs}
 
 length-powers : (n : ℕ) (f : ℕ → ℕ) → length (powersOf n f) ≡ n
@@ -24,13 +24,6 @@ getD-powers (suc n) f j h = by-place (getD-powers n f j) (decLt j n)
         let last : j ≡ n = omega arith in
         rw last (getD-at (powersOf n f) (f n) [] 0 n (length-powers n f))
 
--- a sum grows with its bound
-pub sum-more : (m n : ℕ) (f : ℕ → ℕ) → m ≤ n → sumTo m f ≤ sumTo n f
-sum-more m n f h =
-    let d : ℕ = n - m in
-    let e : n ≡ m + d = omega arith in
-    subst (λ (k : ℕ). sumTo m f ≤ sumTo k f) (sym e) (omega (arith, sum-split m d f))
-
 module _ (bits : ℕ → ℕ) where
   pub length-over : (f : ℕ → ℕ → ℕ) (n : ℕ) → length (overInputs bits f n) ≡ sumTo n bits
   length-over f zero = refl
@@ -43,9 +36,9 @@ module _ (bits : ℕ → ℕ) where
   getD-over f (suc n) col i h g = by-column (getD-over f n col i) (decLt col n)
     where
       by-column : (col < n → i < bits col → getD (overInputs bits f n) (sumTo col bits + i) 0 ≡ f col i) → Dec (col < n)
-        → getD (overInputs bits f n ++ powersOf (bits n) (f n)) (sumTo col bits + i) 0 ≡ f col i
+          → getD (overInputs bits f n ++ powersOf (bits n) (f n)) (sumTo col bits + i) 0 ≡ f col i
       by-column ih (yes lt) =
-          List·getD-append (overInputs bits f n) _ 0 _ (omega (arith, length-over f n, sum-more (suc col) n bits lt)) ∙ ih lt g
+          List·getD-append (overInputs bits f n) _ 0 _ (omega (arith, length-over f n, sum-more bits (suc col) n lt)) ∙ ih lt g
       by-column ih (no ge) =
           let last : col ≡ n = omega arith in
           let at : sumTo n bits + i ≡ length (overInputs bits f n) + i = omega (arith, length-over f n) in
@@ -72,8 +65,8 @@ module _ (bits : ℕ → ℕ) where
 
   -- a sum over all inputs, column by column
   pub sum-over : (F : ℕ → ℕ) (h : ℕ → ℕ → ℕ) (n : ℕ)
-    → ((col i : ℕ) → col < n → i < bits col → F (sumTo col bits + i) ≡ h col i)
-    → sumTo (sumTo n bits) F ≡ sumTo n (λ col. sumTo (bits col) (h col))
+      → ((col i : ℕ) → col < n → i < bits col → F (sumTo col bits + i) ≡ h col i)
+      → sumTo (sumTo n bits) F ≡ sumTo n (λ col. sumTo (bits col) (h col))
   sum-over F h zero e = refl
   sum-over F h (suc n) e =
       sum-split (sumTo n bits) (bits n) F

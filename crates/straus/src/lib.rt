@@ -8,7 +8,7 @@ ghost use Rattle.digits.specs.Range.{maxTo};
 ghost use Rattle.sheet.specs.Sheet.{amount};
 ghost use Rattle.methods.specs.Emitted.{stepsIn, Room, Stored, Emitted};
 ghost use Rattle.straus.specs.Straus.{bases, strausTable, strausDigits, digitVector, strausPayslip, straus, strausCount};
-use methods::Product;
+use methods::PartialProduct;
 
 // The largest amount of payslip i.
 fn largest(p: usize, amounts: &[u32], i: usize) -> u32
@@ -52,9 +52,9 @@ fn payslip(
     i: usize,
     n: usize,
     steps: &mut [u32],
-) -> Product {
+) -> PartialProduct {
     let mut j = digit_count(p, k, amounts, i);
-    let mut r = Product { n: n, value: 0 };
+    let mut r = PartialProduct { n: n, value: 0 };
     while 0 < j {
         j -= 1;
         let e = methods::entry(k, inputs, (p + 1) as u32, vector(p, k, amounts, i, j));

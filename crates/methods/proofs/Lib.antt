@@ -7,3 +7,4 @@ pub mod Table
 pub mod Entries
 pub mod Emitted
 pub mod Emitters
+pub mod Tabling

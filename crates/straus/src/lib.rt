@@ -116,6 +116,6 @@ pub fn count(p: usize, q: usize, amounts: &[u32], k: usize) -> usize {
 pub fn emit(p: usize, q: usize, amounts: &[u32], k: usize, steps: &mut [u32], outputs: &mut [u32]) {
     let all: [u32; 16] = [1, 2, 3, 4, 5, 6, 7, 8, 9, 10, 11, 12, 13, 14, 15, 16];
     let bases = &all[..p];
-    let n = methods::table(p, k, bases, 0, steps);
+    let n = methods::make_table(p, k, bases, 0, steps);
     payslips(p, q, k, amounts, bases, n, steps, outputs);
 }

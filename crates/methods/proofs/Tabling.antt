@@ -185,11 +185,18 @@ module _ (k : ℕ) (inputs : List ℕ) (at : ℕ) (front : List Step) where
           let last : t ≡ suc T = omega arith in
           rw last (begins-own (After (suc T)))
 
-  pub table-room : (p : ℕ) (old cells : List ℕ) (n s t end T : ℕ) → Room p old n (After T) → end ≡ T → t < end → Stored old cells s (After t)
-      → (2 * s ≤ length cells) × (2 * length (tableNext k inputs at t (stepsIn cells s)) ≤ length cells)
+  table-room : (p : ℕ) (old cells : List ℕ) (n s t end T : ℕ) → Room p old n (After T) → end ≡ T → t < end → Stored old cells s (After t)
+      → Room p cells s (tableNext k inputs at t (stepsIn cells s))
   table-room p old cells n s t end T room is h st =
-      let r = stored-room room st (next-begins k inputs at t (After t)) (rw (← after-next t) (after-begins (t + 1) T (omega arith))) in
-      (r .so-far, rw (stored-is st) (r .cells-hold))
+      rw (stored-is st) (stored-room room st (next-begins k inputs at t (After t)) (rw (← after-next t) (after-begins (t + 1) T (omega arith))))
+
+  pub table-before : (p : ℕ) (old cells : List ℕ) (n s t end T : ℕ) → Room p old n (After T) → end ≡ T → t < end → Stored old cells s (After t)
+      → 2 * s ≤ length cells
+  table-before p old cells n s t end T room is h st = table-room p old cells n s t end T room is h st .so-far
+
+  pub table-holds : (p : ℕ) (old cells : List ℕ) (n s t end T : ℕ) → Room p old n (After T) → end ≡ T → t < end → Stored old cells s (After t)
+      → 2 * length (tableNext k inputs at t (stepsIn cells s)) ≤ length cells
+  table-holds p old cells n s t end T room is h st = table-room p old cells n s t end T room is h st .cells-hold
 
   pub table-on : (old cells cells′ : List ℕ) (s s′ t : ℕ) → Stored old cells s (After t) → Stored cells cells′ s′ (tableNext k inputs at t (stepsIn cells s))
       → Stored old cells′ s′ (After (t + 1))
@@ -205,4 +212,4 @@ module _ (k : ℕ) (inputs : List ℕ) (at : ℕ) (front : List Step) where
 pub table-start : (p k : ℕ) (inputs : List ℕ) (at : ℕ) (cells : List ℕ) (n : ℕ) (steps : List Step) → Room p cells n steps → Stored cells cells n (stepsIn cells n ++ table k inputs at 0)
 table-start p k inputs at cells n steps room = rw (append-nil (stepsIn cells n)) (stored-own cells n (room .so-far))
 
-pub ruleset tabling = (table-start, table-room, table-on, table-end)
+pub ruleset tabling = (table-start, table-before, table-holds, table-on, table-end)

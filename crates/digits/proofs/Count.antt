@@ -80,6 +80,16 @@ pub count-some : (k x : ℕ) → 0 < digitCount k (suc x)
 unfolding digitCount
 count-some k x = suc-le-suc zero-le
 
+-- a number has no more digits than units
+in-few : (f k x : ℕ) → digitsIn f k x ≤ f
+in-few zero k x = zero-le
+in-few (suc f) k zero = zero-le
+in-few (suc f) k (suc x) = suc-le-suc (in-few f k (suc x / 2 ^ k))
+
+pub count-few : (k x : ℕ) → digitCount k x ≤ x
+unfolding digitCount
+count-few k x = in-few x k x
+
 pub none-counted : (k x : ℕ) → digitCount k x ≡ 0 → x ≡ 0
 none-counted k zero e = refl
 none-counted k (suc x) e = absurd (omega (arith, count-some k x))

@@ -1,3 +1,4 @@
 pub mod Range
 pub mod Count
 pub mod Vector
+pub mod Words

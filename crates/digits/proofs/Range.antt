@@ -3,6 +3,7 @@ use mathlib.Core.Path.{_≡_, refl, sym, ap, ap₂, _∙_}
 use Prim.Native.Nat.{ℕ, zero, suc, _+_, _-_, _*_, _≤_, _<_, max, zero-le}
 use native.Mathlib.Nat.{add-mul, suc-mul, zero-mul, le-refl}
 use native.Mathlib.Decide.{decLt}
+use native.Mathlib.Numerals.{add-one}
 use native.Mathlib.Omega.{arith}
 use Rattle.digits.specs.Range.{sumTo, maxTo, sign}
 
@@ -104,6 +105,14 @@ max-attained (suc n) f h = by-size (max-attained n f) (decLt (f n) (maxTo n f))
         record { place = a .place; below = omega (arith, a .below); largest = omega (arith, a .largest) }
     by-size ih (no ge) = record { place = n; below = omega arith; largest = omega arith }
 
+-- one number more, as a loop takes it
+module _ (f : ℕ → ℕ) (n s x : ℕ) (is : x ≡ f n) where
+  pub sum-on : s ≡ sumTo n f → s + x ≡ sumTo (n + 1) f
+  sum-on e = rw (add-one n) (ap₂ _+_ e is)
+
+  pub max-on : s ≡ maxTo n f → max s x ≡ maxTo (n + 1) f
+  max-on e = rw (add-one n) (ap₂ max e is)
+
 -- signs
 pub sign-low : (x : ℕ) → sign x ≤ 1
 sign-low zero = zero-le
@@ -116,6 +125,9 @@ sign-le (suc x) = omega arith
 pub sign-some : (x : ℕ) → 0 < x → sign x ≡ 1
 sign-some zero h = absurd (omega arith)
 sign-some (suc x) h = refl
+
+pub sign-one : (x : ℕ) → (x ≡ 0 → ⊥) → 1 ≡ sign x
+sign-one x h = sym (sign-some x (omega arith))
 
 pub sign-pos : (x : ℕ) → sign x ≡ 1 → 0 < x
 sign-pos zero e = absurd (omega arith)

@@ -5,3 +5,6 @@ pub mod Payslips
 pub mod Powers
 pub mod Table
 pub mod Entries
+pub mod Emitted
+pub mod Emitters
+pub mod Tabling

@@ -1,3 +1,4 @@
 pub mod Product
 pub mod Table
 pub mod Powers
+pub mod Emitted

@@ -2,3 +2,4 @@ pub mod Bases
 pub mod Horner
 pub mod Payslip
 pub mod Straus
+pub mod Counting

@@ -1,0 +1,13 @@
+use borrow.Author.Needs.{needs}
+use Rattle.digits.proofs.Range.{sign-one}
+use Rattle.digits.proofs.sign.Statement.{statement}
+use Rattle.digits.proofs.sign.Tie as tie
+
+returns : tie.Need-returns
+returns c = search needs
+
+returns-2 : tie.Need-returns-2
+returns-2 c = search sign-one
+
+pub sign-spec : {M : Type 1} → statement M
+sign-spec = tie.close (tie.spec returns returns-2)

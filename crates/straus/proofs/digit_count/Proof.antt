@@ -1,0 +1,16 @@
+use borrow.Author.Needs.{needs}
+use Rattle.straus.proofs.Counting.{digits-told}
+use Rattle.straus.proofs.digit_count.Statement.{statement}
+use Rattle.straus.proofs.digit_count.Tie as tie
+
+largest-requires : tie.Need-largest-requires
+largest-requires c κs = search needs
+
+digit-count-requires : tie.Need-digit-count-requires
+digit-count-requires c κs = search needs
+
+returns : tie.Need-returns
+returns c = search digits-told
+
+pub digit-count-spec : {M : Type 1} → statement M
+digit-count-spec = tie.close (tie.spec largest-requires digit-count-requires returns)

@@ -2,6 +2,7 @@
 use mathlib.Core.Bool.{cond}
 use mathlib.Core.List.{List, []}
 use Prim.Native.Nat.{ℕ, zero, suc, _+_}
+use lib.ListN.{getD}
 use Rattle.chain.specs.Tests.{_=?_}
 use Rattle.chain.specs.declared.Step.{Step}
 use Rattle.digits.specs.Range.{sumTo, maxTo}
@@ -16,6 +17,10 @@ largestIn p q amounts c = maxTo q (λ i. amount p amounts i c)
 abbrev pub squarings : ℕ → (ℕ → ℕ) → ℕ → List Step
 squarings p n zero = []
 squarings p n (suc c) = squared p (n c) (made (squarings p n c) (c + 1)) .steps
+
+-- how often each column is squared, given as a list
+abbrev pub countsOf : List ℕ → ℕ → ℕ
+countsOf counts c = getD counts c 0
 
 -- the value number of column c's base after j squarings: the base itself, or one of the values after those of the columns before
 abbrev pub powerOf : ℕ → (ℕ → ℕ) → ℕ → ℕ → ℕ

@@ -2,7 +2,6 @@
 use mathlib.Core.Path.{_≡_, refl, sym, ap, _∙_}
 use mathlib.Core.List.{List}
 use Prim.Native.Nat.{ℕ, zero, suc, _+_, _*_, _^_, _≤_, _<_, max}
-use native.Mathlib.Decide.{decLt}
 use native.Mathlib.Numerals.{add-one}
 use native.Mathlib.Omega.{arith}
 use lib.ListN.{length, getD}
@@ -12,7 +11,7 @@ use Rattle.sheet.specs.Sheet.{amount}
 use Rattle.methods.specs.Product.{made, squared}
 use Rattle.methods.specs.Powers.{largestIn, countsOf, squarings}
 use Rattle.methods.specs.Emitted.{stepsIn, Room, Stored, Emitted}
-use Rattle.methods.proofs.Sound.{Begins, begins-own, begins-on}
+use Rattle.methods.proofs.Sound.{Begins, begins-rise}
 use Rattle.methods.proofs.Product.{squared-begins}
 use Rattle.methods.proofs.Emitted.{stored-own, emits-room, emits-on}
 
@@ -38,13 +37,7 @@ pub ruleset finding-largest = (column-start, column-on, column-end)
 
 -- the squarings of fewer columns are made first
 pub squarings-begin : (p : ℕ) (n : ℕ → ℕ) (c d : ℕ) → c ≤ d → Begins (squarings p n c) (squarings p n d)
-squarings-begin p n zero zero h = begins-own _
-squarings-begin p n (suc c) zero h = absurd (omega arith)
-squarings-begin p n c (suc d) h = by-place (squarings-begin p n c d) (decLt d c)
-  where
-    by-place : (c ≤ d → Begins (squarings p n c) (squarings p n d)) → Dec (d < c) → Begins (squarings p n c) (squarings p n (suc d))
-    by-place ih (yes lt) = let last : c ≡ suc d = omega arith in rw last (begins-own (squarings p n (suc d)))
-    by-place ih (no ge) = begins-on (ih (omega arith)) (squared-begins p (made (squarings p n d) (d + 1)) 0 (n d) (omega arith))
+squarings-begin p n = begins-rise (squarings p n) (λ c. squared-begins p (made (squarings p n c) (c + 1)) 0 (n c) (omega arith))
 
 -- counts that agree give the same squarings
 pub squarings-same : (p : ℕ) (n m : ℕ → ℕ) (c : ℕ) → ((d : ℕ) → d < c → n d ≡ m d) → squarings p n c ≡ squarings p m c

@@ -3,7 +3,6 @@ use mathlib.Core.Path.{_≡_, refl, sym, ap, _∙_}
 use mathlib.Core.List.{List, [], _∷_, _++_}
 use Prim.Native.Nat.{ℕ, zero, suc, _+_, _*_, _^_, _≤_, _<_}
 use native.Mathlib.Nat.{mul-one, one-mul, mul-zero, zero-mul, mul-suc, mul-assoc, pow-suc}
-use native.Mathlib.Decide.{decLe}
 use native.Mathlib.Omega.{arith}
 use lib.ListN.{length, length-append}
 use Rattle.chain.specs.Chain.{exponentOf}
@@ -13,7 +12,7 @@ use Rattle.chain.proofs.Exponents.{exponent-zero, Makes, makes-zero, makes-like
 use Rattle.digits.specs.Range.{sign}
 use Rattle.digits.proofs.Range.{sign-low, sign-some, sign-pos, sign-add}
 use Rattle.methods.specs.Product.{Made, made, ordered, times, squared}
-use Rattle.methods.proofs.Sound.{Begins, begins-own, begins-more, begins-on, Sound, makes-ordered, sound-ordered}
+use Rattle.methods.proofs.Sound.{Begins, begins-own, begins-more, begins-on, begins-rise, Sound, makes-ordered, sound-ordered}
 
 -- the three cases of a product: an empty one, an empty factor, and a step
 module _ (p : ℕ) (m : Made) (y : ℕ) where
@@ -98,15 +97,7 @@ squared-last p k m h =
 
 -- fewer squarings are made on the way
 pub squared-begins : (p : ℕ) (m : Made) (j k : ℕ) → j ≤ k → Begins (squared p j m .steps) (squared p k m .steps)
-squared-begins p m zero zero h = begins-own (m .steps)
-squared-begins p m (suc j) zero h = absurd (omega arith)
-squared-begins p m j (suc k) h = by-place (squared-begins p m j k) (decLe j k)
-  where
-    by-place : (j ≤ k → Begins (squared p j m .steps) (squared p k m .steps)) → Dec (j ≤ k) → Begins (squared p j m .steps) (squared p (suc k) m .steps)
-    by-place ih (yes le) = begins-on (ih le) (times-begins p (squared p k m) (squared p k m .value))
-    by-place ih (no gt) =
-        let last : j ≡ suc k = omega arith in
-        rw last (begins-own (squared p (suc k) m .steps))
+squared-begins p m = begins-rise (λ i. squared p i m .steps) (λ i. times-begins p (squared p i m) (squared p i m .value))
 
 -- After the steps before, a product with the exponents x.
 pub record Result (p limit : ℕ) (before : List Step) (m : Made) (x : ℕ → ℕ) : Type 0 where

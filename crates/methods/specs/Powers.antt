@@ -22,6 +22,9 @@ squarings p n (suc c) = squared p (n c) (made (squarings p n c) (c + 1)) .steps
 abbrev pub countsOf : List ℕ → ℕ → ℕ
 countsOf counts c = getD counts c 0
 
--- the value number of column c's base after j squarings: the base itself, or one of the values after those of the columns before
+-- the value number of column c's base after j squarings: the base itself, or one of the values after first, the last of the columns before
+abbrev pub powerAt : ℕ → ℕ → ℕ → ℕ
+powerAt c first j = cond (j =? 0) (c + 1) (first + j)
+
 abbrev pub powerOf : ℕ → (ℕ → ℕ) → ℕ → ℕ → ℕ
-powerOf p n c j = cond (j =? 0) (c + 1) (p + sumTo c n + j)
+powerOf p n c j = powerAt c (p + sumTo c n) j

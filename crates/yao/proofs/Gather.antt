@@ -20,11 +20,11 @@ use Rattle.yao.specs.Yao.{gatherOne, gather}
 
 -- one power: a product where the digit is d, else nothing
 module _ (p y d : ℕ) (b : Made) (power : ℕ) where
-  one-yes : y ≡ d → gatherOne p y d b power ≡ times p b power
+  pub one-yes : y ≡ d → gatherOne p y d b power ≡ times p b power
   unfolding gatherOne
   one-yes e = rw (eq-yes y d e)
 
-  one-no : (y ≡ d → ⊥) → gatherOne p y d b power ≡ b
+  pub one-no : (y ≡ d → ⊥) → gatherOne p y d b power ≡ b
   unfolding gatherOne
   one-no ne = rw (eq-no y d ne)
 

@@ -4,3 +4,4 @@ pub mod Running
 pub mod Cost
 pub mod Payslip
 pub mod Yao
+pub mod Emitting

@@ -28,7 +28,7 @@ fn largest(p: usize, amounts: &[u32], i: usize) -> u32
 // How many digits its largest amount has.
 fn digit_count(p: usize, k: usize, amounts: &[u32], i: usize) -> usize
     requires { ⌜ (i * p + p ≤ length (now amounts)) × (0 < k) × (k < 32) ⌝ }
-    ensures { λ r. ⌜ r ≡ strausDigits p k (now (amounts .entry)) i ⌝ }
+    ensures { λ r. ⌜ (r ≡ strausDigits p k (now (amounts .entry)) i) × (k * (r - 1) < 32) ⌝ }
 {
     digits::digit_count(k, largest(p, amounts, i))
 }
@@ -46,4 +46,37 @@ fn vector(p: usize, k: usize, amounts: &[u32], i: usize, j: usize) -> u32
         c += 1;
     }
     v
+}
+
+// The steps of payslip i.
+fn payslip_count(p: usize, k: usize, amounts: &[u32], i: usize) -> usize
+    requires { ⌜ (i * p + p ≤ length (now amounts)) × (0 < k) × (k < 32) × (k * p < 32) ⌝ }
+    ensures { λ r. ⌜ (r ≡ (strausDigits p k (now (amounts .entry)) i - 1) * k + sumTo (strausDigits p k (now (amounts .entry)) i - 1) (λ j. sign (digitVector p k (now (amounts .entry)) i j))) × (r ≤ 62) ⌝ }
+{
+    let digits = digit_count(p, k, amounts, i);
+    if digits == 0 {
+        return 0;
+    }
+    let lower = digits - 1;
+    let mut n = lower * k;
+    let mut j: usize = 0;
+    while j < lower {
+        n += digits::sign(vector(p, k, amounts, i, j));
+        j += 1;
+    }
+    n
+}
+
+// The number of steps of the chain.
+pub fn count(p: usize, q: usize, amounts: &[u32], k: usize) -> usize
+    requires { ⌜ (1 ≤ p) × (p ≤ mostColumns) × (q ≤ mostPayslips) × (length (now amounts) ≡ p * q) × (1 ≤ k) × (k ≤ 5) × (p * k ≤ 10) ⌝ }
+    ensures { λ r. ⌜ r ≡ strausCount p q (now (amounts .entry)) k ⌝ }
+{
+    let mut n = digits::power(p * k) as usize - p - 1;
+    let mut i: usize = 0;
+    while i < q {
+        n += payslip_count(p, k, amounts, i);
+        i += 1;
+    }
+    n
 }

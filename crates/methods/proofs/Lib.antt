@@ -8,3 +8,4 @@ pub mod Entries
 pub mod Emitted
 pub mod Emitters
 pub mod Tabling
+pub mod Paying

@@ -3,3 +3,4 @@ pub mod Horner
 pub mod Payslip
 pub mod Straus
 pub mod Counting
+pub mod Emitting

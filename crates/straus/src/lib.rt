@@ -80,3 +80,77 @@ pub fn count(p: usize, q: usize, amounts: &[u32], k: usize) -> usize
     }
     n
 }
+
+// One digit more of a product: squared k times, then times value y.
+fn take_digit(p: usize, k: usize, m: PartialProduct, y: u32, steps: &mut [u32]) -> PartialProduct
+    requires { ⌜ Room p (now steps) (m .n) (times p (squared p k (made (stepsIn (now steps) (m .n)) (m .value))) y .steps) ⌝ }
+    ensures { λ r. ⌜ Emitted (now (steps .entry)) (now (steps .exit)) (r .n) (r .value) (times p (squared p k (made (stepsIn (now (steps .entry)) (m .n)) (m .value))) y) ⌝ }
+{
+    let s = methods::squared(p, k, m, steps);
+    methods::times(p, s, y, steps)
+}
+
+// Payslip i after n steps, by Horner's rule over its digits.
+fn make_payslip(
+    p: usize,
+    k: usize,
+    amounts: &[u32],
+    inputs: &[u32],
+    i: usize,
+    n: usize,
+    steps: &mut [u32],
+) -> PartialProduct
+    requires { ⌜ (i * p + p ≤ length (now amounts)) × (0 < k) × (k < 32) × (p + k * p < 32) × (now inputs ≡ bases p) ⌝ }
+    requires { ⌜ Room p (now steps) n (strausPayslip p k (now amounts) i (stepsIn (now steps) n) .steps) ⌝ }
+    ensures { λ r. ⌜ Emitted (now (steps .entry)) (now (steps .exit)) (r .n) (r .value) (strausPayslip p k (now (amounts .entry)) i (stepsIn (now (steps .entry)) n)) ⌝ }
+{
+    let digits = digit_count(p, k, amounts, i);
+    let mut r = PartialProduct { n: n, value: 0 };
+    let mut d: usize = 0;
+    while d < digits {
+        let t = vector(p, k, amounts, i, digits - (d + 1));
+        let e = methods::entry(k, inputs, (p + 1) as u32, t);
+        r = take_digit(p, k, r, e, steps);
+        d += 1;
+    }
+    r
+}
+
+// The payslips in order after n steps: their steps, and their products as outputs.
+fn make_payslips(
+    p: usize,
+    q: usize,
+    k: usize,
+    amounts: &[u32],
+    inputs: &[u32],
+    n: usize,
+    steps: &mut [u32],
+    outputs: &mut [u32],
+)
+    requires { ⌜ (length (now amounts) ≡ p * q) × (0 < k) × (k < 32) × (p + k * p < 32) × (now inputs ≡ bases p) × (q ≤ length (now outputs)) ⌝ }
+    requires { ⌜ Room p (now steps) n (payslips (strausPayslip p k (now amounts)) (stepsIn (now steps) n) q .steps) ⌝ }
+    ensures { λ r. ⌜ now (steps .exit) ≡ over (flat (payslips (strausPayslip p k (now (amounts .entry))) (stepsIn (now (steps .entry)) n) q .steps)) (now (steps .entry)) ⌝ }
+    ensures { λ r. ⌜ now (outputs .exit) ≡ over (payslips (strausPayslip p k (now (amounts .entry))) (stepsIn (now (steps .entry)) n) q .outputs) (now (outputs .entry)) ⌝ }
+{
+    let mut s = n;
+    let mut i: usize = 0;
+    while i < q {
+        let r = make_payslip(p, k, amounts, inputs, i, s, steps);
+        s = r.n;
+        outputs[i] = r.value;
+        i += 1;
+    }
+}
+
+// The chain: its steps, first and second in turn, and its outputs.
+pub fn emit(p: usize, q: usize, amounts: &[u32], k: usize, steps: &mut [u32], outputs: &mut [u32])
+    requires { ⌜ (1 ≤ p) × (p ≤ mostColumns) × (q ≤ mostPayslips) × (length (now amounts) ≡ p * q) × (1 ≤ k) × (k ≤ 5) × (p * k ≤ 10) ⌝ }
+    requires { ⌜ (2 * strausCount p q (now amounts) k ≤ length (now steps)) × (q ≤ length (now outputs)) ⌝ }
+    ensures { λ r. ⌜ now (steps .exit) ≡ over (flat (straus p q (now (amounts .entry)) k .steps)) (now (steps .entry)) ⌝ }
+    ensures { λ r. ⌜ now (outputs .exit) ≡ over (straus p q (now (amounts .entry)) k .outputs) (now (outputs .entry)) ⌝ }
+{
+    let all: [u32; 16] = [1, 2, 3, 4, 5, 6, 7, 8, 9, 10, 11, 12, 13, 14, 15, 16];
+    let inputs = &all[..p];
+    let n = methods::make_table(p, k, inputs, 0, steps);
+    make_payslips(p, q, k, amounts, inputs, n, steps, outputs);
+}

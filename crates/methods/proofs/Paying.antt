@@ -42,7 +42,7 @@ module _ (slip : ℕ → List Step → Made) (start : List Step) (i q : ℕ) (h 
       rw last e
 
 module _ (slip : ℕ → List Step → Made) (start : List Step) (each : (i : ℕ) (before : List Step) → Begins before (slip i before .steps)) where
-  paid-begins : (i q : ℕ) → i ≤ q → Begins (payslips slip start i .steps) (payslips slip start q .steps)
+  pub paid-begins : (i q : ℕ) → i ≤ q → Begins (payslips slip start i .steps) (payslips slip start q .steps)
   paid-begins zero zero h = begins-own start
   paid-begins (suc i) zero h = absurd (omega arith)
   paid-begins i (suc q) h = by-place (paid-begins i q) (decLe i q)

@@ -96,7 +96,7 @@ module _ (p k : ℕ) (amounts : List ℕ) (i d : ℕ) where
       omega (arith, sum-on (λ l. sign (digitVector p k amounts i l)) j (signsTo p k amounts i j) r (told ∙ ap sign is) refl)
 
   -- the squarings are below 32, and so are the other steps
-  cost-low : 0 < k → k * (d - 1) < 32 → (j : ℕ) → j ≤ d - 1 → (d - 1) * k + signsTo p k amounts i j ≤ 62
+  pub cost-low : 0 < k → k * (d - 1) < 32 → (j : ℕ) → j ≤ d - 1 → (d - 1) * k + signsTo p k amounts i j ≤ 62
   cost-low some room j h =
       omega (arith, mul-comm k (d - 1), signs-low j (digitVector p k amounts i), mul-le-mul-right (d - 1) some)
 

@@ -4,3 +4,4 @@ pub mod Payslip
 pub mod Straus
 pub mod Counting
 pub mod Emitting
+pub mod Whole

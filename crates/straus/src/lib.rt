@@ -142,6 +142,25 @@ fn make_payslips(
     }
 }
 
+// The table of the bases, then the payslips.
+fn make_chain(
+    p: usize,
+    q: usize,
+    amounts: &[u32],
+    k: usize,
+    inputs: &[u32],
+    steps: &mut [u32],
+    outputs: &mut [u32],
+)
+    requires { ⌜ (p ≤ mostColumns) × (q ≤ mostPayslips) × (length (now amounts) ≡ p * q) × (1 ≤ k) × (k ≤ 5) × (p * k ≤ 10) × (now inputs ≡ bases p) ⌝ }
+    requires { ⌜ (2 * strausCount p q (now amounts) k ≤ length (now steps)) × (q ≤ length (now outputs)) ⌝ }
+    ensures { λ r. ⌜ now (steps .exit) ≡ over (flat (straus p q (now (amounts .entry)) k .steps)) (now (steps .entry)) ⌝ }
+    ensures { λ r. ⌜ now (outputs .exit) ≡ over (straus p q (now (amounts .entry)) k .outputs) (now (outputs .entry)) ⌝ }
+{
+    let n = methods::make_table(p, k, inputs, 0, steps);
+    make_payslips(p, q, k, amounts, inputs, n, steps, outputs);
+}
+
 // The chain: its steps, first and second in turn, and its outputs.
 pub fn emit(p: usize, q: usize, amounts: &[u32], k: usize, steps: &mut [u32], outputs: &mut [u32])
     requires { ⌜ (1 ≤ p) × (p ≤ mostColumns) × (q ≤ mostPayslips) × (length (now amounts) ≡ p * q) × (1 ≤ k) × (k ≤ 5) × (p * k ≤ 10) ⌝ }
@@ -150,7 +169,5 @@ pub fn emit(p: usize, q: usize, amounts: &[u32], k: usize, steps: &mut [u32], ou
     ensures { λ r. ⌜ now (outputs .exit) ≡ over (straus p q (now (amounts .entry)) k .outputs) (now (outputs .entry)) ⌝ }
 {
     let all: [u32; 16] = [1, 2, 3, 4, 5, 6, 7, 8, 9, 10, 11, 12, 13, 14, 15, 16];
-    let inputs = &all[..p];
-    let n = methods::make_table(p, k, inputs, 0, steps);
-    make_payslips(p, q, k, amounts, inputs, n, steps, outputs);
+    make_chain(p, q, amounts, k, &all[..p], steps, outputs);
 }

@@ -8,4 +8,5 @@ pub mod Entries
 pub mod Emitted
 pub mod Emitters
 pub mod Tabling
+pub mod Paying
 pub mod Columns

@@ -2,16 +2,17 @@
 use mathlib.Core.Path.{_≡_, refl, sym, ap, ap₂, _∙_}
 use mathlib.Core.List.{List}
 use Prim.Native.Nat.{ℕ, zero, suc, _+_, _-_, _*_, _^_, _≤_, _<_, max}
-use native.Mathlib.Nat.{mul-le-mul-left, lt-of-lt-of-le}
+use native.Mathlib.Nat.{add-mul, mul-comm, mul-one, one-mul, mul-zero, zero-mul, pow-suc, mul-le-mul-left, mul-le-mul-right, lt-of-lt-of-le}
 use native.Mathlib.Numerals.{add-one}
 use native.Mathlib.Omega.{arith}
 use lib.Pow.{pow-mono}
 use Rattle.digits.specs.Digits.{digitCount, digit}
 use Rattle.digits.specs.Range.{sumTo, maxTo, sign}
-use Rattle.digits.proofs.Range.{sum-on, max-on}
+use Rattle.digits.proofs.Range.{sum-on, max-on, sign-low, signs-low}
 use Rattle.digits.proofs.Vector.{digit-low, vector-low}
+use Rattle.digits.proofs.Words.{digit-place}
 use Rattle.sheet.specs.Sheet.{amount}
-use Rattle.straus.specs.Straus.{strausDigits, digitVector}
+use Rattle.straus.specs.Straus.{strausDigits, digitVector, strausCount}
 
 -- the largest amount of payslip i: that of its first c columns, with the next
 abbrev pub largestTo : ℕ → List ℕ → ℕ → ℕ → ℕ
@@ -30,6 +31,10 @@ largest-end p amounts i c most h g e =
 pub digits-told : (p k : ℕ) (amounts : List ℕ) (i x r : ℕ) → r ≡ digitCount k x → x ≡ maxTo p (amount p amounts i) → r ≡ strausDigits p k amounts i
 unfolding strausDigits
 digits-told p k amounts i x r e is = e ∙ ap (digitCount k) is
+
+pub digits-fit : (k x r : ℕ) → 0 < k → x < 2 ^ 32 → r ≡ digitCount k x → k * (r - 1) < 32
+digits-fit k x zero some low e = rw (mul-zero k) (omega arith)
+digits-fit k x (suc r) some low e = digit-place k x (suc r - 1) some low (omega arith)
 
 pub ruleset maximising = (largest-on, largest-end)
 
@@ -63,3 +68,75 @@ vector-end p k amounts i j c v h g e =
     e ∙ ap (vectorTo p k amounts i j) last
 
 pub ruleset adding = (weight-fits, vector-on, vector-fits, term-fits, vector-end)
+
+-- the digits below the top one: how many of their vectors are not zero, of the first n
+abbrev pub signsTo : ℕ → ℕ → List ℕ → ℕ → ℕ → ℕ
+signsTo p k amounts i n = sumTo n (λ j. sign (digitVector p k amounts i j))
+
+-- the steps of payslip i
+abbrev pub payslipCost : ℕ → ℕ → List ℕ → ℕ → ℕ
+payslipCost p k amounts i = (strausDigits p k amounts i - 1) * k + signsTo p k amounts i (strausDigits p k amounts i - 1)
+
+module _ (p k : ℕ) (amounts : List ℕ) (i d : ℕ) where
+  pub lower-place : (j : ℕ) → k * (d - 1) < 32 → j < d - 1 → k * j < 32
+  lower-place j room h =
+      let le : j ≤ d - 1 = omega arith in
+      omega (arith, mul-le-mul-left k le)
+
+  pub cost-none : d ≡ strausDigits p k amounts i → d ≡ 0 → 0 ≡ payslipCost p k amounts i
+  cost-none e z =
+      let none : strausDigits p k amounts i - 1 ≡ 0 = omega arith in
+      rw none (omega (arith, zero-mul k))
+
+  pub squarings-fit : k * (d - 1) < 32 → (d - 1) * k < 32
+  squarings-fit room = omega (arith, mul-comm k (d - 1))
+
+  pub signs-on : (n j v r b : ℕ) → v ≡ digitVector p k amounts i j → r ≡ sign v → n ≡ b + signsTo p k amounts i j → n + r ≡ b + signsTo p k amounts i (j + 1)
+  signs-on n j v r b is told e =
+      omega (arith, sum-on (λ l. sign (digitVector p k amounts i l)) j (signsTo p k amounts i j) r (told ∙ ap sign is) refl)
+
+  -- the squarings are below 32, and so are the other steps
+  pub cost-low : 0 < k → k * (d - 1) < 32 → (j : ℕ) → j ≤ d - 1 → (d - 1) * k + signsTo p k amounts i j ≤ 62
+  cost-low some room j h =
+      omega (arith, mul-comm k (d - 1), signs-low j (digitVector p k amounts i), mul-le-mul-right (d - 1) some)
+
+  pub sum-fits : (n j v r : ℕ) → 0 < k → k * (d - 1) < 32 → j < d - 1 → r ≡ sign v → n ≡ (d - 1) * k + signsTo p k amounts i j → n + r < 64
+  sum-fits n j v r some room h told e = omega (arith, cost-low some room j (omega arith), sign-low v)
+
+  pub cost-all : (n j : ℕ) → d ≡ strausDigits p k amounts i → j ≤ d - 1 → d - 1 ≤ j → n ≡ (d - 1) * k + signsTo p k amounts i j → n ≡ payslipCost p k amounts i
+  cost-all n j e h g is =
+      let last : j ≡ d - 1 = omega arith in
+      rw (← e) (is ∙ ap (λ (m : ℕ). (d - 1) * k + signsTo p k amounts i m) last)
+
+  pub cost-few : (n j : ℕ) → 0 < k → k * (d - 1) < 32 → j ≤ d - 1 → n ≡ (d - 1) * k + signsTo p k amounts i j → n ≤ 62
+  cost-few n j some room h e = omega (arith, cost-low some room j h)
+
+-- the steps of the first n payslips
+abbrev pub costsTo : ℕ → ℕ → List ℕ → ℕ → ℕ
+costsTo p k amounts n = sumTo n (λ i. payslipCost p k amounts i)
+
+below-power : (n : ℕ) → n < 2 ^ n
+below-power zero = omega arith
+below-power (suc n) = omega (arith, below-power n, pow-suc 2 n)
+
+-- w is the size of the table
+pub columns-below : (p k w : ℕ) → w ≡ 2 ^ (p * k) → 1 ≤ k → p + 1 ≤ w
+columns-below p k w e some =
+    let wide : p ≤ p * k = omega (arith, mul-le-mul-left p some, mul-one p) in
+    let grown : 2 ^ p ≤ 2 ^ (p * k) = pow-mono wide in
+    omega (arith, below-power p)
+
+-- payslip i is on the sheet
+pub payslip-within : (p q i n : ℕ) → n ≡ p * q → i < q → i * p + p ≤ n
+payslip-within p q i n e h =
+    let le : i + 1 ≤ q = omega arith in
+    omega (arith, mul-le-mul-right p le, add-mul i 1 p, one-mul p, mul-comm p q)
+
+pub costs-on : (p k : ℕ) (amounts : List ℕ) (n i r b : ℕ) → r ≡ payslipCost p k amounts i → n ≡ b + costsTo p k amounts i → n + r ≡ b + costsTo p k amounts (i + 1)
+costs-on p k amounts n i r b is e = omega (arith, sum-on (payslipCost p k amounts) i (costsTo p k amounts i) r is refl)
+
+pub count-all : (p q : ℕ) (amounts : List ℕ) (k n i w : ℕ) → w ≡ 2 ^ (p * k) → i ≤ q → q ≤ i → n ≡ w - p - 1 + costsTo p k amounts i → n ≡ strausCount p q amounts k
+unfolding strausCount
+count-all p q amounts k n i w e h g is =
+    let last : i ≡ q = omega arith in
+    is ∙ ap₂ (λ (a b : ℕ). a - p - 1 + costsTo p k amounts b) e last

@@ -3,3 +3,5 @@ pub mod Horner
 pub mod Payslip
 pub mod Straus
 pub mod Counting
+pub mod Emitting
+pub mod Whole

@@ -24,7 +24,7 @@ use Rattle.straus.proofs.Horner.{horner-all, horner-count}
 
 module _ (p k : ℕ) (some : 0 < k) (amounts : List ℕ) (i : ℕ) where
   -- a vector of digits is an entry of the table
-  in-table : (j : ℕ) → digitVector p k amounts i j < 2 ^ (k * p)
+  pub in-table : (j : ℕ) → digitVector p k amounts i j < 2 ^ (k * p)
   in-table j = vector-low k (λ c. digit k (amount p amounts i c) j) p (λ c h. digit-low k (amount p amounts i c) j)
 
   -- the largest amount has J digits, so none has more

@@ -28,7 +28,7 @@ fn largest(p: usize, amounts: &[u32], i: usize) -> u32
 // How many digits its largest amount has.
 fn digit_count(p: usize, k: usize, amounts: &[u32], i: usize) -> usize
     requires { ⌜ (i * p + p ≤ length (now amounts)) × (0 < k) × (k < 32) ⌝ }
-    ensures { λ r. ⌜ r ≡ strausDigits p k (now (amounts .entry)) i ⌝ }
+    ensures { λ r. ⌜ (r ≡ strausDigits p k (now (amounts .entry)) i) × (k * (r - 1) < 32) ⌝ }
 {
     digits::digit_count(k, largest(p, amounts, i))
 }
@@ -46,4 +46,128 @@ fn vector(p: usize, k: usize, amounts: &[u32], i: usize, j: usize) -> u32
         c += 1;
     }
     v
+}
+
+// The steps of payslip i.
+fn payslip_count(p: usize, k: usize, amounts: &[u32], i: usize) -> usize
+    requires { ⌜ (i * p + p ≤ length (now amounts)) × (0 < k) × (k < 32) × (k * p < 32) ⌝ }
+    ensures { λ r. ⌜ (r ≡ (strausDigits p k (now (amounts .entry)) i - 1) * k + sumTo (strausDigits p k (now (amounts .entry)) i - 1) (λ j. sign (digitVector p k (now (amounts .entry)) i j))) × (r ≤ 62) ⌝ }
+{
+    let digits = digit_count(p, k, amounts, i);
+    if digits == 0 {
+        return 0;
+    }
+    let lower = digits - 1;
+    let mut n = lower * k;
+    let mut j: usize = 0;
+    while j < lower {
+        n += digits::sign(vector(p, k, amounts, i, j));
+        j += 1;
+    }
+    n
+}
+
+// The number of steps of the chain.
+pub fn count(p: usize, q: usize, amounts: &[u32], k: usize) -> usize
+    requires { ⌜ (1 ≤ p) × (p ≤ mostColumns) × (q ≤ mostPayslips) × (length (now amounts) ≡ p * q) × (1 ≤ k) × (k ≤ 5) × (p * k ≤ 10) ⌝ }
+    ensures { λ r. ⌜ r ≡ strausCount p q (now (amounts .entry)) k ⌝ }
+{
+    let mut n = digits::power(p * k) as usize - p - 1;
+    let mut i: usize = 0;
+    while i < q {
+        n += payslip_count(p, k, amounts, i);
+        i += 1;
+    }
+    n
+}
+
+// One digit more of a product: squared k times, then times value y.
+fn take_digit(p: usize, k: usize, m: PartialProduct, y: u32, steps: &mut [u32]) -> PartialProduct
+    requires { ⌜ Room p (now steps) (m .n) (times p (squared p k (made (stepsIn (now steps) (m .n)) (m .value))) y .steps) ⌝ }
+    ensures { λ r. ⌜ Emitted (now (steps .entry)) (now (steps .exit)) (r .n) (r .value) (times p (squared p k (made (stepsIn (now (steps .entry)) (m .n)) (m .value))) y) ⌝ }
+{
+    let s = methods::squared(p, k, m, steps);
+    methods::times(p, s, y, steps)
+}
+
+// Payslip i after n steps, by Horner's rule over its digits.
+fn make_payslip(
+    p: usize,
+    k: usize,
+    amounts: &[u32],
+    inputs: &[u32],
+    i: usize,
+    n: usize,
+    steps: &mut [u32],
+) -> PartialProduct
+    requires { ⌜ (i * p + p ≤ length (now amounts)) × (0 < k) × (k < 32) × (p + k * p < 32) × (now inputs ≡ bases p) ⌝ }
+    requires { ⌜ Room p (now steps) n (strausPayslip p k (now amounts) i (stepsIn (now steps) n) .steps) ⌝ }
+    ensures { λ r. ⌜ Emitted (now (steps .entry)) (now (steps .exit)) (r .n) (r .value) (strausPayslip p k (now (amounts .entry)) i (stepsIn (now (steps .entry)) n)) ⌝ }
+{
+    let digits = digit_count(p, k, amounts, i);
+    let mut r = PartialProduct { n: n, value: 0 };
+    let mut d: usize = 0;
+    while d < digits {
+        let t = vector(p, k, amounts, i, digits - (d + 1));
+        let e = methods::entry(k, inputs, (p + 1) as u32, t);
+        r = take_digit(p, k, r, e, steps);
+        d += 1;
+    }
+    r
+}
+
+// The payslips in order after n steps: their steps, and their products as outputs.
+fn make_payslips(
+    p: usize,
+    q: usize,
+    k: usize,
+    amounts: &[u32],
+    inputs: &[u32],
+    n: usize,
+    steps: &mut [u32],
+    outputs: &mut [u32],
+)
+    requires { ⌜ (length (now amounts) ≡ p * q) × (0 < k) × (k < 32) × (p + k * p < 32) × (now inputs ≡ bases p) × (q ≤ length (now outputs)) ⌝ }
+    requires { ⌜ Room p (now steps) n (payslips (strausPayslip p k (now amounts)) (stepsIn (now steps) n) q .steps) ⌝ }
+    ensures { λ r. ⌜ now (steps .exit) ≡ over (flat (payslips (strausPayslip p k (now (amounts .entry))) (stepsIn (now (steps .entry)) n) q .steps)) (now (steps .entry)) ⌝ }
+    ensures { λ r. ⌜ now (outputs .exit) ≡ over (payslips (strausPayslip p k (now (amounts .entry))) (stepsIn (now (steps .entry)) n) q .outputs) (now (outputs .entry)) ⌝ }
+{
+    let mut s = n;
+    let mut i: usize = 0;
+    while i < q {
+        let r = make_payslip(p, k, amounts, inputs, i, s, steps);
+        s = r.n;
+        outputs[i] = r.value;
+        i += 1;
+    }
+}
+
+// The table of the bases, then the payslips.
+fn make_chain(
+    p: usize,
+    q: usize,
+    amounts: &[u32],
+    k: usize,
+    inputs: &[u32],
+    steps: &mut [u32],
+    outputs: &mut [u32],
+)
+    requires { ⌜ (p ≤ mostColumns) × (q ≤ mostPayslips) × (length (now amounts) ≡ p * q) × (1 ≤ k) × (k ≤ 5) × (p * k ≤ 10) × (now inputs ≡ bases p) ⌝ }
+    requires { ⌜ (2 * strausCount p q (now amounts) k ≤ length (now steps)) × (q ≤ length (now outputs)) ⌝ }
+    ensures { λ r. ⌜ now (steps .exit) ≡ over (flat (straus p q (now (amounts .entry)) k .steps)) (now (steps .entry)) ⌝ }
+    ensures { λ r. ⌜ now (outputs .exit) ≡ over (straus p q (now (amounts .entry)) k .outputs) (now (outputs .entry)) ⌝ }
+{
+    let n = methods::make_table(p, k, inputs, 0, steps);
+    make_payslips(p, q, k, amounts, inputs, n, steps, outputs);
+}
+
+// The chain: its steps, first and second in turn, and its outputs.
+pub fn emit(p: usize, q: usize, amounts: &[u32], k: usize, steps: &mut [u32], outputs: &mut [u32])
+    requires { ⌜ (1 ≤ p) × (p ≤ mostColumns) × (q ≤ mostPayslips) × (length (now amounts) ≡ p * q) × (1 ≤ k) × (k ≤ 5) × (p * k ≤ 10) ⌝ }
+    requires { ⌜ (2 * strausCount p q (now amounts) k ≤ length (now steps)) × (q ≤ length (now outputs)) ⌝ }
+    ensures { λ r. ⌜ now (steps .exit) ≡ over (flat (straus p q (now (amounts .entry)) k .steps)) (now (steps .entry)) ⌝ }
+    ensures { λ r. ⌜ now (outputs .exit) ≡ over (straus p q (now (amounts .entry)) k .outputs) (now (outputs .entry)) ⌝ }
+{
+    let all: [u32; 16] = [1, 2, 3, 4, 5, 6, 7, 8, 9, 10, 11, 12, 13, 14, 15, 16];
+    make_chain(p, q, amounts, k, &all[..p], steps, outputs);
 }

@@ -1,5 +1,5 @@
 use borrow.Author.Needs.{needs}
-use Rattle.straus.proofs.Counting.{digits-told}
+use Rattle.straus.proofs.Counting.{digits-told, digits-fit}
 use Rattle.straus.proofs.digit_count.Statement.{statement}
 use Rattle.straus.proofs.digit_count.Tie as tie
 
@@ -10,7 +10,7 @@ digit-count-requires : tie.Need-digit-count-requires
 digit-count-requires c κs = search needs
 
 returns : tie.Need-returns
-returns c = search digits-told
+returns c = search (digits-told, digits-fit)
 
 pub digit-count-spec : {M : Type 1} → statement M
 digit-count-spec = tie.close (tie.spec largest-requires digit-count-requires returns)

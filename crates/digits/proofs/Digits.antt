@@ -4,6 +4,7 @@ use Prim.Native.Nat.{ℕ, zero, suc, _-_, _*_, _/_, _^_, _≤_, _<_, zero-le}
 use native.Mathlib.Nat.{mul-suc, mul-zero, pow-zero, one-mul, le-refl, div-lt-iff-lt-mul, div-lt-self, not-suc-le-zero}
 use native.Mathlib.Decide.{decLe}
 use native.Mathlib.Omega.{arith}
+use lib.Dec.{lit<}
 use lib.Pow.{pow-add, pow-pos, pow-lt}
 use Rattle.digits.specs.Digits.{digitsIn, digitCount, bitLength}
 
@@ -35,3 +36,27 @@ below k x c hk h = in-below x k x c hk (le-refl x) h
 pub count-le : (k x c : ℕ) → 0 < k → x < 2 ^ (k * c) → digitCount k x ≤ c
 unfolding digitCount
 count-le k x c hk h = in-count x k x c hk (le-refl x) h
+
+-- the same of bits
+pub below-bits : (x c : ℕ) → bitLength x ≤ c → x < 2 ^ c
+unfolding bitLength
+below-bits x c h = rw (one-mul c) at (below 1 x c (lit< tt) h)
+
+pub bits-le : (x c : ℕ) → x < 2 ^ c → bitLength x ≤ c
+unfolding bitLength
+bits-le x c h = count-le 1 x c (lit< tt) (rw one-mul h)
+
+-- a number from 2^(w - 1) to 2^w - 1 has w bits
+pub bit-length-is : (w x : ℕ) → 0 < w → 2 ^ (w - 1) ≤ x → x < 2 ^ w → w ≡ bitLength x
+bit-length-is w x pos lo hi = by-size (decLe (bitLength x) (w - 1))
+  where
+    by-size : Dec (bitLength x ≤ w - 1) → w ≡ bitLength x
+    by-size (yes few) = absurd (omega (arith, below-bits x (w - 1) few))
+    by-size (no many) = omega (arith, bits-le x w hi)
+
+pub bits-some : (x : ℕ) → 1 ≤ x → 1 ≤ bitLength x
+bits-some x h = by-size (decLe (bitLength x) 0)
+  where
+    by-size : Dec (bitLength x ≤ 0) → 1 ≤ bitLength x
+    by-size (yes none) = absurd (omega (arith, below-bits x 0 none))
+    by-size (no some) = omega arith

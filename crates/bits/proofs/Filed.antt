@@ -42,14 +42,16 @@ pub filed-nil : (old : List ℕ) → filed [] old ≡ old
 unfolding over pack
 filed-nil old = refl
 
--- one field more, after the bits that the buffer has so far
-pub put-next : (b : List Bool) (old now new : List ℕ) (at w v next : ℕ) → length b ≡ at → now ≡ filed b old → Stored now at w v new next
-    → new ≡ filed (b ++ bits w v) old
-put-next b old now new at w v next lb em s =
-    s .is
-    ∙ ap (λ (r : List ℕ). filed (take at (bytesBits r) ++ bits w v) r) em
-    ∙ ap (λ (r : List Bool). filed (r ++ bits w v) (filed b old)) (ap (λ (k : ℕ). take k (bytesBits (filed b old))) (sym lb) ∙ filed-bits b old)
-    ∙ filed-filed b (b ++ bits w v) old (omega (arith, length-append b (bits w v)))
+-- bits more, after those that the buffer has so far
+pub filed-more : (b more : List Bool) (old : List ℕ) (at : ℕ) → length b ≡ at → filed (take at (bytesBits (filed b old)) ++ more) (filed b old) ≡ filed (b ++ more) old
+filed-more b more old at lb =
+    ap (λ (r : List Bool). filed (r ++ more) (filed b old)) (ap (λ (k : ℕ). take k (bytesBits (filed b old))) (sym lb) ∙ filed-bits b old)
+    ∙ filed-filed b (b ++ more) old (omega (arith, length-append b more))
+
+pub put-next : (b more : List Bool) (old now new : List ℕ) (at w next : ℕ) → length b ≡ at → now ≡ filed b old → Stored now at w more new next
+    → new ≡ filed (b ++ more) old
+put-next b more old now new at w next lb em s =
+    s .is ∙ ap (λ (r : List ℕ). filed (take at (bytesBits r) ++ more) r) em ∙ filed-more b more old at lb
 
 -- a field of what was written is one of its bits
 pub field-filed : (b : List Bool) (old : List ℕ) (at w : ℕ) → at + w ≤ length b → fieldAt (filed b old) at w ≡ value (take w (drop at b))

@@ -129,7 +129,7 @@ module _ (l : List ℕ) (at w v b : ℕ) (ok : Bytes l) (fill : Fill l at w v) (
 
   pub put-stored : (new : List ℕ)
       → new ≡ laid (at / 8) (take ((at % 8 + w + 7) / 8) (spread ((b / 2 ^ (8 - at % 8) * 2 ^ w % 2 ^ 64 + v) * 2 ^ (32 - (at % 8 + w)) % 2 ^ 64))) l
-      → Stored l at w v new (at + w)
+      → Stored l at w (bits w v) new (at + w)
   unfolding over laid
   put-stored new en =
       let i : ℕ = at / 8 in

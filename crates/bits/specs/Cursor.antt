@@ -5,7 +5,7 @@ use mathlib.Core.List.{List, [], _∷_, _++_}
 use Prim.Native.Nat.{ℕ, zero, suc, _+_, _*_, _/_, _%_, _^_, _≤_, _<_}
 use lib.ListN.{length, take, getD}
 use Rattle.chain.specs.Written.{over}
-use Rattle.bits.specs.Bits.{bits, value, bytesBits, pack, bytesFor, fieldAt}
+use Rattle.bits.specs.Bits.{value, bytesBits, pack, bytesFor, fieldAt}
 
 -- a field of w bits at position at is short enough, lies within the file, and its end is a usize
 pub record Room (file : List ℕ) (at w : ℕ) : Type 0 where
@@ -29,9 +29,9 @@ pub record Fill (buf : List ℕ) (at w v : ℕ) : Type 0 where
 abbrev pub filed : List Bool → List ℕ → List ℕ
 filed b old = over (pack (bytesFor (length b)) b) old
 
--- the field was added to the bits before it, with zero bits after it to the end of its last byte
-pub record Stored (old : List ℕ) (at w v : ℕ) (new : List ℕ) (next : ℕ) : Type 0 where
-  pub is : new ≡ filed (take at (bytesBits old) ++ bits w v) old
+-- w bits b were added to the bits before position at, with zero bits after them to the end of their last byte
+pub record Stored (old : List ℕ) (at w : ℕ) (b : List Bool) (new : List ℕ) (next : ℕ) : Type 0 where
+  pub is : new ≡ filed (take at (bytesBits old) ++ b) old
   pub moved : next ≡ at + w
 
 -- n bytes from index i on, with 0 past the end

@@ -3,6 +3,7 @@ ghost use mathlib.Core.Path.{_≡_};
 ghost use Prim.Native.Nat.{_+_, _/_, _%_, _^_, _≤_, _<_};
 ghost use lib.ListN.{length, take, getD};
 ghost use Rattle.chain.specs.Written.{laid};
+ghost use Rattle.bits.specs.Bits.{bits};
 ghost use Rattle.bits.specs.Cursor.{spread, Gathered, Room, Taken, Fill, Stored};
 
 // A bit position of a file.
@@ -101,7 +102,7 @@ impl Cursor {
     // Writes value as a field of width bits at the cursor, with zero bits after it to the end of its last byte.
     pub fn put(self, buf: &mut [u8], width: usize, value: u64) -> Cursor
         requires { ⌜ Fill (now buf) (self .at) width value ⌝ }
-        ensures { λ r. ⌜ Stored (now (buf .entry)) (self .at) width value (now (buf .exit)) (r .at) ⌝ }
+        ensures { λ r. ⌜ Stored (now (buf .entry)) (self .at) width (bits width value) (now (buf .exit)) (r .at) ⌝ }
     {
         let at = self.at;
         let i = at / 8;

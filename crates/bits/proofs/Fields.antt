@@ -3,16 +3,16 @@ use mathlib.Core.Path.{_≡_, refl, sym, ap, ap₂, _∙_}
 use mathlib.Core.Bool.{Bool}
 use mathlib.Core.List.{List, [], _∷_, _++_, append-assoc, append-nil}
 use Prim.Native.Nat.{ℕ, zero, suc, _+_, _-_, _*_, _/_, _%_, _^_, _≤_, _<_}
-use native.Mathlib.Nat.{zero-mul, suc-mul, add-zero, div-add-mod', lt-of-not-le}
-use native.Mathlib.Numerals.{add-one}
+use native.Mathlib.Nat.{zero-mul, suc-mul, div-add-mod', lt-of-not-le, lt-of-lt-of-le}
 use native.Mathlib.Decide.{decLe}
 use native.Mathlib.Omega.{arith}
-use lib.ListN.{length, take, drop, getD, length-append}
-use lib.Seq.{take-nil, drop-nil, drop-drop, drop-cons, take-suc, take-append-add, drop-append-add}
+use lib.ListN.{length, take, drop, getD, length-append, length-take, length-drop}
+use lib.Seq.{length-take-le, take-nil, take-add, drop-nil, drop-drop, drop-cons, take-append-add, drop-append-add}
+use lib.Pow.{pow-mono}
 use Rattle.bits.specs.Bits.{bits, fields, value, bytesBits, fieldAt, fieldsAt}
 use Rattle.bits.specs.Cursor.{window}
 use Rattle.bits.proofs.Parts.{drop-take, take-none, take-both}
-use Rattle.bits.proofs.Values.{length-bits, value-bits-lt, value-append, value-slice}
+use Rattle.bits.proofs.Values.{length-bits, value-bits-lt, value-lt, bits-value, value-append, value-slice}
 
 module _ (w : ℕ) where
   pub length-fields : (l : List ℕ) → length (fields w l) ≡ length l * w
@@ -121,3 +121,25 @@ pub length-fieldsAt : (f : List ℕ) (at w n : ℕ) → length (fieldsAt f at w 
 unfolding fieldsAt
 length-fieldsAt f at w zero = refl
 length-fieldsAt f at w (suc n) = ap suc (length-fieldsAt f (at + w) w n)
+
+-- a field is below its power of two
+pub field-lt : (f : List ℕ) (at w : ℕ) → fieldAt f at w < 2 ^ w
+field-lt f at w =
+    lt-of-lt-of-le (value-lt (take w (drop at (bytesBits f)))) (pow-mono {j = w} (omega (arith, length-take w (drop at (bytesBits f)))))
+
+-- the bits of a file are those of its fields
+module _ (f : List ℕ) (w : ℕ) where
+  pub bits-field : (at : ℕ) → at + w ≤ 8 * length f → bits w (fieldAt f at w) ≡ take w (drop at (bytesBits f))
+  bits-field at h =
+      bits-value (take w (drop at (bytesBits f))) w
+      (length-take-le w (drop at (bytesBits f)) (omega (arith, length-drop at (bytesBits f), length-bytesBits f)))
+
+  pub fields-fields : (at n : ℕ) → at + n * w ≤ 8 * length f → fields w (fieldsAt f at w n) ≡ take (n * w) (drop at (bytesBits f))
+  unfolding fields fieldsAt
+  fields-fields at zero h = sym (ap (λ (k : ℕ). take k (drop at (bytesBits f))) (zero-mul w))
+  fields-fields at (suc n) h =
+      let e : w + n * w ≡ suc n * w = omega (arith, suc-mul n w) in
+      ap₂ (λ (x y : List Bool). x ++ y) (bits-field at (omega arith)) (fields-fields (at + w) n (omega arith))
+      ∙ ap (λ (x : List Bool). take w (drop at (bytesBits f)) ++ take (n * w) x) (sym (drop-drop w at (bytesBits f)))
+      ∙ sym (take-add w (n * w) (drop at (bytesBits f)))
+      ∙ ap (λ (k : ℕ). take k (drop at (bytesBits f))) e

@@ -4,14 +4,14 @@ use mathlib.Core.Bool.{Bool, true, false}
 use mathlib.Core.List.{List, [], _∷_, _++_, append-assoc, append-nil}
 use Prim.Native.Nat.{ℕ, zero, suc, _+_, _-_, _*_, _/_, _^_, _≤_, _<_}
 use native.Mathlib.Omega.{arith}
-use lib.ListN.{length, take, drop, getD, replicate, length-append, length-drop, take-append-drop}
+use lib.ListN.{length, take, drop, getD, replicate, length-append, length-drop, length-replicate, take-append-drop}
 use lib.Seq.{length-take-le, take-all, take-append-seam, take-take, take-at, drop-at}
 use Rattle.chain.specs.Written.{over}
 use Rattle.chain.proofs.Written.{over-length, over-over}
 use Rattle.bits.specs.Bits.{bits, fields, value, bytesBits, front, pack, bytesFor, fieldAt, fieldsAt}
 use Rattle.bits.specs.Cursor.{filed, Stored}
 use Rattle.bits.proofs.Parts.{drop-take}
-use Rattle.bits.proofs.Values.{length-bits, value-bits-lt, zeros}
+use Rattle.bits.proofs.Values.{length-bits, value-bits-lt, value-zeros, zeros}
 use Rattle.bits.proofs.Fields.{length-bytesBits, bytesBits-append}
 use Rattle.bits.proofs.Pack.{Bytes, front-pad, length-pack, bytesBits-pack, pack-bytesBits, pack-front}
 
@@ -83,6 +83,16 @@ fields-back (x ∷ xs) w a c old ok =
     (ap (λ (t : List Bool). fieldAt (filed t old) (length a) w) r ∙ field-back w x a (fields w xs ++ c) old (ok 0))
     (ap₂ (λ (t : List Bool) (n : ℕ). fieldsAt (filed t old) n w (length xs)) (r ∙ sym (append-assoc a (bits w x) (fields w xs ++ c))) (sym la)
     ∙ fields-back xs w (a ++ bits w x) c old (λ k. ok (suc k)))
+
+-- the filling is zero
+pub filling-zero : (b : List Bool) (old : List ℕ) (n k : ℕ) → length b ≡ n → k ≡ 8 * bytesFor n - n → fieldAt (filed b old) n k ≡ 0
+filling-zero b old n k en ek =
+    let m : ℕ = bytesFor (length b) * 8 - length b in
+    let e : k ≡ m = omega arith in
+    ap₂ (λ (i j : ℕ). value (take j (drop i (bytesBits (filed b old))))) (sym en) e
+    ∙ ap (λ (r : List Bool). value (take m (drop (length b) r))) (filed-rest b old (bytesFor (length b)) refl)
+    ∙ ap (λ (r : List Bool). value (take m r)) (drop-at b _ (length b) refl)
+    ∙ ap value (take-at (replicate m false) _ m (length-replicate m false)) ∙ value-zeros m
 
 -- if the filling bits of a file are zero, the file is the bits before them, filled up
 pub filled : (file : List ℕ) (n k : ℕ) → Bytes file → length file ≡ bytesFor n → k ≡ 8 * length file - n

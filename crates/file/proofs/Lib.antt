@@ -2,7 +2,10 @@ pub mod Lengths
 pub mod Legal
 pub mod Answers
 pub mod Writing
-pub mod Writes
+pub mod WriteAnswers
 pub mod Readable
 pub mod ReadingBack
+pub mod Judging
 pub mod OneFile
+pub mod Taking
+pub mod ReadAnswers

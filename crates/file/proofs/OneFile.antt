@@ -43,7 +43,7 @@ module _ (bytes : List ℕ) where
   unfolding outputsOf
   length-outputsOf = length-fieldsAt bytes (headerSize + 2 * n * w) w q
 
-  flat-stepsOf : flat (stepsOf bytes) ≡ fieldsAt bytes headerSize w (2 * n)
+  pub flat-stepsOf : flat (stepsOf bytes) ≡ fieldsAt bytes headerSize w (2 * n)
   unfolding stepsOf
   flat-stepsOf = flat-pairs n _ (length-fieldsAt bytes headerSize w (2 * n))
 

@@ -3,8 +3,8 @@ use mathlib.Core.List.{[], _∷_}
 use Rattle.chain.specs.Verdict.{Answer, done, refusal}
 use Rattle.file.specs.declared.Written.{Written}
 use Rattle.file.specs.declared.Written.the-variants as written
-use Rattle.file.specs.declared.Read.{Read}
-use Rattle.file.specs.declared.Read.the-variants as read
+use Rattle.file.specs.declared.Reading.{Reading}
+use Rattle.file.specs.declared.Reading.the-variants as reading
 
 -- "write [returns] the number of bytes"
 abbrev pub writtenOf : Written → Answer
@@ -12,6 +12,6 @@ writtenOf (written.Bytes n) = done (n ∷ [])
 writtenOf (written.Refused number place) = refusal number place
 
 -- "read [returns] p, q and n"
-abbrev pub readOf : Read → Answer
-readOf (read.Chain p q n) = done (p ∷ q ∷ n ∷ [])
-readOf (read.Refused number place) = refusal number place
+abbrev pub readOf : Reading → Answer
+readOf (reading.Chain p q n) = done (p ∷ q ∷ n ∷ [])
+readOf (reading.Refused number place) = refusal number place

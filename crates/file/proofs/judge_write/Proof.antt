@@ -4,7 +4,7 @@ use Rattle.chain.proofs.Rules.{judging, told-fine}
 use Rattle.chain.proofs.Pairs.{length-pairs}
 use Rattle.file.specs.File.{writeRule}
 use Rattle.file.proofs.Legal.{legal-parts}
-use Rattle.file.proofs.Writes.{too-short, enough}
+use Rattle.file.proofs.WriteAnswers.{too-short, enough}
 use borrow.Author.Needs.{needs}
 use Rattle.file.proofs.judge_write.Statement.{statement}
 use Rattle.file.proofs.judge_write.Tie as tie

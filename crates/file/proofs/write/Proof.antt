@@ -3,7 +3,7 @@ use denote.Ref.{now}
 use Rattle.chain.proofs.Rules.{told-fine}
 use Rattle.chain.proofs.Pairs.{length-pairs}
 use Rattle.file.proofs.Writing.{writable}
-use Rattle.file.proofs.Writes.{write-refused, write-done}
+use Rattle.file.proofs.WriteAnswers.{write-refused, write-done}
 use borrow.Author.Needs.{needs}
 use Rattle.file.proofs.write.Statement.{statement}
 use Rattle.file.proofs.write.Tie as tie

@@ -3,12 +3,12 @@ use mathlib.Core.Path.{_≡_, refl, sym, ap, ap₂, _∙_, subst}
 use mathlib.Core.Bool.{Bool}
 use mathlib.Core.List.{List, [], _∷_, _++_, append-assoc}
 use Prim.Native.Nat.{ℕ, zero, suc, _+_, _-_, _*_, _/_, _%_, _^_, _≤_, _<_}
-use native.Mathlib.Nat.{zero-add, div-add-mod', lt-of-le-of-lt, lt-of-lt-of-le}
+use native.Mathlib.Nat.{zero-add, add-mul, mul-assoc, div-add-mod', lt-of-le-of-lt}
 use native.Mathlib.Omega.{arith}
 use lib.ListN.{length, take, drop, getD, set, length-append, length-drop}
 use lib.Seq.{length-take-le, drop-drop, drop-cons, take-append-le, take-add}
 use lib.Dec.{lit≤}
-use lib.Pow.{shl-exact, shl-lt, shr-le, shr-mod, pow-mono}
+use lib.Pow.{split, pow-add, shl-exact, shr-le, shr-mod}
 use Rattle.chain.specs.Written.{over, laid}
 use Rattle.chain.proofs.Written.{laid-nil, laid-one, laid-laid, laid-length}
 use Rattle.bits.specs.Bits.{bits, value, bytesBits, front, pack, bytesFor}
@@ -26,24 +26,38 @@ cells l m t i a k em et h =
     let n : length m ≡ length l = ap length em ∙ laid-length i t l (omega arith) in
     cell m (i + k) a (omega arith) ∙ ap (laid (i + k) (a ∷ [])) em ∙ laid-laid i (i + k) t (a ∷ []) l (omega arith) (omega arith)
 
-module _ (l : List ℕ) (i x count a : ℕ) (room : i + count ≤ length l) (ea : a ≡ x / 2 ^ 24 % 256) where
-  pub stored-one : count ≡ 1 → set l i a ≡ laid i (take count (spread x)) l
-  stored-one e = cell l i a (omega arith) ∙ rw (e, ea)
+-- the first count bytes of head * 2 ^ 24 + x
+module _ (l : List ℕ) (i count head x a : ℕ) (room : i + count ≤ length l) (ea : a ≡ (head + x / 2 ^ 24) % 256) where
+  abbrev y : ℕ
+  y = head * 2 ^ 24 + x
+
+  is-a : a ≡ y / 2 ^ 24 % 256
+  is-a = ea ∙ omega arith
+
+  pub stored-one : count ≡ 1 → set l i a ≡ laid i (take count (spread y)) l
+  stored-one e = cell l i a (omega arith) ∙ rw (e, is-a)
 
   module _ (b : ℕ) (eb : b ≡ x / 2 ^ 16 % 256) where
-    pub stored-two : count ≡ 2 → set (set l i a) (i + 1) b ≡ laid i (take count (spread x)) l
-    stored-two e = cells l _ (a ∷ []) i b 1 (cell l i a (omega arith)) refl (omega arith) ∙ rw (e, ea, eb)
+    is-b : b ≡ y / 2 ^ 16 % 256
+    is-b = eb ∙ omega arith
+
+    pub stored-two : count ≡ 2 → set (set l i a) (i + 1) b ≡ laid i (take count (spread y)) l
+    stored-two e = cells l _ (a ∷ []) i b 1 (cell l i a (omega arith)) refl (omega arith) ∙ rw (e, is-a, is-b)
 
     module _ (c : ℕ) (ec : c ≡ x / 2 ^ 8 % 256) where
-      pub stored-three : count ≡ 3 → set (set (set l i a) (i + 1) b) (i + 2) c ≡ laid i (take count (spread x)) l
-      stored-three e =
-          cells l _ (a ∷ b ∷ []) i c 2 (cells l _ (a ∷ []) i b 1 (cell l i a (omega arith)) refl (omega arith)) refl (omega arith) ∙ rw (e, ea, eb, ec)
+      is-c : c ≡ y / 2 ^ 8 % 256
+      is-c = ec ∙ omega arith
 
-      pub stored-four : (d : ℕ) → d ≡ x % 256 → count ≡ 4 → set (set (set (set l i a) (i + 1) b) (i + 2) c) (i + 3) d ≡ laid i (take count (spread x)) l
+      pub stored-three : count ≡ 3 → set (set (set l i a) (i + 1) b) (i + 2) c ≡ laid i (take count (spread y)) l
+      stored-three e =
+          cells l _ (a ∷ b ∷ []) i c 2 (cells l _ (a ∷ []) i b 1 (cell l i a (omega arith)) refl (omega arith)) refl (omega arith) ∙ rw (e, is-a, is-b, is-c)
+
+      pub stored-four : (d : ℕ) → d ≡ x % 256 → count ≡ 4 → set (set (set (set l i a) (i + 1) b) (i + 2) c) (i + 3) d ≡ laid i (take count (spread y)) l
       stored-four d ed e =
+          let is-d : d ≡ y % 256 = ed ∙ omega arith in
           cells l _ (a ∷ b ∷ c ∷ []) i d 3
           (cells l _ (a ∷ b ∷ []) i c 2 (cells l _ (a ∷ []) i b 1 (cell l i a (omega arith)) refl (omega arith)) refl (omega arith)) refl (omega arith)
-          ∙ rw (e, ea, eb, ec, ed)
+          ∙ rw (e, is-a, is-b, is-c, is-d)
 
 -- the four bytes of a number below 2 ^ 32
 pack-four : (x : ℕ) → x < 2 ^ 32 → pack 4 (bits 32 x) ≡ spread x
@@ -81,14 +95,21 @@ module _ (l : List ℕ) (at w v b : ℕ) (ok : Bytes l) (fill : Fill l at w v) (
   hb : b < 256
   hb = subst (λ (x : ℕ). x < 256) (sym is) (ok (at / 8))
 
-  head-shl : b / 2 ^ (8 - at % 8) * 2 ^ w % 2 ^ 64 ≡ b / 2 ^ (8 - at % 8) * 2 ^ w
-  head-shl = shl-exact 8 w 64 (lt-of-le-of-lt (shr-le b (8 - at % 8)) hb) (omega (arith, fill .room .narrow))
+  -- what the byte keeps, and the field, as the code has them
+  abbrev head : ℕ
+  head = b / 2 ^ (8 - at % 8) * 2 ^ (8 - at % 8) % 2 ^ 64
 
-  pub put-fits : b / 2 ^ (8 - at % 8) * 2 ^ w % 2 ^ 64 + v < 2 ^ 64
-  put-fits =
-      let p : b / 2 ^ (8 - at % 8) * 2 ^ w < 2 ^ 33 = lt-of-lt-of-le (shl-lt 8 w (lt-of-le-of-lt (shr-le b (8 - at % 8)) hb)) (pow-mono {j = 33} (omega (arith, fill .room .narrow))) in
-      let q : v < 2 ^ 25 = lt-of-lt-of-le (fill .small) (pow-mono (fill .room .narrow)) in
-      omega (arith, head-shl)
+  abbrev field : ℕ
+  field = v * 2 ^ (32 - (at % 8 + w)) % 2 ^ 64
+
+  head-shl : head ≡ b / 2 ^ (8 - at % 8) * 2 ^ (8 - at % 8)
+  head-shl = shl-exact 8 (8 - at % 8) 64 (lt-of-le-of-lt (shr-le b (8 - at % 8)) hb) (omega arith)
+
+  pub head-low : head < 256
+  head-low = omega (arith, head-shl, hb, split b (8 - at % 8))
+
+  field-shl : field ≡ v * 2 ^ (32 - (at % 8 + w))
+  field-shl = shl-exact w (32 - (at % 8 + w)) 64 (fill .small) (omega (arith, fill .room .narrow))
 
   -- what the buffer's byte begins with, and the field
   abbrev ends : List Bool
@@ -105,12 +126,17 @@ module _ (l : List ℕ) (at w v b : ℕ) (ok : Bytes l) (fill : Fill l at w v) (
       ∙ ap₂ (λ (x k : ℕ). x * 2 ^ k + value (bits w v)) (value-head b (at % 8) hb (omega arith)) (length-bits w v)
       ∙ ap (λ (x : ℕ). b / 2 ^ (8 - at % 8) * 2 ^ w + x) (value-bits-lt w v (fill .small))
 
-  -- the shifted number, as the code has it
-  shifted : (b / 2 ^ (8 - at % 8) * 2 ^ w % 2 ^ 64 + v) * 2 ^ (32 - (at % 8 + w)) % 2 ^ 64 ≡ value ends * 2 ^ (32 - length ends)
+  -- together they are the bits of both, shifted to the front of a word
+  shifted : head * 2 ^ 24 + field ≡ value ends * 2 ^ (32 - length ends)
   shifted =
-      let e : b / 2 ^ (8 - at % 8) * 2 ^ w % 2 ^ 64 + v ≡ value ends = ap (λ (x : ℕ). x + v) head-shl ∙ sym value-ends in
-      ap₂ (λ (x k : ℕ). x * 2 ^ (32 - k) % 2 ^ 64) e (sym length-ends)
-      ∙ shl-exact (length ends) (32 - length ends) 64 (value-lt ends) (omega (arith, length-ends, fill .room .narrow))
+      let x : ℕ = b / 2 ^ (8 - at % 8) in
+      let r : ℕ = 32 - (at % 8 + w) in
+      let e : w + r ≡ 8 - at % 8 + 24 = omega (arith, fill .room .narrow) in
+      let powers : 2 ^ w * 2 ^ r ≡ 2 ^ (8 - at % 8) * 2 ^ 24 = sym (pow-add 2 w r) ∙ ap (λ (k : ℕ). 2 ^ k) e ∙ pow-add 2 (8 - at % 8) 24 in
+      let front : head * 2 ^ 24 ≡ x * 2 ^ w * 2 ^ r =
+      ap (λ (k : ℕ). k * 2 ^ 24) head-shl ∙ mul-assoc x (2 ^ (8 - at % 8)) (2 ^ 24) ∙ ap (λ (k : ℕ). x * k) (sym powers) ∙ sym (mul-assoc x (2 ^ w) (2 ^ r)) in
+      ap₂ (λ (k m : ℕ). k + m) front field-shl ∙ sym (add-mul (x * 2 ^ w) v (2 ^ r))
+      ∙ ap₂ (λ (k m : ℕ). k * 2 ^ (32 - m)) (sym value-ends) (sym length-ends)
 
   whole : take at (bytesBits l) ++ bits w v ≡ bytesBits (take (at / 8) l) ++ ends
   whole =
@@ -128,7 +154,7 @@ module _ (l : List ℕ) (at w v b : ℕ) (ok : Bytes l) (fill : Fill l at w v) (
       ∙ append-assoc (bytesBits (take i l)) (take o (bits 8 b)) (bits w v)
 
   pub put-stored : (new : List ℕ)
-      → new ≡ laid (at / 8) (take ((at % 8 + w + 7) / 8) (spread ((b / 2 ^ (8 - at % 8) * 2 ^ w % 2 ^ 64 + v) * 2 ^ (32 - (at % 8 + w)) % 2 ^ 64))) l
+      → new ≡ laid (at / 8) (take ((at % 8 + w + 7) / 8) (spread (head * 2 ^ 24 + field))) l
       → Stored l at w (bits w v) new (at + w)
   unfolding over laid
   put-stored new en =
@@ -136,7 +162,7 @@ module _ (l : List ℕ) (at w v b : ℕ) (ok : Bytes l) (fill : Fill l at w v) (
       let m : ℕ = (at % 8 + w + 7) / 8 in
       let narrow : w ≤ 25 = fill .room .narrow in
       let li : length (take i l) ≡ i = length-take-le i l (omega (arith, fill .room .within)) in
-      let s : take m (spread ((b / 2 ^ (8 - at % 8) * 2 ^ w % 2 ^ 64 + v) * 2 ^ (32 - (at % 8 + w)) % 2 ^ 64)) ≡ pack m ends =
+      let s : take m (spread (head * 2 ^ 24 + field)) ≡ pack m ends =
       ap (λ (x : ℕ). take m (spread x)) shifted ∙ spread-pack ends m (omega (arith, length-ends)) (omega arith) in
       let n : length (bytesBits (take i l) ++ ends) ≡ at + w = length-append (bytesBits (take i l)) ends ∙ omega (arith, length-bytesBits (take i l), length-ends, li) in
       let k : i + m ≡ bytesFor (length (bytesBits (take i l) ++ ends)) = sym (ap bytesFor n ∙ omega arith) in

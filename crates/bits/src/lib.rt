@@ -1,6 +1,6 @@
 // Bit fields, most significant bit first.
 ghost use mathlib.Core.Path.{_≡_};
-ghost use Prim.Native.Nat.{_+_, _/_, _%_, _^_, _≤_, _<_};
+ghost use Prim.Native.Nat.{_+_, _*_, _%_, _^_, _≤_, _<_};
 ghost use lib.ListN.{length, take, getD};
 ghost use Rattle.chain.specs.Written.{laid};
 ghost use Rattle.bits.specs.Bits.{bits};
@@ -63,12 +63,12 @@ fn low_byte(x: u64) -> u8
     (x % 256) as u8
 }
 
-// The first count of the four bytes of x, stored from i on.
-fn scatter(buf: &mut [u8], i: usize, count: usize, x: u64)
-    requires { ⌜ (1 ≤ count) × (count ≤ 4) × (i + count ≤ length (now buf)) ⌝ }
-    ensures { λ _. ⌜ now (buf .exit) ≡ laid i (take count (spread x)) (now (buf .entry)) ⌝ }
+// The first count of the four bytes of x, stored from i on, the first one with head added to it. Only that one waits for what the buffer held.
+fn scatter(buf: &mut [u8], i: usize, count: usize, head: u64, x: u64)
+    requires { ⌜ (1 ≤ count) × (count ≤ 4) × (i + count ≤ length (now buf)) × (head < 256) ⌝ }
+    ensures { λ _. ⌜ now (buf .exit) ≡ laid i (take count (spread (head * 2 ^ 24 + x))) (now (buf .entry)) ⌝ }
 {
-    buf[i] = low_byte(x >> 24);
+    buf[i] = low_byte(head + (x >> 24));
     if count < 2 {
         return;
     }
@@ -107,9 +107,9 @@ impl Cursor {
         let at = self.at;
         let i = at / 8;
         let used = at % 8 + width;
-        let head = wide(buf[i]) >> (8 - at % 8);
-        let all = ((head << width) + value) << (32 - used);
-        scatter(buf, i, (used + 7) / 8, all);
+        let right = 8 - at % 8;
+        let head = (wide(buf[i]) >> right) << right;
+        scatter(buf, i, (used + 7) / 8, head, value << (32 - used));
         Cursor { at: at + width }
     }
 }

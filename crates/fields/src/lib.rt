@@ -33,13 +33,13 @@ pub fn take_fields(file: &[u8], from: Cursor, width: usize, count: usize, out: &
     ensures { λ r. ⌜ TakenAll (now (file .entry)) (from .at) width count (now (out .entry)) (now (out .exit)) (r .at) ⌝ }
 {
     let mut c = from;
-    let mut j = 0;
-    while j < count {
+    let mut i = 0;
+    while i < count {
         let f = c.take(file, width);
-        out[j] = f.value as u32;
+        out[i] = f.value as u32;
         let next = f.next;
         c = next;
-        j += 1;
+        i += 1;
     }
     c
 }

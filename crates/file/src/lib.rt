@@ -191,13 +191,14 @@ fn judge_chain(bytes: &[u8], p: usize, q: usize, n: usize) -> Judgement
     requires { ⌜ (1 ≤ p) × (p ≤ mostColumns) × (q ≤ mostPayslips) × (n ≤ mostSteps) × (bitCount p q n ≤ 8 * length (now bytes)) ⌝ }
     ensures { λ r. ⌜ verdictOf r ≡ chainRule p (pairs (fieldsAt (now (bytes .entry)) headerSize (width p n) (2 * n))) (fieldsAt (now (bytes .entry)) (headerSize + 2 * n * width p n) (width p n) q) ⌝ }
 {
-    let w = digits::bit_length(p + n);
+    let top = p + n;
+    let w = digits::bit_length(top);
     match judge_steps(bytes, p, n, w) {
         Judgement::Refused { number, place } => Judgement::Refused {
             number: number,
             place: place,
         },
-        Judgement::Fine => judge_outputs(bytes, HEADER_SIZE + 2 * n * w, w, p + n, q),
+        Judgement::Fine => judge_outputs(bytes, HEADER_SIZE + 2 * n * w, w, top, q),
     }
 }
 

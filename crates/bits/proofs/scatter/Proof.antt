@@ -6,6 +6,9 @@ use borrow.Author.Needs.{needs}
 use Rattle.bits.proofs.scatter.Statement.{statement}
 use Rattle.bits.proofs.scatter.Tie as tie
 
+add-low-byte : tie.Need-add-low-byte
+add-low-byte c = search needs
+
 low-byte-requires : tie.Need-low-byte-requires
 low-byte-requires c κs = search needs
 
@@ -19,7 +22,7 @@ returns : tie.Need-returns
 returns c =
     let one = c .before in
     let a = one .before .before .args in
-    stored-one (now (a .buf)) (a .i) (a .x) (a .count) _ (omega arith) (one .low-byte .ensures) (omega arith)
+    stored-one (now (a .buf)) (a .i) (a .count) (a .head) (a .x) _ (omega arith) (one .low-byte .ensures) (omega arith)
 
 low-byte-requires-2 : tie.Need-low-byte-requires-2
 low-byte-requires-2 c κs = search needs
@@ -38,7 +41,7 @@ returns-2 c =
     let two = c .before in
     let one = two .before .before in
     let a = one .before .before .args in
-    stored-two (now (a .buf)) (a .i) (a .x) (a .count) _ (omega arith) (one .low-byte .ensures) _ (two .low-byte2 .ensures) (omega arith)
+    stored-two (now (a .buf)) (a .i) (a .count) (a .head) (a .x) _ (omega arith) (one .low-byte .ensures) _ (two .low-byte2 .ensures) (omega arith)
 
 low-byte-requires-3 : tie.Need-low-byte-requires-3
 low-byte-requires-3 c κs = search needs
@@ -58,7 +61,7 @@ returns-3 c =
     let two = three .before .before in
     let one = two .before .before in
     let a = one .before .before .args in
-    stored-three (now (a .buf)) (a .i) (a .x) (a .count) _ (omega arith) (one .low-byte .ensures) _ (two .low-byte2 .ensures) _ (three .low-byte3 .ensures) (omega arith)
+    stored-three (now (a .buf)) (a .i) (a .count) (a .head) (a .x) _ (omega arith) (one .low-byte .ensures) _ (two .low-byte2 .ensures) _ (three .low-byte3 .ensures) (omega arith)
 
 low-byte-requires-4 : tie.Need-low-byte-requires-4
 low-byte-requires-4 c κs = search needs
@@ -78,7 +81,7 @@ returns-4 c =
     let two = three .before .before in
     let one = two .before .before in
     let a = one .before .before .args in
-    stored-four (now (a .buf)) (a .i) (a .x) (a .count) _ (omega arith) (one .low-byte .ensures) _ (two .low-byte2 .ensures) _ (three .low-byte3 .ensures) _
+    stored-four (now (a .buf)) (a .i) (a .count) (a .head) (a .x) _ (omega arith) (one .low-byte .ensures) _ (two .low-byte2 .ensures) _ (three .low-byte3 .ensures) _
     (c .low-byte4 .ensures)
     (omega arith)
 
@@ -86,6 +89,7 @@ pub scatter-spec : {M : Type 1} → statement M
 scatter-spec =
     tie.close
     (tie.spec
+    add-low-byte
     low-byte-requires
     slice-write-buf
     same-length

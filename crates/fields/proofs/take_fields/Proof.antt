@@ -10,11 +10,11 @@ use Rattle.fields.proofs.take_fields.Statement.{statement}
 use Rattle.fields.proofs.take_fields.Tie as tie
 
 abbrev Inv-loop : tie.InvT-loop
-Inv-loop file width count out₀ c₀ j₀ out c j =
-    (length out ≡ length out₀) × Taking file (over (fieldsAt file (c₀ .at) width count) out₀) (c₀ .at + count * width) width count out (c .at) j
+Inv-loop file width count out₀ c₀ i₀ out c i =
+    (length out ≡ length out₀) × Taking file (over (fieldsAt file (c₀ .at) width count) out₀) (c₀ .at + count * width) width count out (c .at) i
 
 abbrev μ-loop : tie.MeasureT-loop
-μ-loop file width count out₀ c₀ j₀ out c j = count - j
+μ-loop file width count out₀ c₀ i₀ out c i = count - i
 
 loop-holds : tie.Need-loop-holds Inv-loop μ-loop
 loop-holds c = (refl, take-start _ _ _ _ _ (c .before .before .pre))
@@ -35,8 +35,8 @@ mul-out c = search needs
 slice-write-out : tie.Need-slice-write-out Inv-loop μ-loop
 slice-write-out c = omega (arith, c .before .before .before .loop .inv .1 .room)
 
-add-j : tie.Need-add-j Inv-loop μ-loop
-add-j c = search needs
+add-i : tie.Need-add-i Inv-loop μ-loop
+add-i c = search needs
 
 loop-less : tie.Need-loop-less Inv-loop μ-loop
 loop-less c = search needs
@@ -65,7 +65,7 @@ take-fields-spec =
     cast-out
     mul-out
     slice-write-out
-    add-j
+    add-i
     loop-less
     loop-again
     same-length

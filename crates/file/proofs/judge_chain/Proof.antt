@@ -5,8 +5,8 @@ use borrow.Author.Needs.{needs}
 use Rattle.file.proofs.judge_chain.Statement.{statement}
 use Rattle.file.proofs.judge_chain.Tie as tie
 
-add-bit-length : tie.Need-add-bit-length
-add-bit-length c = search needs
+add-top : tie.Need-add-top
+add-top c = search needs
 
 bit-length-requires : tie.Need-bit-length-requires
 bit-length-requires c κs = search needs
@@ -35,9 +35,6 @@ add-judge-outputs c =
     let s = w .before .before in
     omega (arith, outputs-low (now (s .args .bytes)) _ _ _ _ (s .pre) (w .bit-length .ensures))
 
-add-judge-outputs-2 : tie.Need-add-judge-outputs-2
-add-judge-outputs-2 c = search needs
-
 judge-outputs-requires : tie.Need-judge-outputs-requires
 judge-outputs-requires c κs =
     let w = c .before .before .before in
@@ -61,7 +58,7 @@ pub judge-chain-spec : {M : Type 1} → statement M
 judge-chain-spec =
     tie.close
     (tie.spec
-    add-bit-length
+    add-top
     bit-length-requires
     judge-steps-requires
     enum-known-number
@@ -69,7 +66,6 @@ judge-chain-spec =
     mul-judge-outputs
     mul-judge-outputs-2
     add-judge-outputs
-    add-judge-outputs-2
     judge-outputs-requires
     returns
     returns-2)

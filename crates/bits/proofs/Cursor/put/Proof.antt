@@ -1,4 +1,5 @@
-use Rattle.bits.proofs.Put.{put-fits, put-stored}
+use native.Mathlib.Omega.{arith}
+use Rattle.bits.proofs.Put.{head-low, put-stored}
 use borrow.Author.Needs.{needs}
 use Rattle.bits.proofs.Cursor.put.Statement.{statement}
 use Rattle.bits.proofs.Cursor.put.Tie as tie
@@ -6,37 +7,40 @@ use Rattle.bits.proofs.Cursor.put.Tie as tie
 add-used : tie.Need-add-used
 add-used c = search needs
 
+sub-right : tie.Need-sub-right
+sub-right c = search needs
+
 slice-read-wide : tie.Need-slice-read-wide
 slice-read-wide c = search needs
 
 wide-requires : tie.Need-wide-requires
 wide-requires c κs = search needs
 
-sub-head : tie.Need-sub-head
-sub-head c = search needs
-
 shr-head : tie.Need-shr-head
 shr-head c = search needs
 
-shl-all : tie.Need-shl-all
-shl-all c = search needs
-
-add-all : tie.Need-add-all
-add-all c =
-    let s = c .before .before in
-    record { fits = put-fits _ _ _ _ _ (λ k. s .slice-known .given k .fits) (s .before .pre) (c .wide .ensures) }
-
-sub-all : tie.Need-sub-all
-sub-all c = search needs
-
-shl-all-2 : tie.Need-shl-all-2
-shl-all-2 c = search needs
+shl-head : tie.Need-shl-head
+shl-head c = search needs
 
 add-scatter : tie.Need-add-scatter
 add-scatter c = search needs
 
+sub-scatter : tie.Need-sub-scatter
+sub-scatter c = search needs
+
+shl-scatter : tie.Need-shl-scatter
+shl-scatter c = search needs
+
 scatter-requires : tie.Need-scatter-requires
-scatter-requires c κs = search needs
+scatter-requires c κs =
+    let w = c .before in
+    let s = w .before .before in
+    let room = s .before .pre .room in (
+      omega (arith, s .before .pre .some),
+      omega (arith, room .narrow),
+      omega (arith, room .within),
+      head-low _ _ _ _ _ (λ k. s .slice-known .given k .fits) (s .before .pre) (w .wide .ensures),
+    )
 
 add-t10 : tie.Need-add-t10
 add-t10 c = search needs
@@ -55,15 +59,14 @@ put-spec =
     tie.close
     (tie.spec
     add-used
+    sub-right
     slice-read-wide
     wide-requires
-    sub-head
     shr-head
-    shl-all
-    add-all
-    sub-all
-    shl-all-2
+    shl-head
     add-scatter
+    sub-scatter
+    shl-scatter
     scatter-requires
     add-t10
     same-length

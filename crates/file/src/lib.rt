@@ -147,7 +147,9 @@ fn judge_steps(bytes: &[u8], p: usize, n: usize, w: usize) -> Judgement
         let first = c.take(bytes, w);
         let middle = first.next;
         let second = middle.take(bytes, w);
-        match chain::judge_step(p + s + 1, s + 1, first.value as u32, second.value as u32) {
+        let a = first.value as u32;
+        let b = second.value as u32;
+        match chain::judge_step(p + s + 1, s + 1, a, b) {
             Judgement::Refused { number, place } => {
                 return Judgement::Refused {
                     number: number,

@@ -25,6 +25,16 @@ take-requires-2 c κs =
     let l = t .before in
     second-room _ _ _ _ _ _ _ (l .before .loop .inv) (l .loop-test .taken) _ _ (t .take .ensures)
 
+cast-a : tie.Need-cast-a Inv-loop μ-loop
+cast-a c =
+    let t = c .before .before .before in
+    record { fits = field-fits _ _ (t .before .before .loop .inv .room .narrow) (t .take .ensures .small) }
+
+cast-b : tie.Need-cast-b Inv-loop μ-loop
+cast-b c =
+    let t = c .before .before in
+    record { fits = field-fits _ _ (t .before .before .before .before .loop .inv .room .narrow) (t .take2 .ensures .small) }
+
 add-judge-step : tie.Need-add-judge-step Inv-loop μ-loop
 add-judge-step c = search needs
 
@@ -33,16 +43,6 @@ add-judge-step-2 c = search needs
 
 add-judge-step-3 : tie.Need-add-judge-step-3 Inv-loop μ-loop
 add-judge-step-3 c = search needs
-
-cast-judge-step : tie.Need-cast-judge-step Inv-loop μ-loop
-cast-judge-step c =
-    let t = c .before .before .before in
-    record { fits = field-fits _ _ (t .before .before .loop .inv .room .narrow) (t .take .ensures .small) }
-
-cast-judge-step-2 : tie.Need-cast-judge-step-2 Inv-loop μ-loop
-cast-judge-step-2 c =
-    let t = c .before .before in
-    record { fits = field-fits _ _ (t .before .before .before .before .loop .inv .room .narrow) (t .take2 .ensures .small) }
 
 judge-step-requires : tie.Need-judge-step-requires Inv-loop μ-loop
 judge-step-requires c κs = search needs
@@ -89,11 +89,11 @@ judge-steps-spec =
     loop-holds
     take-requires
     take-requires-2
+    cast-a
+    cast-b
     add-judge-step
     add-judge-step-2
     add-judge-step-3
-    cast-judge-step
-    cast-judge-step-2
     judge-step-requires
     enum-known-number
     returns

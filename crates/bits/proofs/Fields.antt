@@ -1,7 +1,7 @@
 -- Lists of fields of one width; the bits of bytes are such a list.
 use mathlib.Core.Path.{_≡_, refl, sym, ap, ap₂, _∙_}
 use mathlib.Core.Bool.{Bool}
-use mathlib.Core.List.{List, [], _∷_, _++_, append-assoc, append-nil}
+use mathlib.Core.List.{List, [], _∷_, _++_, append-assoc}
 use Prim.Native.Nat.{ℕ, zero, suc, _+_, _-_, _*_, _/_, _%_, _^_, _≤_, _<_}
 use native.Mathlib.Nat.{zero-mul, suc-mul, div-add-mod', lt-of-not-le, lt-of-lt-of-le}
 use native.Mathlib.Decide.{decLe}
@@ -26,10 +26,6 @@ module _ (w : ℕ) where
   unfolding fields
   fields-append [] b = refl
   fields-append (x ∷ a) b = ap (λ (r : List Bool). bits w x ++ r) (fields-append a b) ∙ sym (append-assoc (bits w x) (fields w a) (fields w b))
-
-  pub fields-one : (x : ℕ) → fields w (x ∷ []) ≡ bits w x
-  unfolding fields
-  fields-one x = append-nil (bits w x)
 
   past : (i x : ℕ) → suc i * w ≡ length (bits w x) + i * w
   past i x = omega (arith, suc-mul i w, length-bits w x)

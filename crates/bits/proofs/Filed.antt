@@ -1,13 +1,13 @@
 -- A buffer that is written from its first bit on, and what is read from it.
 use mathlib.Core.Path.{_≡_, refl, sym, ap, ap₂, _∙_}
-use mathlib.Core.Bool.{Bool, true, false}
-use mathlib.Core.List.{List, [], _∷_, _++_, append-assoc, append-nil}
-use Prim.Native.Nat.{ℕ, zero, suc, _+_, _-_, _*_, _/_, _^_, _≤_, _<_}
+use mathlib.Core.Bool.{Bool, false}
+use mathlib.Core.List.{List, [], _∷_, _++_, append-assoc}
+use Prim.Native.Nat.{ℕ, suc, _+_, _-_, _*_, _^_, _≤_, _<_}
 use native.Mathlib.Omega.{arith}
 use lib.ListN.{length, take, drop, getD, replicate, length-append, length-drop, length-replicate, take-append-drop}
 use lib.Seq.{length-take-le, take-all, take-append-seam, take-take, take-at, drop-at}
 use Rattle.chain.specs.Written.{over}
-use Rattle.chain.proofs.Written.{over-length, over-over}
+use Rattle.chain.proofs.Written.{over-over}
 use Rattle.bits.specs.Bits.{bits, fields, value, bytesBits, front, pack, bytesFor, fieldAt, fieldsAt}
 use Rattle.bits.specs.Cursor.{filed, Stored}
 use Rattle.bits.proofs.Parts.{drop-take}
@@ -34,13 +34,6 @@ filed-bits b old = ap (take (length b)) (filed-rest b old (bytesFor (length b)) 
 pub filed-filed : (b c : List Bool) (old : List ℕ) → length b ≤ length c → filed c (filed b old) ≡ filed c old
 filed-filed b c old h =
     over-over _ _ old (omega (arith, length-pack (bytesFor (length b)) b, length-pack (bytesFor (length c)) c))
-
-pub length-filed : (b : List Bool) (old : List ℕ) → bytesFor (length b) ≤ length old → length (filed b old) ≡ length old
-length-filed b old h = over-length _ old (omega (arith, length-pack (bytesFor (length b)) b))
-
-pub filed-nil : (old : List ℕ) → filed [] old ≡ old
-unfolding over pack
-filed-nil old = refl
 
 -- bits more, after those that the buffer has so far
 pub filed-more : (b more : List Bool) (old : List ℕ) (at : ℕ) → length b ≡ at → filed (take at (bytesBits (filed b old)) ++ more) (filed b old) ≡ filed (b ++ more) old

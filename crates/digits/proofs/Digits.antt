@@ -1,5 +1,5 @@
 -- How many digits a number has: at most c in base 2^k exactly if it is below 2^(kc).
-use mathlib.Core.Path.{_≡_, refl, sym, ap, _∙_, subst}
+use mathlib.Core.Path.{_≡_, subst}
 use Prim.Native.Nat.{ℕ, zero, suc, _-_, _*_, _/_, _^_, _≤_, _<_, zero-le}
 use native.Mathlib.Nat.{mul-suc, mul-zero, pow-zero, one-mul, le-refl, div-lt-iff-lt-mul, div-lt-self, not-suc-le-zero}
 use native.Mathlib.Decide.{decLe}

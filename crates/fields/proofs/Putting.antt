@@ -1,19 +1,19 @@
 -- A loop that writes fields one after the other.
-use mathlib.Core.Path.{_≡_, refl, sym, ap, ap₂, _∙_, subst}
+use mathlib.Core.Path.{_≡_, refl, sym, ap, ap₂, _∙_}
 use mathlib.Core.Bool.{Bool}
 use mathlib.Core.List.{List, [], _∷_, _++_, append-assoc, append-nil}
-use Prim.Native.Nat.{ℕ, zero, suc, _+_, _-_, _*_, _^_, _≤_, _<_}
+use Prim.Native.Nat.{ℕ, suc, _+_, _-_, _*_, _≤_, _<_}
 use native.Mathlib.Nat.{zero-mul, suc-mul}
 use native.Mathlib.Numerals.{add-one}
 use native.Mathlib.Omega.{arith}
-use lib.ListN.{length, take, drop, getD, length-append, length-take, length-drop, drop-of-length-le}
+use lib.ListN.{length, take, drop, getD, length-append, length-take, drop-of-length-le}
 use lib.Seq.{length-take-le, drop-cons, getD-take}
 use Rattle.bits.specs.Bits.{bits, fields, bytesBits}
 use Rattle.bits.specs.Cursor.{filed, Fill, Stored}
 use Rattle.bits.proofs.Values.{length-bits}
-use Rattle.bits.proofs.Fields.{length-bytesBits, fields-append, fields-one}
+use Rattle.bits.proofs.Fields.{length-bytesBits}
 use Rattle.bits.proofs.Filed.{filed-more}
-use Rattle.fields.specs.Fields.{Clean, FillAll}
+use Rattle.fields.specs.Fields.{FillAll}
 
 -- what the buffer will be, from what it is at position at with the numbers l to come
 unfoldable pub filedFrom : List ℕ → ℕ → ℕ → List ℕ → List ℕ

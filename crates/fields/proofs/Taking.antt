@@ -1,14 +1,14 @@
 -- A loop that reads fields one after the other into the cells of a slice.
-use mathlib.Core.Path.{_≡_, refl, sym, ap, ap₂, _∙_}
-use mathlib.Core.List.{List, [], _∷_}
-use Prim.Native.Nat.{ℕ, zero, suc, _+_, _-_, _*_, _^_, _≤_, _<_}
+use mathlib.Core.Path.{_≡_, sym, ap, ap₂, _∙_}
+use mathlib.Core.List.{List, _∷_}
+use Prim.Native.Nat.{ℕ, suc, _+_, _-_, _*_, _^_, _≤_, _<_}
 use native.Mathlib.Nat.{zero-mul, suc-mul, lt-of-lt-of-le}
 use native.Mathlib.Omega.{arith}
 use lib.ListN.{length, set, length-set}
 use lib.Pow.{pow-mono}
 use Rattle.chain.specs.Written.{over, laid}
 use Rattle.chain.proofs.Written.{over-laid, laid-nil, laid-one}
-use Rattle.bits.specs.Bits.{fieldAt, fieldsAt}
+use Rattle.bits.specs.Bits.{fieldsAt}
 use Rattle.bits.specs.Cursor.{Room, Taken}
 use Rattle.fields.specs.Fields.{RoomAll, TakenAll}
 

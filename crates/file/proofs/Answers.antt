@@ -1,8 +1,8 @@
 -- Answers and lent slices by the verdict that a judge tells.
-use mathlib.Core.Path.{_≡_, refl}
+use mathlib.Core.Path.{_≡_}
 use mathlib.Core.List.{List}
 use Prim.Native.Nat.{ℕ}
-use Rattle.chain.specs.Verdict.{Verdict, fine, refused, Answer, done, refusal, answer, onFine}
+use Rattle.chain.specs.Verdict.{Verdict, fine, refused, done, refusal, answer, onFine}
 
 module _ (v : Verdict) (n s : ℕ) (e : refused n s ≡ v) where
   pub answer-refused : (vs : List ℕ) → refusal n s ≡ answer v vs

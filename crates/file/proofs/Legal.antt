@@ -1,13 +1,13 @@
 -- What legality promises the file: sizes that fit the header's fields, and numbers that fit the width.
-use mathlib.Core.Path.{_≡_, refl, sym, ap, _∙_}
+use mathlib.Core.Path.{_≡_, sym}
 use mathlib.Core.List.{List, [], _∷_}
-use Prim.Native.Nat.{ℕ, zero, suc, _+_, _*_, _^_, _≤_, _<_, zero-le}
+use Prim.Native.Nat.{ℕ, zero, suc, _+_, _^_, _≤_, _<_, zero-le}
 use native.Mathlib.Nat.{lt-of-not-le}
 use native.Mathlib.Decide.{decLe}
 use native.Mathlib.Omega.{arith}
 use lib.ListN.{length, getD, List·getD-eq-default}
 use Rattle.chain.specs.Verdict.{fine}
-use Rattle.chain.specs.Chain.{mostSteps, flat, stepsRule, outputsRule, chainRule, Legal, legalRule, sizesRule, lengthRule}
+use Rattle.chain.specs.Chain.{mostSteps, flat, stepsRule, chainRule, Legal, legalRule}
 use Rattle.chain.specs.declared.Step.{Step}
 use Rattle.chain.proofs.Rules.{then-fine, pass}
 use Rattle.chain.proofs.Sizes.{Sizes, sizes-fit, fit-sizes, length-fits, fits-length}

@@ -1,16 +1,16 @@
 -- How long a file is.
-use mathlib.Core.Path.{_≡_, refl, sym, ap, ap₂, _∙_}
-use mathlib.Core.List.{List, [], _∷_, _++_}
-use Prim.Native.Nat.{ℕ, _+_, _-_, _*_, _/_, _^_, _≤_, _<_}
-use native.Mathlib.Nat.{add-mul, mul-le-mul, le-trans}
+use mathlib.Core.Path.{_≡_, refl, ap}
+use mathlib.Core.List.{List, _++_}
+use Prim.Native.Nat.{ℕ, _+_, _-_, _*_, _^_, _≤_, _<_}
+use native.Mathlib.Nat.{add-mul, mul-le-mul}
 use native.Mathlib.Omega.{arith}
 use lib.ListN.{length, length-append}
 use Rattle.chain.specs.Chain.{mostColumns, mostPayslips, mostSteps, flat}
 use Rattle.chain.specs.declared.Step.{Step}
 use Rattle.chain.proofs.Pairs.{length-flat}
-use Rattle.digits.specs.Digits.{bitLength}
+use Rattle.digits.specs.Digits.{digitCount, bitLength}
 use Rattle.digits.proofs.Digits.{below-bits, bits-le, bits-some}
-use Rattle.bits.specs.Bits.{bits, fields, pack, bytesFor}
+use Rattle.bits.specs.Bits.{bits, fields}
 use Rattle.bits.proofs.Values.{length-bits}
 use Rattle.bits.proofs.Fields.{length-fields}
 use Rattle.bits.proofs.Pack.{length-pack}
@@ -35,7 +35,7 @@ module _ (p q n : ℕ) where
   pub count-low : p ≤ mostColumns → q ≤ mostPayslips → n ≤ mostSteps → (2 * n + q) * width p n ≤ 448896
   count-low hp hq hn = mul-le-mul {n₂ = 32064} {m₂ = 14} (omega arith) (width-low p n hp hn)
 
-  -- the longest file there is
+  -- no file is longer than the longest
   pub longest : p ≤ mostColumns → q ≤ mostPayslips → n ≤ mostSteps → byteCount p q n ≤ longestFile
   longest hp hq hn = omega (arith, count-low hp hq hn)
 
@@ -51,6 +51,11 @@ module _ (p q n : ℕ) where
         length-bits 6 (q - 1),
         length-bits 14 n,
       )
+
+-- which is that of the largest sizes
+pub longest-reached : byteCount mostColumns mostPayslips mostSteps ≡ longestFile
+unfolding bitLength digitCount
+longest-reached = refl
 
 module _ (p : ℕ) (steps : List Step) (outputs : List ℕ) where
   pub length-fileBits : length (fileBits p steps outputs) ≡ bitCount p (length outputs) (length steps)

@@ -1,20 +1,20 @@
 -- Bytes that are read are a legal chain's file; all others are refused.
 use mathlib.Core.Path.{_≡_, refl, sym, ap, ap₂, _∙_}
 use mathlib.Core.Bool.{Bool}
-use mathlib.Core.List.{List, [], _∷_, _++_, append-assoc}
-use Prim.Native.Nat.{ℕ, _+_, _-_, _*_, _/_, _≤_, _<_}
+use mathlib.Core.List.{List, _++_, append-assoc}
+use Prim.Native.Nat.{ℕ, _+_, _-_, _*_, _/_, _≤_}
 use native.Mathlib.Omega.{arith}
 use lib.ListN.{length, take, drop}
-use lib.Seq.{take-add, drop-drop}
+use lib.Seq.{take-add}
 use Rattle.chain.specs.Verdict.{Verdict, fine, refused}
-use Rattle.chain.specs.Chain.{pairs, flat, Legal}
+use Rattle.chain.specs.Chain.{flat, Legal}
 use Rattle.chain.specs.declared.Step.{Step}
 use Rattle.chain.proofs.Pairs.{length-pairs, flat-pairs}
 use Rattle.bits.specs.Bits.{bits, fields, bytesBits, pack, fieldAt, fieldsAt}
 use Rattle.bits.proofs.Fields.{length-fieldsAt, bits-field, fields-fields}
 use Rattle.bits.proofs.Pack.{Bytes}
 use Rattle.bits.proofs.Filed.{filled}
-use Rattle.file.specs.File.{edition, headerBits, headerSize, width, fileBits, fileOf, bitCount, byteCount, editionOf, columnsOf, payslipsOf, lengthOf, widthOf, stepsOf, outputsOf, readRule}
+use Rattle.file.specs.File.{edition, headerBits, headerSize, width, fileBits, fileOf, bitCount, byteCount, columnsOf, payslipsOf, lengthOf, widthOf, stepsOf, outputsOf, readRule}
 use Rattle.file.proofs.Lengths.{count-parts}
 use Rattle.file.proofs.Legal.{LegalChain, parts-legal}
 use Rattle.file.proofs.Readable.{Readable, readable, columns-low, payslips-low}

@@ -1,11 +1,11 @@
 -- What `judge_chain`, `judge_read` and `read` answer.
-use mathlib.Core.Path.{_≡_, refl, sym, ap, ap₂, _∙_}
+use mathlib.Core.Path.{_≡_, sym, ap, _∙_}
 use mathlib.Core.List.{List, [], _∷_}
-use Prim.Native.Nat.{ℕ, _+_, _-_, _*_, _/_, _≤_, _<_}
+use Prim.Native.Nat.{ℕ, _+_, _-_, _*_, _/_, _≤_}
 use native.Mathlib.Omega.{arith}
 use lib.ListN.{length}
 use Rattle.chain.specs.Tests.{_<?_, _≠?_, _or_}
-use Rattle.chain.specs.Verdict.{Verdict, fine, refused, _then_, refuseIf, Answer, done, refusal, answer, onFine}
+use Rattle.chain.specs.Verdict.{Verdict, refused, _then_, refuseIf, done, refusal}
 use Rattle.chain.specs.Judgement.{verdictOf}
 use Rattle.chain.specs.Written.{over}
 use Rattle.chain.specs.Chain.{mostColumns, mostPayslips, mostSteps, pairs, flat, lengthRule, stepsRule, outputsRule, chainRule}
@@ -17,7 +17,7 @@ use Rattle.digits.specs.Digits.{bitLength}
 use Rattle.bits.specs.Bits.{fieldAt, fieldsAt}
 use Rattle.bits.specs.Cursor.{Room}
 use Rattle.bits.proofs.Fields.{length-fieldsAt}
-use Rattle.file.specs.File.{edition, headerSize, width, bitCount, byteCount, longestFile, editionOf, columnsOf, payslipsOf, lengthOf, stepsOf, outputsOf, readRule, readAnswer, readSteps, readOutputs}
+use Rattle.file.specs.File.{edition, headerSize, width, bitCount, longestFile, columnsOf, payslipsOf, lengthOf, stepsOf, outputsOf, readRule, readAnswer, readSteps, readOutputs}
 use Rattle.file.proofs.Lengths.{width-low, count-parts, count-low}
 use Rattle.file.proofs.Answers.{answer-refused, answer-done, kept, filled}
 use Rattle.file.proofs.Readable.{columns-low, payslips-low}

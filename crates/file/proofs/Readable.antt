@@ -1,16 +1,14 @@
 -- What it means that bytes are read: each of the reader's rules finds nothing.
-use mathlib.Core.Path.{_≡_, refl, sym, _∙_}
+use mathlib.Core.Path.{_≡_, sym}
 use mathlib.Core.List.{List}
-use Prim.Native.Nat.{ℕ, _+_, _-_, _*_, _≤_, _<_}
+use Prim.Native.Nat.{ℕ, _≤_}
 use native.Mathlib.Omega.{arith}
 use lib.ListN.{length}
-use Rattle.chain.specs.Tests.{_<?_, _≠?_, _or_}
-use Rattle.chain.specs.Verdict.{Verdict, fine, _then_, refuseIf}
-use Rattle.chain.specs.Chain.{mostColumns, mostPayslips, mostSteps, lengthRule, chainRule, pairs}
+use Rattle.chain.specs.Verdict.{fine}
+use Rattle.chain.specs.Chain.{mostColumns, mostPayslips, mostSteps, chainRule}
 use Rattle.chain.proofs.Rules.{then-fine, refuseIf-fine, neither, not-lt, not-ne, pass, refuse-no, lt-no, ne-no, or-none}
 use Rattle.chain.proofs.Sizes.{length-fits, fits-length}
-use Rattle.bits.specs.Bits.{fieldAt, fieldsAt}
-use Rattle.bits.proofs.Fields.{field-lt, length-fieldsAt}
+use Rattle.bits.proofs.Fields.{field-lt}
 use Rattle.file.specs.File.{edition, byteCount, editionOf, columnsOf, payslipsOf, lengthOf, stepsOf, outputsOf, fillingOf, readRule}
 
 pub record Readable (bytes : List ℕ) (pairsLent outputsLent : ℕ) : Type 0 where

@@ -1,14 +1,14 @@
 -- A legal chain's file is read back as that chain, so that no two legal chains have the same file.
-use mathlib.Core.Path.{_≡_, refl, sym, ap, ap₂, _∙_, subst}
+use mathlib.Core.Path.{_≡_, refl, sym, ap, ap₂, _∙_}
 use mathlib.Core.Bool.{Bool}
-use mathlib.Core.List.{List, [], _∷_, _++_, append-assoc, append-nil}
+use mathlib.Core.List.{List, [], _++_, append-assoc, append-nil}
 use Prim.Native.Nat.{ℕ, _+_, _-_, _*_, _^_, _≤_, _<_}
 use native.Mathlib.Omega.{arith}
-use lib.ListN.{length, getD, drop, length-append}
+use lib.ListN.{length, getD, length-append}
 use lib.Seq.{drop-nil}
 use Rattle.chain.specs.Verdict.{fine}
 use Rattle.chain.specs.Written.{over}
-use Rattle.chain.specs.Chain.{pairs, flat, chainRule, Legal}
+use Rattle.chain.specs.Chain.{pairs, flat, Legal}
 use Rattle.chain.specs.declared.Step.{Step}
 use Rattle.chain.proofs.Pairs.{pairs-flat, length-flat}
 use Rattle.bits.specs.Bits.{bits, fields, pack, bytesFor, fieldAt, fieldsAt}
@@ -17,9 +17,9 @@ use Rattle.bits.proofs.Values.{length-bits}
 use Rattle.bits.proofs.Fields.{length-fields}
 use Rattle.bits.proofs.Filed.{field-back, fields-back, filling-zero}
 use Rattle.file.specs.File.{edition, headerBits, headerSize, width, fileBits, fileOf, bitCount, byteCount, longestFile, editionOf, columnsOf, payslipsOf, lengthOf, widthOf, stepsOf, outputsOf, fillingOf, readRule}
-use Rattle.file.proofs.Lengths.{length-header, length-fileBits, length-file, count-low, longest}
+use Rattle.file.proofs.Lengths.{length-header, length-fileBits, length-file, longest}
 use Rattle.file.proofs.Legal.{LegalChain, legal-parts, operands-small, outputs-small}
-use Rattle.file.proofs.Readable.{Readable, read-fine}
+use Rattle.file.proofs.Readable.{read-fine}
 
 module _ (p : ℕ) (steps : List Step) (outputs : List ℕ) where
   abbrev n : ℕ
@@ -162,10 +162,11 @@ module _ (p : ℕ) (steps : List Step) (outputs : List ℕ) (legal : Legal p ste
         chain = rw (r .columns, r .steps-same, r .outputs-same) (parts .chain);
       })
 
-  pub file-long : length (fileOf p steps outputs) ≤ longestFile
-  file-long =
+  -- and has at most the bytes of the longest file
+  pub file-low : byteCount p (length outputs) (length steps) ≤ longestFile
+  file-low =
       let s = parts .sizes in
-      omega (arith, length-file p steps outputs, longest p (length outputs) (length steps) (s .p-low) (s .q-low) (parts .few))
+      longest p (length outputs) (length steps) (s .p-low) (s .q-low) (parts .few)
 
 -- a chain is known by its file
 pub record Same (p p′ : ℕ) (steps steps′ : List Step) (outputs outputs′ : List ℕ) : Type 0 where

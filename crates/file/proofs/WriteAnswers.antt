@@ -1,10 +1,10 @@
 -- What `judge_write` and `write` answer.
-use mathlib.Core.Path.{_≡_, refl, sym, ap, ap₂, _∙_}
+use mathlib.Core.Path.{_≡_, sym, ap, _∙_}
 use mathlib.Core.List.{List, [], _∷_}
-use Prim.Native.Nat.{ℕ, _+_, _*_, _/_, _≤_, _<_}
+use Prim.Native.Nat.{ℕ, _/_, _≤_, _<_}
 use lib.ListN.{length}
 use Rattle.chain.specs.Tests.{_<?_}
-use Rattle.chain.specs.Verdict.{Verdict, fine, refused, _then_, refuseIf, Answer, done, refusal, answer, onFine}
+use Rattle.chain.specs.Verdict.{fine, refused, refuseIf, done, refusal}
 use Rattle.chain.specs.Judgement.{verdictOf}
 use Rattle.chain.specs.Written.{over}
 use Rattle.chain.specs.Chain.{pairs, legalRule}

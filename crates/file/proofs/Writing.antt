@@ -2,14 +2,13 @@
 use mathlib.Core.Path.{_≡_, refl, sym, ap, ap₂, subst, _∙_}
 use mathlib.Core.Bool.{Bool}
 use mathlib.Core.List.{List, [], _∷_, _++_, append-assoc, append-nil}
-use Prim.Native.Nat.{ℕ, zero, suc, _+_, _-_, _*_, _/_, _^_, _≤_, _<_}
+use Prim.Native.Nat.{ℕ, suc, _+_, _-_, _*_, _/_, _^_, _≤_, _<_}
 use native.Mathlib.Omega.{arith}
 use lib.ListN.{length, getD, take, length-append}
 use lib.Seq.{length-take-le, take-length}
-use Rattle.chain.specs.Tests.{_<?_}
-use Rattle.chain.specs.Verdict.{Verdict, fine, _then_, refuseIf}
+use Rattle.chain.specs.Verdict.{fine}
 use Rattle.chain.specs.Written.{over}
-use Rattle.chain.specs.Chain.{pairs, flat, legalRule}
+use Rattle.chain.specs.Chain.{pairs, flat}
 use Rattle.chain.proofs.Rules.{then-fine, refuseIf-fine, not-lt}
 use Rattle.chain.proofs.Pairs.{length-pairs}
 use Rattle.bits.specs.Bits.{bits, fields, bytesBits, pack, bytesFor}

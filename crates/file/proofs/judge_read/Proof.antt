@@ -1,7 +1,6 @@
 use mathlib.Core.Path.{refl, sym}
 use Prim.Native.Nat.{_*_, _≤_}
 use native.Mathlib.Omega.{arith}
-use denote.Ref.{now}
 use Rattle.chain.specs.Chain.{mostSteps}
 use Rattle.chain.proofs.Rules.{judging, told-fine}
 use Rattle.chain.proofs.Sizes.{length-fits}

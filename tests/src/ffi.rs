@@ -5,6 +5,25 @@ use crate::reference::Answer;
 
 mod raw {
     extern "C" {
+        pub fn spoutbasket_write(
+            p: usize,
+            steps: *const u32,
+            steps_len: usize,
+            outputs: *const u32,
+            outputs_len: usize,
+            bytes: *mut u8,
+            bytes_len: usize,
+            answer: *mut u64,
+        ) -> u32;
+        pub fn spoutbasket_read(
+            bytes: *const u8,
+            bytes_len: usize,
+            steps: *mut u32,
+            steps_len: usize,
+            outputs: *mut u32,
+            outputs_len: usize,
+            answer: *mut u64,
+        ) -> u32;
         pub fn spoutbasket_verify(
             p: usize,
             steps: *const u32,
@@ -99,4 +118,43 @@ pub fn run(
         )
     };
     answer(number, words, 1)
+}
+
+pub fn write(p: usize, steps: &[u32], outputs: &[u32], bytes: &mut [u8]) -> Answer {
+    let mut words = [7u64; 4];
+    let number = unsafe {
+        raw::spoutbasket_write(
+            p,
+            steps.as_ptr(),
+            steps.len(),
+            outputs.as_ptr(),
+            outputs.len(),
+            bytes.as_mut_ptr(),
+            bytes.len(),
+            words.as_mut_ptr(),
+        )
+    };
+    answer(number, words, 1)
+}
+
+/// The number and the words of a read, without making an answer of them.
+pub fn read_words(bytes: &[u8], steps: &mut [u32], outputs: &mut [u32]) -> (u32, [u64; 4]) {
+    let mut words = [7u64; 4];
+    let number = unsafe {
+        raw::spoutbasket_read(
+            bytes.as_ptr(),
+            bytes.len(),
+            steps.as_mut_ptr(),
+            steps.len(),
+            outputs.as_mut_ptr(),
+            outputs.len(),
+            words.as_mut_ptr(),
+        )
+    };
+    (number, words)
+}
+
+pub fn read(bytes: &[u8], steps: &mut [u32], outputs: &mut [u32]) -> Answer {
+    let (number, words) = read_words(bytes, steps, outputs);
+    answer(number, words, 3)
 }

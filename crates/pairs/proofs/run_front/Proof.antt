@@ -12,7 +12,7 @@ mul-run : tie.Need-mul-run
 mul-run c = search needs
 
 slice-aggregate-run : tie.Need-slice-aggregate-run
-slice-aggregate-run c = let start = c .before .before .before .before .before .before in sym (length-take-le (2 * start .args .n) (start .args .cells .now) (start .requires))
+slice-aggregate-run c = let start = c .before .before .before .before .before .before in sym (length-take-le (2 * start .args .n) (start .args .cells .now) (start .pre))
 
 run-requires : tie.Need-run-requires
 run-requires c κs = search needs

@@ -12,7 +12,7 @@ mul-verify : tie.Need-mul-verify
 mul-verify c = search needs
 
 slice-aggregate-verify : tie.Need-slice-aggregate-verify
-slice-aggregate-verify c = let start = c .before .before .before .before .before in sym (length-take-le (2 * start .args .n) (start .args .cells .now) (start .requires))
+slice-aggregate-verify c = let start = c .before .before .before .before .before in sym (length-take-le (2 * start .args .n) (start .args .cells .now) (start .pre))
 
 verify-requires : tie.Need-verify-requires
 verify-requires c κs = search needs

@@ -4,13 +4,13 @@ use mathlib.Core.List.{List, [], _∷_, _++_}
 use Prim.Native.Nat.{ℕ, zero, suc, _+_, _*_, _/_, _≤_, _<_, min}
 use native.Mathlib.Omega.{arith}
 use native.Mathlib.Numerals.{add-one}
-use lib.ListN.{length, getD, take, set}
+use lib.ListN.{length, getD, take, set, length-take}
 use lib.Seq.{length-take-le, take-nil, take-suc}
-use Rattle.chain.specs.Chain.{by, flat}
+use Rattle.chain.specs.Chain.{by, pairs, flat}
 use Rattle.chain.specs.Written.{over, laid}
 use Rattle.chain.specs.declared.Step.{Step}
-use Rattle.chain.proofs.Pairs.{length-flat, flat-append}
-use Rattle.chain.proofs.Written.{laid-nil, laid-pair, laid-laid, over-laid, over-length}
+use Rattle.chain.proofs.Pairs.{pairs-flat, length-flat, flat-append}
+use Rattle.chain.proofs.Written.{laid-nil, laid-pair, laid-laid, over-laid, over-length, take-over}
 
 abbrev pub flattened : ℕ → List Step → List ℕ → List ℕ
 flattened i steps cells = over (flat (take i steps)) cells
@@ -49,3 +49,9 @@ take-fewer zero (x ∷ r) = let e : min (suc (length r)) 0 ≡ 0 = omega arith i
 take-fewer (suc c) (x ∷ r) =
     let e : min (suc (length r)) (suc c) ≡ suc (min (length r) c) = omega arith in
     rw e (ap (λ (l : List Step). x ∷ l) (take-fewer c r))
+
+-- the pairs of the front are the steps that were laid there
+pub flattened-pairs : (c n : ℕ) (steps : List Step) (cells : List ℕ) → n ≡ min (length steps) c → pairs (take (2 * n) (over (flat (take c steps)) cells)) ≡ take c steps
+flattened-pairs c n steps cells e =
+    let len : length (flat (take c steps)) ≡ 2 * n = omega (arith, e, length-flat (take c steps), length-take c steps) in
+    ap pairs (take-over (2 * n) (flat (take c steps)) cells len) ∙ pairs-flat (take c steps)

@@ -39,7 +39,7 @@ use Rattle.pairs.proofs.flatten_some as flatten
 abbrev pub N : ℕ
 N = 32002
 
-pub zeros : List ℕ
+unfoldable pub zeros : List ℕ
 zeros = replicate N 0
 
 pub zeros-length : length zeros ≡ N

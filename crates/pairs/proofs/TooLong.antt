@@ -9,7 +9,7 @@ use lib.Dec.{leb}
 use lib.ListN.{length, take}
 use lib.Seq.{length-take-le, take-all}
 use borrow.Author.Tests.{leb-true, leb-false}
-use Rattle.chain.specs.Verdict.{Verdict, fine, refused, _then_, refuseIf, Answer, answer, onFine}
+use Rattle.chain.specs.Verdict.{Verdict, fine, refused, _then_, answer, onFine}
 use Rattle.chain.specs.Chain.{mostSteps, sizesRule, lengthRule}
 use Rattle.chain.specs.declared.Step.{Step}
 use Rattle.chain.proofs.Rules.{lt-yes, refuse-yes}

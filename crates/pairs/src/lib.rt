@@ -12,6 +12,9 @@ use chain::Step;
 use run::Ran;
 use verify::Verified;
 
+// Two cells for each of 16,001 steps, one more than is legal: so the flat form itself refuses a chain that is too long.
+const CELLS: usize = 32002;
+
 // How many of the steps have room, two cells each.
 fn fitting(steps: usize, cells: usize) -> usize
     ensures { λ r. ⌜ r ≡ min steps (cells / 2) ⌝ }
@@ -88,7 +91,7 @@ pub fn run_pairs(
     ensures { λ r. ⌜ now (values .exit) ≡ runValues p (now (steps .entry)) (now (outputs .entry)) m (now (bases .entry)) (length (now (figures .entry))) (now (values .entry)) ⌝ }
     ensures { λ r. ⌜ now (figures .exit) ≡ runFigures p (now (steps .entry)) (now (outputs .entry)) m (now (bases .entry)) (length (now (values .entry))) (now (figures .entry)) ⌝ }
 {
-    let mut cells = [0u32; 32002];
+    let mut cells = [0u32; CELLS];
     let n = flatten_some(steps, &mut cells);
     run_front(p, &cells, n, outputs, m, bases, values, figures)
 }
@@ -104,7 +107,7 @@ pub fn verify_pairs(
     ensures { λ r. ⌜ verifiedOf r ≡ verifyAnswer p (now (steps .entry)) (now (outputs .entry)) (now (amounts .entry)) (length (now (scratch .entry))) ⌝ }
     ensures { λ r. ⌜ now (scratch .exit) ≡ verifyScratch p (now (steps .entry)) (now (outputs .entry)) (now (amounts .entry)) (now (scratch .entry)) ⌝ }
 {
-    let mut cells = [0u32; 32002];
+    let mut cells = [0u32; CELLS];
     let n = flatten_some(steps, &mut cells);
     verify_front(p, &cells, n, outputs, amounts, scratch)
 }

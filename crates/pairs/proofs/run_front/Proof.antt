@@ -1,18 +1,15 @@
 use borrow.Author.Needs.{needs}
 use mathlib.Core.Path.{sym}
-use Prim.Native.Nat.{_*_}
+use native.Mathlib.Omega.{arith}
 use lib.Seq.{length-take-le}
 use Rattle.pairs.proofs.run_front.Statement.{statement}
 use Rattle.pairs.proofs.run_front.Tie as tie
-use Rattle.pairs.proofs.run_front.Reads as reads
-use Rattle.pairs.proofs.run_front.Lts as lts
-use Rattle.run.proofs.run.Reads as run-reads
 
 mul-run : tie.Need-mul-run
 mul-run c = search needs
 
 slice-aggregate-run : tie.Need-slice-aggregate-run
-slice-aggregate-run c = let start = c .before .before .before .before .before .before in sym (length-take-le (2 * start .args .n) (start .args .cells .now) (start .pre))
+slice-aggregate-run c = let start = c .before .before .before .before .before .before in sym (length-take-le _ _ (omega (arith, start .pre)))
 
 run-requires : tie.Need-run-requires
 run-requires c κs = search needs

@@ -1,18 +1,15 @@
 use borrow.Author.Needs.{needs}
 use mathlib.Core.Path.{sym}
-use Prim.Native.Nat.{_*_}
+use native.Mathlib.Omega.{arith}
 use lib.Seq.{length-take-le}
 use Rattle.pairs.proofs.verify_front.Statement.{statement}
 use Rattle.pairs.proofs.verify_front.Tie as tie
-use Rattle.pairs.proofs.verify_front.Reads as reads
-use Rattle.pairs.proofs.verify_front.Lts as lts
-use Rattle.verify.proofs.verify.Reads as verify-reads
 
 mul-verify : tie.Need-mul-verify
 mul-verify c = search needs
 
 slice-aggregate-verify : tie.Need-slice-aggregate-verify
-slice-aggregate-verify c = let start = c .before .before .before .before .before in sym (length-take-le (2 * start .args .n) (start .args .cells .now) (start .pre))
+slice-aggregate-verify c = let start = c .before .before .before .before .before in sym (length-take-le _ _ (omega (arith, start .pre)))
 
 verify-requires : tie.Need-verify-requires
 verify-requires c κs = search needs

@@ -1,0 +1,113 @@
+// The check and the run of a chain that is lent as a slice of steps: the steps are laid flat in a local array, and the flat form is called.
+ghost use mathlib.Core.Path.{_≡_};
+ghost use Prim.Native.Nat.{_*_, _/_, _≤_, min};
+ghost use lib.ListN.{length, take};
+ghost use Rattle.chain.specs.Written.{over};
+ghost use Rattle.chain.specs.Chain.{flat, pairs};
+ghost use Rattle.run.specs.Run.{runAnswer, runValues, runFigures};
+ghost use Rattle.run.specs.Ran.{ranOf};
+ghost use Rattle.verify.specs.Verify.{verifyAnswer, verifyScratch};
+ghost use Rattle.verify.specs.Verified.{verifiedOf};
+use chain::Step;
+use run::Ran;
+use verify::Verified;
+
+// Two cells for each of 16,001 steps, one more than is legal: so the flat form itself refuses a chain that is too long.
+const CELLS: usize = 32002;
+
+// How many of the steps have room, two cells each.
+fn fitting(steps: usize, cells: usize) -> usize
+    ensures { λ r. ⌜ r ≡ min steps (cells / 2) ⌝ }
+{
+    let room = cells / 2;
+    if steps <= room { steps } else { room }
+}
+
+// As many steps as have room, first and second in turn, over the front of the cells; how many they are.
+pub fn flatten_some(steps: &[Step], cells: &mut [u32]) -> usize
+    ensures { λ r. ⌜ r ≡ min (length (now (steps .entry))) (length (now (cells .entry)) / 2) ⌝ }
+    ensures { λ r. ⌜ now (cells .exit) ≡ over (flat (take (length (now (cells .entry)) / 2) (now (steps .entry)))) (now (cells .entry)) ⌝ }
+{
+    let n = fitting(steps.len(), cells.len());
+    let mut i: usize = 0;
+    let mut at: usize = 0;
+    while i < n {
+        let s = steps[i];
+        cells[at] = s.first;
+        at += 1;
+        cells[at] = s.second;
+        at += 1;
+        i += 1;
+    }
+    n
+}
+
+// The run of the first n steps that stand in the cells.
+fn run_front(
+    p: usize,
+    cells: &[u32],
+    n: usize,
+    outputs: &[u32],
+    m: u32,
+    bases: &[u32],
+    values: &mut [u32],
+    figures: &mut [u32],
+) -> Ran
+    requires { ⌜ 2 * n ≤ length (now cells) ⌝ }
+    ensures { λ r. ⌜ ranOf r ≡ runAnswer p (pairs (take (2 * n) (now (cells .entry)))) (now (outputs .entry)) m (now (bases .entry)) (length (now (values .entry))) (length (now (figures .entry))) ⌝ }
+    ensures { λ r. ⌜ now (values .exit) ≡ runValues p (pairs (take (2 * n) (now (cells .entry)))) (now (outputs .entry)) m (now (bases .entry)) (length (now (figures .entry))) (now (values .entry)) ⌝ }
+    ensures { λ r. ⌜ now (figures .exit) ≡ runFigures p (pairs (take (2 * n) (now (cells .entry)))) (now (outputs .entry)) m (now (bases .entry)) (length (now (values .entry))) (now (figures .entry)) ⌝ }
+{
+    run::run(p, &cells[..2 * n], outputs, m, bases, values, figures)
+}
+
+// The check of the first n steps that stand in the cells.
+fn verify_front(
+    p: usize,
+    cells: &[u32],
+    n: usize,
+    outputs: &[u32],
+    amounts: &[u32],
+    scratch: &mut [u32],
+) -> Verified
+    requires { ⌜ 2 * n ≤ length (now cells) ⌝ }
+    ensures { λ r. ⌜ verifiedOf r ≡ verifyAnswer p (pairs (take (2 * n) (now (cells .entry)))) (now (outputs .entry)) (now (amounts .entry)) (length (now (scratch .entry))) ⌝ }
+    ensures { λ r. ⌜ now (scratch .exit) ≡ verifyScratch p (pairs (take (2 * n) (now (cells .entry)))) (now (outputs .entry)) (now (amounts .entry)) (now (scratch .entry)) ⌝ }
+{
+    verify::verify(p, &cells[..2 * n], outputs, amounts, scratch)
+}
+
+// The run of a chain that is lent as its steps.
+pub fn run_pairs(
+    p: usize,
+    steps: &[Step],
+    outputs: &[u32],
+    m: u32,
+    bases: &[u32],
+    values: &mut [u32],
+    figures: &mut [u32],
+) -> Ran
+    ensures { λ r. ⌜ ranOf r ≡ runAnswer p (now (steps .entry)) (now (outputs .entry)) m (now (bases .entry)) (length (now (values .entry))) (length (now (figures .entry))) ⌝ }
+    ensures { λ r. ⌜ now (values .exit) ≡ runValues p (now (steps .entry)) (now (outputs .entry)) m (now (bases .entry)) (length (now (figures .entry))) (now (values .entry)) ⌝ }
+    ensures { λ r. ⌜ now (figures .exit) ≡ runFigures p (now (steps .entry)) (now (outputs .entry)) m (now (bases .entry)) (length (now (values .entry))) (now (figures .entry)) ⌝ }
+{
+    let mut cells = [0u32; CELLS];
+    let n = flatten_some(steps, &mut cells);
+    run_front(p, &cells, n, outputs, m, bases, values, figures)
+}
+
+// The check of a chain that is lent as its steps.
+pub fn verify_pairs(
+    p: usize,
+    steps: &[Step],
+    outputs: &[u32],
+    amounts: &[u32],
+    scratch: &mut [u32],
+) -> Verified
+    ensures { λ r. ⌜ verifiedOf r ≡ verifyAnswer p (now (steps .entry)) (now (outputs .entry)) (now (amounts .entry)) (length (now (scratch .entry))) ⌝ }
+    ensures { λ r. ⌜ now (scratch .exit) ≡ verifyScratch p (now (steps .entry)) (now (outputs .entry)) (now (amounts .entry)) (now (scratch .entry)) ⌝ }
+{
+    let mut cells = [0u32; CELLS];
+    let n = flatten_some(steps, &mut cells);
+    verify_front(p, &cells, n, outputs, amounts, scratch)
+}

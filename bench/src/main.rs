@@ -115,4 +115,46 @@ fn main() {
         );
         assert_eq!(figures, other_figures);
     }
+    let (mut bytes, mut other) = (vec![0; 56_116], vec![0; 56_116]);
+    report(
+        "write, a file of 56,116 bytes",
+        least(
+            1000,
+            || {
+                assert!(ffi::write(
+                    16,
+                    black_box(&scattered.steps),
+                    &scattered.outputs,
+                    &mut bytes
+                )
+                .is_ok())
+            },
+            || {
+                assert!(plain::write(
+                    16,
+                    black_box(&scattered.steps),
+                    &scattered.outputs,
+                    &mut other
+                )
+                .is_ok())
+            },
+        ),
+    );
+    assert_eq!(bytes, other);
+    let (mut steps, mut other_steps) = (vec![0; 32_000], vec![0; 32_000]);
+    let (mut outputs, mut other_outputs) = (vec![0; 64], vec![0; 64]);
+    report(
+        "read, a file of 56,116 bytes",
+        least(
+            1000,
+            || assert!(ffi::read(black_box(&bytes), &mut steps, &mut outputs).is_ok()),
+            || {
+                assert!(
+                    plain::read(black_box(&bytes), &mut other_steps, &mut other_outputs).is_ok()
+                )
+            },
+        ),
+    );
+    assert_eq!((&steps, &outputs), (&other_steps, &other_outputs));
+    assert_eq!(steps, scattered.steps);
 }

@@ -106,3 +106,158 @@ fn judge(p: usize, steps: &[u32], outputs: &[u32]) -> Result<(), (u32, usize)> {
         None => Ok(()),
     }
 }
+
+fn width(p: usize, n: usize) -> usize {
+    (usize::BITS - (p + n).leading_zeros()) as usize
+}
+
+/// A writer of bit fields with a 64-bit store of pending bits.
+struct Put<'a> {
+    bytes: &'a mut [u8],
+    at: usize,
+    pending: u64,
+    bits: u32,
+}
+
+impl Put<'_> {
+    #[inline]
+    fn field(&mut self, width: usize, value: u64) {
+        self.pending = self.pending << width | value;
+        self.bits += width as u32;
+        while self.bits >= 8 {
+            self.bits -= 8;
+            self.bytes[self.at] = (self.pending >> self.bits) as u8;
+            self.at += 1;
+        }
+    }
+}
+
+/// The file of a chain.
+pub fn write(
+    p: usize,
+    steps: &[u32],
+    outputs: &[u32],
+    bytes: &mut [u8],
+) -> Result<usize, (u32, usize)> {
+    judge(p, steps, outputs)?;
+    let (n, q) = (steps.len() / 2, outputs.len());
+    let w = width(p, n);
+    let length = (28 + (2 * n + q) * w).div_ceil(8);
+    if bytes.len() < length {
+        return Err((5, 0));
+    }
+    let mut put = Put {
+        bytes,
+        at: 0,
+        pending: 0,
+        bits: 0,
+    };
+    put.field(4, 1);
+    put.field(4, p as u64 - 1);
+    put.field(6, q as u64 - 1);
+    put.field(14, n as u64);
+    for &x in &steps[..2 * n] {
+        put.field(w, x as u64);
+    }
+    for &x in outputs {
+        put.field(w, x as u64);
+    }
+    let fill = (8 - put.bits % 8) % 8;
+    put.field(fill as usize, 0);
+    Ok(length)
+}
+
+/// A reader of bit fields, likewise.
+struct Take<'a> {
+    bytes: &'a [u8],
+    at: usize,
+    pending: u64,
+    bits: u32,
+}
+
+impl Take<'_> {
+    #[inline]
+    fn field(&mut self, width: usize) -> u64 {
+        while self.bits < width as u32 {
+            self.pending = self.pending << 8 | self.bytes[self.at] as u64;
+            self.at += 1;
+            self.bits += 8;
+        }
+        self.bits -= width as u32;
+        self.pending >> self.bits & ((1 << width) - 1)
+    }
+}
+
+/// A file, judged before anything is stored.
+pub fn read(
+    bytes: &[u8],
+    steps: &mut [u32],
+    outputs: &mut [u32],
+) -> Result<(usize, usize, usize), (u32, usize)> {
+    if bytes.len() < 4 {
+        return Err((6, 0));
+    }
+    let mut take = Take {
+        bytes,
+        at: 0,
+        pending: 0,
+        bits: 0,
+    };
+    if take.field(4) != 1 {
+        return Err((7, 0));
+    }
+    let (p, q, n) = (
+        take.field(4) as usize + 1,
+        take.field(6) as usize + 1,
+        take.field(14) as usize,
+    );
+    if n > 16_000 {
+        return Err((4, 0));
+    }
+    let w = width(p, n);
+    let bits = 28 + (2 * n + q) * w;
+    if bytes.len() != bits.div_ceil(8) {
+        return Err((6, 0));
+    }
+    if steps.len() / 2 < n || outputs.len() < q {
+        return Err((5, 0));
+    }
+    let fill = 8 * bytes.len() - bits;
+    if bytes[bytes.len() - 1] & ((1u16 << fill) - 1) as u8 != 0 {
+        return Err((8, 0));
+    }
+    let mut judged = Take {
+        bytes,
+        at: take.at,
+        pending: take.pending,
+        bits: take.bits,
+    };
+    for s in 0..n {
+        let (a, b, v) = (
+            judged.field(w) as usize,
+            judged.field(w) as usize,
+            p + s + 1,
+        );
+        if a == 0 || b == 0 {
+            return Err((9, s + 1));
+        }
+        if a >= v || b >= v {
+            return Err((10, s + 1));
+        }
+        if a < b {
+            return Err((11, s + 1));
+        }
+    }
+    for i in 0..q {
+        if judged.field(w) as usize > p + n {
+            return Err((12, i + 1));
+        }
+    }
+    for x in &mut steps[..2 * n] {
+        *x = take.field(w) as u32;
+    }
+    for x in &mut outputs[..q] {
+        *x = take.field(w) as u32;
+    }
+    Ok((p, q, n))
+}

@@ -18,8 +18,8 @@ use Rattle.methods.specs.Product.{ordered}
 use Rattle.methods.specs.Table.{isUnit, entry, lowestFrom, lowest, tableNext, table}
 use Rattle.methods.specs.Emitted.{stepsIn, Room, Stored}
 use Rattle.methods.proofs.Sound.{Begins, begins-own, begins-more, begins-on}
-use Rattle.methods.proofs.Table.{Lowest, lowest-digit}
-use Rattle.methods.proofs.Emitted.{length-stepsIn, stored-own, stored-is, stored-length, stored-on, stored-room}
+use Rattle.methods.proofs.Table.{lowest-digit}
+use Rattle.methods.proofs.Emitted.{length-stepsIn, stored-own, stored-is, stored-on, stored-room}
 
 count-nonzero : (k t : ℕ) → 0 < t → 0 < digitCount k t
 count-nonzero k zero h = absurd (omega arith)

@@ -1,1 +1,115 @@
 // Bit fields, most significant bit first.
+ghost use mathlib.Core.Path.{_≡_};
+ghost use Prim.Native.Nat.{_+_, _*_, _%_, _^_, _≤_, _<_};
+ghost use lib.ListN.{length, take, getD};
+ghost use Rattle.chain.specs.Written.{laid};
+ghost use Rattle.bits.specs.Bits.{bits};
+ghost use Rattle.bits.specs.Cursor.{spread, Gathered, Room, Taken, Fill, Stored};
+
+// A bit position of a file.
+pub struct Cursor {
+    pub at: usize,
+}
+
+// A field that was read, and the position past it.
+pub struct Field {
+    pub value: usize,
+    pub next: Cursor,
+}
+
+fn wide(x: u8) -> u64
+    ensures { λ r. ⌜ r ≡ x ⌝ }
+{
+    x as u64
+}
+
+fn byte(file: &[u8], i: usize) -> u64
+    requires { ⌜ i < length (now file) ⌝ }
+    ensures { λ r. ⌜ (r ≡ getD (now (file .entry)) i 0) × (r < 256) ⌝ }
+{
+    wide(file[i])
+}
+
+// The byte at i, and 0 past the end.
+fn byte_or_zero(file: &[u8], i: usize) -> u64
+    ensures { λ r. ⌜ (r ≡ getD (now (file .entry)) i 0) × (r < 256) ⌝ }
+{
+    if i < file.len() { byte(file, i) } else { 0 }
+}
+
+// The four bytes from i on as one number. Where all are there, they are read as one word.
+fn gather(file: &[u8], i: usize) -> u64
+    requires { ⌜ i ≤ length (now file) ⌝ }
+    ensures { λ r. ⌜ Gathered (now (file .entry)) i r ⌝ }
+{
+    if i + 4 <= file.len() {
+        let a = byte(file, i);
+        let b = byte(file, i + 1);
+        let c = byte(file, i + 2);
+        let d = byte(file, i + 3);
+        ((a * 256 + b) * 256 + c) * 256 + d
+    } else {
+        let a = byte_or_zero(file, i);
+        let b = byte_or_zero(file, i + 1);
+        let c = byte_or_zero(file, i + 2);
+        let d = byte_or_zero(file, i + 3);
+        ((a * 256 + b) * 256 + c) * 256 + d
+    }
+}
+
+fn low_byte(x: u64) -> u8
+    ensures { λ r. ⌜ r ≡ x % 256 ⌝ }
+{
+    (x % 256) as u8
+}
+
+// The first count of the four bytes of x, stored from i on, the first one with head added to it. Only that one waits for what the buffer held.
+fn scatter(buf: &mut [u8], i: usize, count: usize, head: u64, x: u64)
+    requires { ⌜ (1 ≤ count) × (count ≤ 4) × (i + count ≤ length (now buf)) × (head < 256) ⌝ }
+    ensures { λ _. ⌜ now (buf .exit) ≡ laid i (take count (spread (head * 2 ^ 24 + x))) (now (buf .entry)) ⌝ }
+{
+    buf[i] = low_byte(head + (x >> 24));
+    if count < 2 {
+        return;
+    }
+    buf[i + 1] = low_byte(x >> 16);
+    if count < 3 {
+        return;
+    }
+    buf[i + 2] = low_byte(x >> 8);
+    if count < 4 {
+        return;
+    }
+    buf[i + 3] = low_byte(x);
+}
+
+impl Cursor {
+    // The field of width bits at the cursor, and the cursor past it.
+    pub fn take(self, file: &[u8], width: usize) -> Field
+        requires { ⌜ Room (now file) (self .at) width ⌝ }
+        ensures { λ r. ⌜ Taken (now (file .entry)) (self .at) width (r .value) (r .next .at) ⌝ }
+    {
+        let at = self.at;
+        let all = gather(file, at / 8);
+        let right = 32 - (at % 8 + width);
+        let value = (all >> right) % (1u64 << width);
+        Field {
+            value: value as usize,
+            next: Cursor { at: at + width },
+        }
+    }
+
+    // Writes value as a field of width bits at the cursor, with zero bits after it to the end of its last byte.
+    pub fn put(self, buf: &mut [u8], width: usize, value: u64) -> Cursor
+        requires { ⌜ Fill (now buf) (self .at) width value ⌝ }
+        ensures { λ r. ⌜ Stored (now (buf .entry)) (self .at) width (bits width value) (now (buf .exit)) (r .at) ⌝ }
+    {
+        let at = self.at;
+        let i = at / 8;
+        let used = at % 8 + width;
+        let right = 8 - at % 8;
+        let head = (wide(buf[i]) >> right) << right;
+        scatter(buf, i, (used + 7) / 8, head, value << (32 - used));
+        Cursor { at: at + width }
+    }
+}

@@ -1,8 +1,8 @@
 -- The law of digit counts: a number has at most c digits in base 2^k exactly if it is below 2^(kc). All else follows from it.
 use mathlib.Core.Path.{_≡_, refl, subst}
-use Prim.Native.Nat.{ℕ, zero, suc, _*_, _/_, _^_, _≤_, _<_, zero-le, suc-le-suc}
+use Prim.Native.Nat.{ℕ, zero, suc, _-_, _*_, _/_, _^_, _≤_, _<_, zero-le, suc-le-suc}
 use native.Mathlib.Nat.{add-comm, mul-suc, mul-zero, one-mul, pow-zero, le-refl, mul-lt-mul-of-pos-left, mod-eq-of-lt, div-lt-self, div-lt-iff-lt-mul, le-div-iff-mul-le}
-use native.Mathlib.Decide.{decLt}
+use native.Mathlib.Decide.{decLt, decLe}
 use native.Mathlib.Omega.{arith}
 use lib.Pow.{pow-add, pow-pos, pow-lt}
 use Rattle.digits.specs.Digits.{digitsIn, digitCount, bitLength, digit}
@@ -102,3 +102,18 @@ bits-low x n h = rw one-mul at (count-low 1 (le-refl 1) x n h)
 pub low-bits : (x n : ℕ) → x < 2 ^ n → bitLength x ≤ n
 unfolding bitLength
 low-bits x n h = low-count 1 (le-refl 1) x n (rw one-mul h)
+
+-- a number from 2^(w - 1) to 2^w - 1 has w bits
+pub bit-length-is : (w x : ℕ) → 0 < w → 2 ^ (w - 1) ≤ x → x < 2 ^ w → w ≡ bitLength x
+bit-length-is w x pos lo hi = by-size (decLe (bitLength x) (w - 1))
+  where
+    by-size : Dec (bitLength x ≤ w - 1) → w ≡ bitLength x
+    by-size (yes few) = absurd (omega (arith, bits-low x (w - 1) few))
+    by-size (no many) = omega (arith, low-bits x w hi)
+
+pub bits-some : (x : ℕ) → 1 ≤ x → 1 ≤ bitLength x
+bits-some x h = by-size (decLe (bitLength x) 0)
+  where
+    by-size : Dec (bitLength x ≤ 0) → 1 ≤ bitLength x
+    by-size (yes none) = absurd (omega (arith, bits-low x 0 none))
+    by-size (no some) = omega arith

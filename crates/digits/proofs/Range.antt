@@ -1,6 +1,6 @@
 -- Laws of sums and maxima over the numbers below a bound.
 use mathlib.Core.Path.{_≡_, refl, sym, ap, ap₂, _∙_}
-use Prim.Native.Nat.{ℕ, zero, suc, _+_, _*_, _≤_, _<_, max, zero-le}
+use Prim.Native.Nat.{ℕ, zero, suc, _+_, _-_, _*_, _≤_, _<_, max, zero-le}
 use native.Mathlib.Nat.{add-mul, suc-mul, zero-mul, le-refl}
 use native.Mathlib.Decide.{decLt}
 use native.Mathlib.Numerals.{add-one}
@@ -68,6 +68,12 @@ sum-split m (suc n) f =
     let e : m + suc n ≡ suc (m + n) = omega arith in
     rw e (omega (arith, sum-split m n f))
 
+-- fewer parts have no larger sum
+pub sum-more : (f : ℕ → ℕ) (m n : ℕ) → m ≤ n → sumTo m f ≤ sumTo n f
+sum-more f m n h =
+    let e : n ≡ m + (n - m) = omega arith in
+    rw e (omega (arith, sum-split m (n - m) f))
+
 -- maxima
 pub le-max : (n : ℕ) (f : ℕ → ℕ) (i : ℕ) → i < n → f i ≤ maxTo n f
 le-max zero f i h = absurd (omega arith)
@@ -112,6 +118,10 @@ pub sign-low : (x : ℕ) → sign x ≤ 1
 sign-low zero = zero-le
 sign-low (suc x) = le-refl 1
 
+pub sign-le : (x : ℕ) → sign x ≤ x
+sign-le zero = zero-le
+sign-le (suc x) = omega arith
+
 pub sign-some : (x : ℕ) → 0 < x → sign x ≡ 1
 sign-some zero h = absurd (omega arith)
 sign-some (suc x) h = refl
@@ -123,6 +133,38 @@ pub sign-pos : (x : ℕ) → sign x ≡ 1 → 0 < x
 sign-pos zero e = absurd (omega arith)
 sign-pos (suc x) e = omega arith
 
+pub sign-sign : (x : ℕ) → sign (sign x) ≡ sign x
+sign-sign zero = refl
+sign-sign (suc x) = refl
+
+pub sign-mono : (x y : ℕ) → x ≤ y → sign x ≤ sign y
+sign-mono zero y h = zero-le
+sign-mono (suc x) y h = omega (arith, sign-some y (omega arith))
+
 -- at most as many are not 0 as there are
 pub signs-low : (n : ℕ) (f : ℕ → ℕ) → sumTo n (λ i. sign (f i)) ≤ n
 signs-low n f = omega (arith, sum-low n (λ i. sign (f i)) 1 (λ i h. sign-low (f i)))
+
+-- a sum, as a maximum, is 0 only where both its parts are
+pub sign-add : (x y : ℕ) → sign (x + y) ≡ max (sign x) (sign y)
+sign-add zero y = let e : 0 + y ≡ y = omega arith in rw e (omega arith)
+sign-add (suc x) y = sign-some (suc x + y) (omega arith) ∙ omega (arith, sign-low y)
+
+pub sign-max : (x y : ℕ) → sign (max x y) ≡ max (sign x) (sign y)
+sign-max zero y = let e : max 0 y ≡ y = omega arith in rw e (omega arith)
+sign-max (suc x) y = sign-some (max (suc x) y) (omega arith) ∙ omega (arith, sign-low y)
+
+-- a product is 0 only where one of its parts is: here a part that is not
+pub sign-mul : (x y : ℕ) → 0 < y → sign (x * y) ≡ sign x
+sign-mul zero y h = ap sign (zero-mul y)
+sign-mul (suc x) y h = sign-some (suc x * y) (omega (arith, suc-mul x y))
+
+-- which parts are 0 decides whether their sum is, and their maximum
+pub sum-sign : (n : ℕ) (f g : ℕ → ℕ) → ((i : ℕ) → i < n → sign (f i) ≡ sign (g i)) → sign (sumTo n f) ≡ sign (sumTo n g)
+sum-sign zero f g e = refl
+sum-sign (suc n) f g e =
+    omega (arith, sum-sign n f g (λ i h. e i (omega arith)), e n (omega arith), sign-add (sumTo n f) (f n), sign-add (sumTo n g) (g n))
+
+pub max-sign : (n : ℕ) (f : ℕ → ℕ) → sign (maxTo n f) ≡ sign (sumTo n f)
+max-sign zero f = refl
+max-sign (suc n) f = omega (arith, max-sign n f, sign-max (maxTo n f) (f n), sign-add (sumTo n f) (f n))

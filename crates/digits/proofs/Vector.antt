@@ -2,7 +2,7 @@
 use mathlib.Core.Bool.{Bool, true, false, cond}
 use mathlib.Core.Path.{_≡_, refl, sym, ap, subst, _∙_}
 use Prim.Native.Nat.{ℕ, zero, suc, _+_, _-_, _*_, _/_, _%_, _^_, _≤_, _<_}
-use native.Mathlib.Nat.{add-comm, add-mul, mul-add, mul-suc, mul-zero, mul-assoc, one-mul, zero-mul, zero-div, zero-mod, div-eq-of-lt, div-div-eq-div-mul, div-add-mod', mod-one, mod-lt, mod-eq-of-lt, add-mul-div-right, add-mul-mod-self-right}
+use native.Mathlib.Nat.{add-comm, add-mul, mul-add, mul-suc, mul-zero, mul-assoc, one-mul, zero-mul, mul-le-mul-right, le-refl, zero-div, zero-mod, div-eq-of-lt, div-div-eq-div-mul, div-add-mod', mod-one, mod-lt, mod-eq-of-lt, add-mul-div-right, add-mul-mod-self-right}
 use native.Mathlib.Decide.{decLt, ℕ-discrete}
 use native.Mathlib.Omega.{arith}
 use lib.Arith.{digits-lt}
@@ -11,7 +11,7 @@ use lib.Pow.{pow-add, pow-pos, pow-lt, high, mod-pow-add}
 use borrow.Author.Tests.{eq-eqb, ne-eqb}
 use Rattle.digits.specs.Digits.{digit}
 use Rattle.digits.specs.Range.{sumTo}
-use Rattle.digits.proofs.Range.{sum-same, sum-add, sum-single}
+use Rattle.digits.proofs.Range.{sum-same, sum-zero, sum-add, sum-single}
 
 pub digit-low : (k x j : ℕ) → digit k x j < 2 ^ k
 digit-low k x j = mod-lt (x / 2 ^ (k * j)) (pow-pos k)
@@ -82,6 +82,9 @@ vector-digits k t (suc n) =
 pub vector-own : (k t n : ℕ) → t < 2 ^ (k * n) → vector k (digit k t) n ≡ t
 vector-own k t n h = vector-digits k t n ∙ mod-eq-of-lt h
 
+pub vector-zero : (k : ℕ) (x : ℕ → ℕ) (n : ℕ) → ((j : ℕ) → j < n → x j ≡ 0) → vector k x n ≡ 0
+vector-zero k x n none = sum-zero n _ (λ j h. ap (λ (d : ℕ). d * 2 ^ (k * j)) (none j h) ∙ zero-mul (2 ^ (k * j)))
+
 pub vector-add : (k : ℕ) (x y : ℕ → ℕ) (n : ℕ) → vector k (λ j. x j + y j) n ≡ vector k x n + vector k y n
 vector-add k x y n = sum-same n _ _ (λ j h. add-mul (x j) (y j) (2 ^ (k * j))) ∙ sum-add n _ _
 
@@ -104,6 +107,9 @@ delta-low i j limit h = by-test (eqb i j)
     by-test : (b : Bool) → cond b 1 0 ≤ limit
     by-test true = h
     by-test false = omega arith
+
+pub delta-part : (i j m : ℕ) → delta i j * m ≤ m
+delta-part i j m = rw one-mul at (mul-le-mul-right m (delta-low i j 1 (le-refl 1)))
 
 -- the part of a sum that delta picks
 pub sum-delta : (n : ℕ) (f : ℕ → ℕ) (j : ℕ) → j < n → sumTo n (λ i. delta i j * f i) ≡ f j

@@ -9,3 +9,4 @@ pub mod Emitted
 pub mod Emitters
 pub mod Tabling
 pub mod Paying
+pub mod Columns

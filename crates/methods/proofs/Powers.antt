@@ -1,7 +1,7 @@
 -- Laws of the powers of the bases by repeated squaring: what they make, and how many steps they cost.
 use mathlib.Core.Path.{_≡_, refl, sym, ap, _∙_}
 use Prim.Native.Nat.{ℕ, zero, suc, _+_, _*_, _^_, _≤_, _<_}
-use native.Mathlib.Nat.{one-mul, le-refl, le-trans, mul-le-mul-right}
+use native.Mathlib.Nat.{one-mul, le-refl, le-trans}
 use native.Mathlib.Decide.{decLt}
 use native.Mathlib.Omega.{arith}
 use lib.ListN.{length}
@@ -10,7 +10,7 @@ use Rattle.chain.proofs.Rules.{eq-yes, eq-no}
 use Rattle.chain.proofs.Exponents.{Makes}
 use Rattle.digits.specs.Range.{sumTo, sign}
 use Rattle.digits.proofs.Range.{sign-some}
-use Rattle.digits.proofs.Vector.{delta, delta-low}
+use Rattle.digits.proofs.Vector.{delta, delta-part}
 use Rattle.methods.specs.Product.{Made, made, squared}
 use Rattle.methods.specs.Powers.{squarings, powerOf}
 use Rattle.methods.proofs.Sound.{makes-on, makes-base, Sound, sound-none}
@@ -22,6 +22,11 @@ squarings-count p n zero = refl
 squarings-count p n (suc c) =
     let some : sign (c + 1) ≡ 1 = sign-some (c + 1) (omega arith) in
     omega (arith, squared-count p (n c) (made (squarings p n c) (c + 1)), squarings-count p n c, ap (λ (s : ℕ). s * n c) some, one-mul (n c))
+
+-- no power is empty
+pub power-some : (p : ℕ) (n : ℕ → ℕ) (c j : ℕ) → 0 < powerOf p n c j
+power-some p n c zero = rw (eq-yes 0 0 refl) (omega arith)
+power-some p n c (suc j) = rw (eq-no (suc j) 0 (omega arith)) (omega arith)
 
 -- the value number of a power is that of its last squaring
 power-last : (p : ℕ) (n : ℕ → ℕ) (c j : ℕ) → powerOf p n c j ≡ squared p j (made (squarings p n c) (c + 1)) .value
@@ -48,7 +53,7 @@ powers p limit n some low (suc c) h = more (powers p limit n some low c (omega a
         power : (j : ℕ) → j ≤ n c → Result p limit (squarings p n c) (squared p j base) (λ d. delta c d * 2 ^ j)
         power j g =
             result-squared j (result-value (r .sound) (makes-base p (squarings p n c) c (omega arith)))
-            (λ d hd. le-trans (mul-le-mul-right (2 ^ j) (delta-low c d 1 (le-refl 1))) (rw one-mul (le-trans (pow-mono g) (low c (omega arith)))))
+            (λ d hd. le-trans (delta-part c d (2 ^ j)) (le-trans (pow-mono g) (low c (omega arith))))
 
         by-column : (d j : ℕ) → d < suc c → Dec (d < c) → j ≤ n d → Makes p (squarings p n (suc c)) (powerOf p n d j) (λ e. delta d e * 2 ^ j)
         by-column d j g (yes lt) hj = makes-on (power (n c) (le-refl (n c)) .begins) (r .makes d j lt hj)

@@ -3,7 +3,6 @@ use mathlib.Core.Path.{_≡_, refl, sym, ap, _∙_}
 use mathlib.Core.List.{List, [], _∷_, _++_}
 use Prim.Native.Nat.{ℕ, zero, suc, _+_, _*_, _^_, _≤_, _<_}
 use native.Mathlib.Nat.{mul-one, one-mul, mul-zero, zero-mul, mul-suc, mul-assoc, pow-suc}
-use native.Mathlib.Decide.{decLe}
 use native.Mathlib.Omega.{arith}
 use lib.ListN.{length, length-append}
 use Rattle.chain.specs.Chain.{exponentOf}
@@ -11,9 +10,9 @@ use Rattle.chain.specs.declared.Step.{Step}
 use Rattle.chain.proofs.Rules.{eq-yes, eq-no}
 use Rattle.chain.proofs.Exponents.{exponent-zero, Makes, makes-zero, makes-like}
 use Rattle.digits.specs.Range.{sign}
-use Rattle.digits.proofs.Range.{sign-some, sign-pos}
+use Rattle.digits.proofs.Range.{sign-low, sign-some, sign-pos, sign-add}
 use Rattle.methods.specs.Product.{Made, made, ordered, times, squared}
-use Rattle.methods.proofs.Sound.{Begins, begins-own, begins-more, begins-on, Sound, makes-ordered, sound-ordered}
+use Rattle.methods.proofs.Sound.{Begins, begins-own, begins-more, begins-on, begins-rise, Sound, makes-ordered, sound-ordered}
 
 -- the three cases of a product: an empty one, an empty factor, and a step
 module _ (p : ℕ) (m : Made) (y : ℕ) where
@@ -58,13 +57,22 @@ times-cost p m y = by-value (m .value) refl y refl
         rw (times-new p m y (omega arith) (omega arith))
         (record { count = length-append (m .steps) _ ∙ rw (ea, eb); value = rw (both, v) })
 
+-- So the steps, with one more for a product that is not empty, grow by one with each factor that is not empty.
+sign-both : (x y : ℕ) → sign x * sign y + sign (x + y) ≡ sign x + sign y
+sign-both zero y = omega (arith, zero-mul (sign y), sign-add 0 y)
+sign-both (suc x) y = omega (arith, one-mul (sign y), sign-add (suc x) y, sign-low y)
+
+pub times-spent : (p : ℕ) (m : Made) (y : ℕ) → length (times p m y .steps) + sign (times p m y .value) ≡ length (m .steps) + sign (m .value) + sign y
+times-spent p m y =
+    let r = times-cost p m y in
+    omega (arith, r .count, r .value, sign-both (m .value) y)
+
 sign-square : (x : ℕ) → sign x * sign x ≡ sign x
 sign-square zero = refl
 sign-square (suc x) = refl
 
 sign-double : (x : ℕ) → sign (x + x) ≡ sign x
-sign-double zero = refl
-sign-double (suc x) = let e : suc x + suc x ≡ suc (x + suc x) = omega arith in rw e
+sign-double x = omega (arith, sign-add x x)
 
 -- squaring k times: k steps, unless the product is empty
 pub squared-sign : (p k : ℕ) (m : Made) → sign (squared p k m .value) ≡ sign (m .value)
@@ -89,15 +97,7 @@ squared-last p k m h =
 
 -- fewer squarings are made on the way
 pub squared-begins : (p : ℕ) (m : Made) (j k : ℕ) → j ≤ k → Begins (squared p j m .steps) (squared p k m .steps)
-squared-begins p m zero zero h = begins-own (m .steps)
-squared-begins p m (suc j) zero h = absurd (omega arith)
-squared-begins p m j (suc k) h = by-place (squared-begins p m j k) (decLe j k)
-  where
-    by-place : (j ≤ k → Begins (squared p j m .steps) (squared p k m .steps)) → Dec (j ≤ k) → Begins (squared p j m .steps) (squared p (suc k) m .steps)
-    by-place ih (yes le) = begins-on (ih le) (times-begins p (squared p k m) (squared p k m .value))
-    by-place ih (no gt) =
-        let last : j ≡ suc k = omega arith in
-        rw last (begins-own (squared p (suc k) m .steps))
+squared-begins p m = begins-rise (λ i. squared p i m .steps) (λ i. times-begins p (squared p i m) (squared p i m .value))
 
 -- After the steps before, a product with the exponents x.
 pub record Result (p limit : ℕ) (before : List Step) (m : Made) (x : ℕ → ℕ) : Type 0 where

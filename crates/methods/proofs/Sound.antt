@@ -2,7 +2,7 @@
 use mathlib.Core.Path.{_≡_, refl, sym, ap, _∙_}
 use mathlib.Core.List.{List, [], _∷_, _++_, append-nil, append-assoc}
 use Prim.Native.Nat.{ℕ, zero, suc, _+_, _≤_, _<_, min, max}
-use native.Mathlib.Decide.{decLt, ℕ-discrete}
+use native.Mathlib.Decide.{decLt, decLe, ℕ-discrete}
 use native.Mathlib.Nat.{add-comm}
 use native.Mathlib.Omega.{arith}
 use lib.ListN.{length, length-append}
@@ -31,6 +31,16 @@ begins-on {a} f g =
       rest = f .rest ++ g .rest;
       whole = g .whole ∙ ap (λ (l : List Step). l ++ g .rest) (f .whole) ∙ append-assoc a (f .rest) (g .rest);
     }
+
+-- lists that each begin with the one before
+pub begins-rise : (f : ℕ → List Step) → ((i : ℕ) → Begins (f i) (f (suc i))) → (i j : ℕ) → i ≤ j → Begins (f i) (f j)
+begins-rise f each zero zero h = begins-own (f zero)
+begins-rise f each (suc i) zero h = absurd (omega arith)
+begins-rise f each i (suc j) h = by-place (begins-rise f each i j) (decLe i j)
+  where
+    by-place : (i ≤ j → Begins (f i) (f j)) → Dec (i ≤ j) → Begins (f i) (f (suc j))
+    by-place ih (yes le) = begins-on (ih le) (each j)
+    by-place ih (no gt) = let last : i ≡ suc j = omega arith in rw last (begins-own (f (suc j)))
 
 pub begins-length : {a b : List Step} → Begins a b → length a ≤ length b
 begins-length {a} f = omega (arith, ap length (f .whole), length-append a (f .rest))

@@ -2,6 +2,7 @@
 use mathlib.Core.Bool.{cond}
 use mathlib.Core.List.{List, []}
 use Prim.Native.Nat.{ℕ, zero, suc, _+_}
+use lib.ListN.{getD}
 use Rattle.chain.specs.Tests.{_=?_}
 use Rattle.chain.specs.declared.Step.{Step}
 use Rattle.digits.specs.Range.{sumTo, maxTo}
@@ -17,6 +18,13 @@ abbrev pub squarings : ℕ → (ℕ → ℕ) → ℕ → List Step
 squarings p n zero = []
 squarings p n (suc c) = squared p (n c) (made (squarings p n c) (c + 1)) .steps
 
--- the value number of column c's base after j squarings: the base itself, or one of the values after those of the columns before
+-- how often each column is squared, given as a list
+abbrev pub countsOf : List ℕ → ℕ → ℕ
+countsOf counts c = getD counts c 0
+
+-- the value number of column c's base after j squarings: the base itself, or one of the values after first, the last of the columns before
+abbrev pub powerAt : ℕ → ℕ → ℕ → ℕ
+powerAt c first j = cond (j =? 0) (c + 1) (first + j)
+
 abbrev pub powerOf : ℕ → (ℕ → ℕ) → ℕ → ℕ → ℕ
-powerOf p n c j = cond (j =? 0) (c + 1) (p + sumTo c n + j)
+powerOf p n c j = powerAt c (p + sumTo c n) j

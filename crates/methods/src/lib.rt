@@ -6,6 +6,8 @@ ghost use Prim.Native.Nat.{_+_, _*_, _^_, _≤_, _<_};
 ghost use lib.ListN.{length};
 ghost use Rattle.methods.specs.Product.{made, ordered, times, squared};
 ghost use Rattle.methods.specs.Table.{isUnit, entry, lowest, tableNext, table};
+ghost use Rattle.methods.specs.Powers.{largestIn, countsOf, squarings};
+ghost use Rattle.chain.specs.Chain.{mostColumns};
 ghost use Rattle.methods.specs.Emitted.{stepsIn, Room, Stored, Emitted};
 
 // A product in the making: the number of steps so far, and that of its value; 0 is the empty product.
@@ -135,4 +137,37 @@ pub fn make_table(p: usize, k: usize, inputs: &[u32], n: usize, steps: &mut [u32
         t += 1;
     }
     s
+}
+
+// The largest amount of column c over all payslips.
+pub fn largest_in(p: usize, q: usize, amounts: &[u32], c: usize) -> u32
+    requires { ⌜ (c < p) × (length (now amounts) ≡ p * q) ⌝ }
+    ensures { λ r. ⌜ r ≡ largestIn p q (now (amounts .entry)) c ⌝ }
+{
+    let mut most: u32 = 0;
+    let mut i: usize = 0;
+    while i < q {
+        most = digits::larger(most, sheet::amount(p, amounts, i, c));
+        i += 1;
+    }
+    most
+}
+
+// The squarings of the columns' bases, column by column, as many for each as counts says: the number of steps made.
+pub fn square_columns(p: usize, counts: &[u32], steps: &mut [u32]) -> usize
+    requires { ⌜ (length (now counts) ≤ mostColumns) × Room p (now steps) 0 (squarings p (countsOf (now counts)) (length (now counts))) ⌝ }
+    ensures { λ r. ⌜ Stored (now (steps .entry)) (now (steps .exit)) r (squarings p (countsOf (now (counts .entry))) (length (now (counts .entry)))) ⌝ }
+{
+    let mut n: usize = 0;
+    let mut c: usize = 0;
+    while c < counts.len() {
+        let base = PartialProduct {
+            n: n,
+            value: (c + 1) as u32,
+        };
+        let r = squared(p, counts[c] as usize, base, steps);
+        n = r.n;
+        c += 1;
+    }
+    n
 }

@@ -4,7 +4,7 @@ ghost use Prim.Native.Nat.{_+_, _*_, _≤_, _<_};
 ghost use lib.ListN.{length};
 ghost use Rattle.chain.specs.Chain.{mostColumns, mostPayslips};
 ghost use Rattle.chain.specs.Judgement.{verdictOf};
-ghost use Rattle.sheet.specs.Sheet.{amount, amountsRule};
+ghost use Rattle.sheet.specs.Sheet.{amount, amountsRule, sheetRule};
 use chain::Judgement;
 
 // 2: the amounts are not p times q.
@@ -16,6 +16,16 @@ pub fn judge_amounts(p: usize, q: usize, amounts: &[u32]) -> Judgement
         return Judgement::Refused(2, 0);
     }
     Judgement::Fine
+}
+
+// 1, then 2.
+pub fn judge_sheet(p: usize, q: usize, amounts: &[u32]) -> Judgement
+    ensures { λ r. ⌜ verdictOf r ≡ sheetRule p q (now (amounts .entry)) ⌝ }
+{
+    match chain::judge_sizes(p, q) {
+        Judgement::Refused(number, place) => Judgement::Refused(number, place),
+        Judgement::Fine => judge_amounts(p, q, amounts),
+    }
 }
 
 // The amount of payslip i in column c, both counted from 0.

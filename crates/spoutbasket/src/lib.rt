@@ -2,12 +2,16 @@
 // the values that the call answers, or the refusal's place, and zeros.
 ghost use mathlib.Core.Path.{_≡_};
 ghost use mathlib.Core.List.{[], _∷_};
+ghost use Prim.Native.Nat.{_/_};
 ghost use lib.ListN.{length};
 ghost use Rattle.chain.specs.Verdict.{Answer, done, refusal};
 ghost use Rattle.chain.specs.Chain.{pairs};
+ghost use Rattle.file.specs.File.{writeAnswer, writeBytes, readAnswer, readSteps, readOutputs};
 ghost use Rattle.verify.specs.Verify.{verifyAnswer, verifyScratch};
 ghost use Rattle.run.specs.Run.{runAnswer, runValues, runFigures};
 ghost use Rattle.spoutbasket.specs.Told.{numberOf, wordsOf};
+use file::Reading;
+use file::Written;
 use run::Ran;
 use verify::Verified;
 
@@ -17,6 +21,44 @@ fn tell(number: u32, a: usize, b: usize, c: usize, answer: &mut [u64; 4]) -> u32
 {
     *answer = [a as u64, b as u64, c as u64, 0];
     number
+}
+
+// The file of a chain, written.
+#[no_mangle]
+pub extern "C" fn spoutbasket_write(
+    p: usize,
+    steps: &[u32],
+    outputs: &[u32],
+    bytes: &mut [u8],
+    answer: &mut [u64; 4],
+) -> u32
+    ensures { λ r. ⌜ r ≡ numberOf (writeAnswer p (pairs (now (steps .entry))) (now (outputs .entry)) (length (now (bytes .entry)))) ⌝ }
+    ensures { λ r. ⌜ now (answer .exit) ≡ wordsOf (writeAnswer p (pairs (now (steps .entry))) (now (outputs .entry)) (length (now (bytes .entry)))) ⌝ }
+    ensures { λ r. ⌜ now (bytes .exit) ≡ writeBytes p (pairs (now (steps .entry))) (now (outputs .entry)) (now (bytes .entry)) ⌝ }
+{
+    match file::write(p, steps, outputs, bytes) {
+        Written::Refused(number, place) => tell(number, place, 0, 0, answer),
+        Written::Bytes(n) => tell(0, n, 0, 0, answer),
+    }
+}
+
+// The file of a chain, read.
+#[no_mangle]
+pub extern "C" fn spoutbasket_read(
+    bytes: &[u8],
+    steps: &mut [u32],
+    outputs: &mut [u32],
+    answer: &mut [u64; 4],
+) -> u32
+    ensures { λ r. ⌜ r ≡ numberOf (readAnswer (now (bytes .entry)) (length (now (steps .entry)) / 2) (length (now (outputs .entry)))) ⌝ }
+    ensures { λ r. ⌜ now (answer .exit) ≡ wordsOf (readAnswer (now (bytes .entry)) (length (now (steps .entry)) / 2) (length (now (outputs .entry)))) ⌝ }
+    ensures { λ r. ⌜ now (steps .exit) ≡ readSteps (now (bytes .entry)) (length (now (outputs .entry))) (now (steps .entry)) ⌝ }
+    ensures { λ r. ⌜ now (outputs .exit) ≡ readOutputs (now (bytes .entry)) (length (now (steps .entry)) / 2) (now (outputs .entry)) ⌝ }
+{
+    match file::read(bytes, steps, outputs) {
+        Reading::Refused(number, place) => tell(number, place, 0, 0, answer),
+        Reading::Chain { p, q, n } => tell(0, p, q, n, answer),
+    }
 }
 
 // The check of a chain against a sheet.

@@ -1,4 +1,4 @@
--- What a callee's judgement tells: the sizes that it found in range, the answer to it, and what the scratch holds then.
+-- The answer to a judgement, and what the scratch holds then.
 use mathlib.Core.Path.{_≡_, sym, ap, _∙_}
 use mathlib.Core.List.{List, [], _++_}
 use Prim.Native.Nat.{ℕ, _+_, _/_, _≤_}
@@ -7,11 +7,10 @@ use Rattle.chain.specs.Verdict.{Verdict, fine, refused, _then_, Answer, refusal
 use Rattle.chain.specs.Judgement.{verdictOf}
 use Rattle.chain.specs.declared.Judgement as judgement
 use Rattle.chain.specs.Written.{over}
-use Rattle.chain.specs.Chain.{mostPayslips, pairs, sizesRule}
+use Rattle.chain.specs.Chain.{pairs}
 use Rattle.chain.specs.declared.Step.{Step}
-use Rattle.chain.proofs.Rules.{told-fine, stop, pass}
+use Rattle.chain.proofs.Rules.{stop, pass}
 use Rattle.chain.proofs.Pairs.{length-pairs}
-use Rattle.chain.proofs.Sizes.{sizes-fit}
 use Rattle.verify.specs.Verify.{exponentsRule, payslipsRule, fittingRule, verifyRule, verifyAnswer, verifyScratch}
 use Rattle.verify.specs.Verified.{verifiedOf}
 use Rattle.verify.specs.declared.Verified.the-variants.{Passed, Refused}
@@ -24,9 +23,6 @@ module _ (j : judgement.Judgement) where
   pub told-refusal : (n s : ℕ) → j ≡ judgement.the-variants.Refused n s → verifiedOf (Refused n s) ≡ answer (verdictOf j) []
   unfolding answer
   told-refusal n s e = rw e
-
-pub payslips-low : (j : judgement.Judgement) (p q : ℕ) → verdictOf j ≡ sizesRule p q → j ≡ judgement.the-variants.Fine → q ≤ mostPayslips
-payslips-low j p q e f = sizes-fit p q (sym (told-fine j _ e f)) .q-low
 
 -- refused before the scratch is used
 module _ (p : ℕ) (steps : List Step) (outputs amounts old : List ℕ) (n s : ℕ) (e : refused n s ≡ fittingRule p steps outputs amounts (length old)) where

@@ -1,1 +1,2 @@
 pub mod Yao
+pub mod Emitted

@@ -1,1 +1,108 @@
 // Method 2: Yao.
+ghost use mathlib.Core.Path.{_≡_};
+ghost use mathlib.Core.List.{[]};
+ghost use Prim.Native.Nat.{ℕ, _+_, _-_, _*_, _^_, _≤_, _<_};
+ghost use lib.ListN.{length, getD};
+ghost use Rattle.methods.specs.Product.{made};
+ghost use Rattle.methods.specs.Powers.{powerAt};
+ghost use Rattle.methods.specs.Emitted.{stepsIn, Room, Stored, Emitted};
+ghost use Rattle.yao.specs.Yao.{gatherOne, gather, running};
+ghost use Rattle.yao.specs.Emitted.{Reach, powerIn, Ran};
+use methods::PartialProduct;
+
+// The powers of a column: its place, the value after which they are made, and how many they are.
+pub struct Column {
+    pub c: usize,
+    pub first: usize,
+    pub digits: usize,
+}
+
+// The two products of a column, and the number of steps so far.
+pub struct Pair {
+    pub n: usize,
+    pub a: u32,
+    pub b: u32,
+}
+
+// The value number of a base after j squarings.
+fn power_at(c: usize, first: usize, j: usize) -> u32
+    requires { ⌜ (c + 1 < 2 ^ 32) × (first + j < 2 ^ 32) ⌝ }
+    ensures { λ r. ⌜ r ≡ powerAt c first j ⌝ }
+{
+    if j == 0 {
+        return (c + 1) as u32;
+    }
+    (first + j) as u32
+}
+
+// b times the power, where the digit is d.
+fn gather_one(
+    p: usize,
+    digit: u32,
+    d: u32,
+    b: PartialProduct,
+    power: u32,
+    steps: &mut [u32],
+) -> PartialProduct
+    requires { ⌜ Room p (now steps) (b .n) (gatherOne p digit d (made (stepsIn (now steps) (b .n)) (b .value)) power .steps) ⌝ }
+    ensures { λ r. ⌜ Emitted (now (steps .entry)) (now (steps .exit)) (r .n) (r .value) (gatherOne p digit d (made (stepsIn (now (steps .entry)) (b .n)) (b .value)) power) ⌝ }
+{
+    if digit == d {
+        return methods::times(p, b, power, steps);
+    }
+    b
+}
+
+// b times each power whose digit in x is d, lowest first.
+fn gather_powers(
+    p: usize,
+    k: usize,
+    column: Column,
+    x: u32,
+    d: u32,
+    b: PartialProduct,
+    steps: &mut [u32],
+) -> PartialProduct
+    requires { ⌜ Reach k (column .c) (column .first) (column .digits) ⌝ }
+    requires { ⌜ Room p (now steps) (b .n) (gather p k (powerIn k (column .c) (column .first)) x d (column .digits) (made (stepsIn (now steps) (b .n)) (b .value)) .steps) ⌝ }
+    ensures { λ r. ⌜ Emitted (now (steps .entry)) (now (steps .exit)) (r .n) (r .value) (gather p k (powerIn k (column .c) (column .first)) x d (column .digits) (made (stepsIn (now (steps .entry)) (b .n)) (b .value))) ⌝ }
+{
+    let mut r = b;
+    let mut i: usize = 0;
+    while i < column.digits {
+        let power = power_at(column.c, column.first, k * i);
+        r = gather_one(p, digits::digit(k, x, i), d, r, power, steps);
+        i += 1;
+    }
+    r
+}
+
+// The products of a column for the amount x: for each digit from the largest down, b takes up its powers, then a takes up b.
+fn run_column(p: usize, k: usize, column: Column, x: u32, n: usize, steps: &mut [u32]) -> Pair
+    requires { ⌜ Reach k (column .c) (column .first) (column .digits) ⌝ }
+    requires { ⌜ Room p (now steps) n (running p k (powerIn k (column .c) (column .first)) (column .digits) x (stepsIn (now steps) n) (2 ^ k - 1) .steps) ⌝ }
+    ensures { λ r. ⌜ Ran (now (steps .entry)) (now (steps .exit)) (r .n) (r .a) (r .b) (running p k (powerIn k (column .c) (column .first)) (column .digits) x (stepsIn (now (steps .entry)) n) (2 ^ k - 1)) ⌝ }
+{
+    let top = digits::power(k);
+    let mut s = Pair { n: n, a: 0, b: 0 };
+    let mut i: u32 = 0;
+    while i + 1 < top {
+        let b = gather_powers(
+            p,
+            k,
+            column,
+            x,
+            top - (i + 1),
+            PartialProduct { n: s.n, value: s.b },
+            steps,
+        );
+        let a = methods::times(p, PartialProduct { n: b.n, value: s.a }, b.value, steps);
+        s = Pair {
+            n: a.n,
+            a: a.value,
+            b: b.value,
+        };
+        i += 1;
+    }
+    s
+}

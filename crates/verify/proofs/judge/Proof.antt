@@ -1,9 +1,8 @@
 use borrow.Author.Needs.{needs}
 use Rattle.chain.proofs.Rules.{judging}
 use Rattle.chain.proofs.Pairs.{length-pairs}
-use Rattle.chain.proofs.Sizes.{columns-low}
+use Rattle.chain.proofs.Sizes.{columns-low, payslips-low}
 use Rattle.verify.specs.Verify.{fittingRule}
-use Rattle.verify.proofs.Answers.{payslips-low}
 use Rattle.verify.proofs.judge.Statement.{statement}
 use Rattle.verify.proofs.judge.Tie as tie
 

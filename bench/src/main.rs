@@ -1,0 +1,118 @@
+//! The library beside plain Rust, on the same input and machine, in one run. A ratio is plain Rust's time over the library's:
+//! 1.0 or more means that the library is at least as fast. Nothing is asserted of times.
+mod plain;
+
+use spoutbasket_tests::ffi;
+use spoutbasket_tests::random::{legal_chain, Chain, Random};
+use std::hint::black_box;
+use std::time::Instant;
+
+/// The least time of some rounds, in nanoseconds, the two jobs taking turns.
+fn least(rounds: usize, mut ours: impl FnMut(), mut theirs: impl FnMut()) -> (f64, f64) {
+    let mut best = (f64::MAX, f64::MAX);
+    for _ in 0..rounds {
+        let start = Instant::now();
+        ours();
+        best.0 = best.0.min(start.elapsed().as_nanos() as f64);
+        let start = Instant::now();
+        theirs();
+        best.1 = best.1.min(start.elapsed().as_nanos() as f64);
+    }
+    best
+}
+
+fn report(job: &str, (ours, theirs): (f64, f64)) {
+    println!(
+        "{job:44} {:>10.1} µs  plain Rust {:>10.1} µs  ratio {:.2}",
+        ours / 1e3,
+        theirs / 1e3,
+        theirs / ours
+    );
+}
+
+/// 16,000 steps over 16 columns whose exponents stay small: each step multiplies by a base.
+fn long_chain() -> Chain {
+    let mut r = Random(11);
+    let (p, n) = (16, 16_000);
+    let steps = (1..=n)
+        .flat_map(|s| [(p + s - 1) as u32, r.within(1, p) as u32])
+        .collect();
+    Chain {
+        p,
+        steps,
+        outputs: (0..64).map(|i| (p + n - i) as u32).collect(),
+    }
+}
+
+fn main() {
+    let c = long_chain();
+    let all = spoutbasket_tests::reference::exponents(
+        c.p,
+        &spoutbasket_tests::reference::pairs(&c.steps),
+    );
+    let amounts: Vec<u32> = c
+        .outputs
+        .iter()
+        .flat_map(|&o| all[o as usize].iter().map(|&e| e as u32))
+        .collect();
+    let (mut scratch, mut other) = (vec![0; 16_017], vec![0; 16_017]);
+    report(
+        "check, 16,000 steps, p = 16, q = 64",
+        least(
+            300,
+            || {
+                assert!(
+                    ffi::verify(c.p, &c.steps, &c.outputs, black_box(&amounts), &mut scratch)
+                        .is_ok()
+                )
+            },
+            || {
+                assert!(
+                    plain::verify(c.p, &c.steps, &c.outputs, black_box(&amounts), &mut other)
+                        .is_ok()
+                )
+            },
+        ),
+    );
+    let scattered = legal_chain(&mut Random(12), 16, 64, 16_000, true);
+    for (name, chain) in [
+        ("run, 16,000 steps, p = 16, each on the last", &c),
+        ("run, 16,000 steps, p = 16, scattered", &scattered),
+    ] {
+        let m = 4_294_967_291;
+        let bases: Vec<u32> = (0..16).map(|i| 1_000_003 * (i + 1)).collect();
+        let (mut values, mut other) = (vec![0; 16_017], vec![0; 16_017]);
+        let (mut figures, mut other_figures) = (vec![0; 64], vec![0; 64]);
+        report(
+            name,
+            least(
+                1000,
+                || {
+                    assert!(ffi::run(
+                        16,
+                        &chain.steps,
+                        &chain.outputs,
+                        black_box(m),
+                        &bases,
+                        &mut values,
+                        &mut figures
+                    )
+                    .is_ok())
+                },
+                || {
+                    assert!(plain::run(
+                        16,
+                        &chain.steps,
+                        &chain.outputs,
+                        black_box(m),
+                        &bases,
+                        &mut other,
+                        &mut other_figures
+                    )
+                    .is_ok())
+                },
+            ),
+        );
+        assert_eq!(figures, other_figures);
+    }
+}

@@ -1,0 +1,7 @@
+pub mod Parts
+pub mod Values
+pub mod Fields
+pub mod Pack
+pub mod Filed
+pub mod Take
+pub mod Put

@@ -1,0 +1,45 @@
+// Lists of numbers as bit fields of one width.
+ghost use mathlib.Core.Path.{_≡_};
+ghost use Prim.Native.Nat.{_*_, _≤_};
+ghost use lib.ListN.{length, take};
+ghost use Rattle.bits.specs.Bits.{fields};
+ghost use Rattle.bits.specs.Cursor.{Stored};
+ghost use Rattle.fields.specs.Fields.{FillAll, RoomAll, TakenAll};
+use bits::Cursor;
+
+fn wide(x: u32) -> u64
+    ensures { λ r. ⌜ r ≡ x ⌝ }
+{
+    x as u64
+}
+
+// Writes the first count numbers of the list as fields of width bits, one after the other.
+pub fn put_fields(buf: &mut [u8], from: Cursor, width: usize, list: &[u32], count: usize) -> Cursor
+    requires { ⌜ (count ≤ length (now list)) × FillAll (now buf) (from .at) width (take count (now list)) ⌝ }
+    ensures { λ r. ⌜ Stored (now (buf .entry)) (from .at) (count * width) (fields width (take count (now (list .entry)))) (now (buf .exit)) (r .at) ⌝ }
+{
+    let mut c = from;
+    let mut j = 0;
+    while j < count {
+        c = c.put(buf, width, wide(list[j]));
+        j += 1;
+    }
+    c
+}
+
+// Reads count fields of width bits into the first cells of out.
+pub fn take_fields(file: &[u8], from: Cursor, width: usize, count: usize, out: &mut [u32]) -> Cursor
+    requires { ⌜ RoomAll (now file) (from .at) width count (now out) ⌝ }
+    ensures { λ r. ⌜ TakenAll (now (file .entry)) (from .at) width count (now (out .entry)) (now (out .exit)) (r .at) ⌝ }
+{
+    let mut c = from;
+    let mut i = 0;
+    while i < count {
+        let f = c.take(file, width);
+        out[i] = f.value as u32;
+        let next = f.next;
+        c = next;
+        i += 1;
+    }
+    c
+}

@@ -1,0 +1,11 @@
+pub mod Lengths
+pub mod Legal
+pub mod Answers
+pub mod Writing
+pub mod WriteAnswers
+pub mod Readable
+pub mod ReadingBack
+pub mod Judging
+pub mod OneFile
+pub mod Taking
+pub mod ReadAnswers

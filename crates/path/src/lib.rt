@@ -1,0 +1,1 @@
+// The path from sheet to figure: what the calls promise together.

@@ -1,0 +1,25 @@
+-- What the emitters of Yao's method are asked and leave.
+use mathlib.Core.Path.{_≡_}
+use mathlib.Core.List.{List}
+use Prim.Native.Nat.{ℕ, _+_, _*_, _^_, _≤_, _<_}
+use Rattle.methods.specs.Powers.{powerAt}
+use Rattle.methods.specs.Emitted.{Stored}
+use Rattle.yao.specs.Yao.{Running}
+
+-- a column's powers: column c, the values after first, J of them, in base 2^k; their numbers fit 32 bits, and so does a number of J digits but for its top digit
+pub record Reach (k c first J : ℕ) : Type 0 where
+  pub some : 0 < k
+  pub narrow : k < 32
+  pub digits : k * J ≤ 31 + k
+  pub base : c + 1 < 2 ^ 32
+  pub numbers : first + k * J < 2 ^ 32
+
+-- the value number of power 2^(ki)
+abbrev pub powerIn : ℕ → ℕ → ℕ → ℕ → ℕ
+powerIn k c first i = powerAt c first (k * i)
+
+-- the slice holds the steps of a running pair of products over what it held before
+pub record Ran (before cells : List ℕ) (n a b : ℕ) (r : Running) : Type 0 where
+  pub stored : Stored before cells n (r .steps)
+  pub a-is : a ≡ r .a
+  pub b-is : b ≡ r .b

@@ -1,0 +1,4 @@
+//! Tests of the proved library from Rust: its C interface, a plain reference of document 01, and random chains.
+pub mod ffi;
+pub mod random;
+pub mod reference;

@@ -1,0 +1,533 @@
+//! Document 01 in plain Rust, written from the document alone: what each call answers and what it leaves in each lent slice.
+//! It is slow and simple on purpose.
+
+/// The values of a call that is done, or a refusal's number and place.
+pub type Answer = Result<Vec<u64>, (u32, u64)>;
+
+pub const MOST_COLUMNS: usize = 16;
+pub const MOST_PAYSLIPS: usize = 64;
+pub const MOST_STEPS: usize = 16_000;
+pub const MOST_AMOUNT: u64 = 4_294_967_295;
+
+/// The steps of a flat slice; an odd last number belongs to no pair.
+pub fn pairs(steps: &[u32]) -> Vec<(u32, u32)> {
+    steps
+        .chunks_exact(2)
+        .map(|pair| (pair[0], pair[1]))
+        .collect()
+}
+
+fn sizes(p: usize, q: usize) -> Result<(), (u32, u64)> {
+    if p == 0 || p > MOST_COLUMNS || q == 0 || q > MOST_PAYSLIPS {
+        return Err((1, 0));
+    }
+    Ok(())
+}
+
+fn length(n: usize) -> Result<(), (u32, u64)> {
+    if n > MOST_STEPS {
+        return Err((4, 0));
+    }
+    Ok(())
+}
+
+/// The steps in order, each 9, 10, 11, then the outputs, 12.
+pub fn chain(p: usize, steps: &[(u32, u32)], outputs: &[u32]) -> Result<(), (u32, u64)> {
+    for (i, &(first, second)) in steps.iter().enumerate() {
+        let s = i as u64 + 1;
+        let v = p as u64 + s;
+        if first == 0 || second == 0 {
+            return Err((9, s));
+        }
+        if first as u64 >= v || second as u64 >= v {
+            return Err((10, s));
+        }
+        if first < second {
+            return Err((11, s));
+        }
+    }
+    for (i, &o) in outputs.iter().enumerate() {
+        if o as usize > p + steps.len() {
+            return Err((12, i as u64 + 1));
+        }
+    }
+    Ok(())
+}
+
+/// The exponents of every value, as vectors. A sum stops growing far above the limit, so that it fits.
+pub fn exponents(p: usize, steps: &[(u32, u32)]) -> Vec<Vec<u64>> {
+    let mut all = vec![vec![0u64; p]];
+    for c in 0..p {
+        let mut unit = vec![0u64; p];
+        unit[c] = 1;
+        all.push(unit);
+    }
+    for &(first, second) in steps {
+        let sum = (0..p)
+            .map(|c| (all[first as usize][c] + all[second as usize][c]).min(1 << 40))
+            .collect();
+        all.push(sum);
+    }
+    all
+}
+
+pub fn verify(
+    p: usize,
+    steps: &[u32],
+    outputs: &[u32],
+    amounts: &[u32],
+    scratch: &mut [u32],
+) -> Answer {
+    let steps = pairs(steps);
+    sizes(p, outputs.len())?;
+    length(steps.len())?;
+    if amounts.len() != p * outputs.len() {
+        return Err((2, 0));
+    }
+    chain(p, &steps, outputs)?;
+    let used = p + steps.len() + 1;
+    if scratch.len() < used {
+        return Err((5, 0));
+    }
+    scratch[..used].fill(0);
+    let all = exponents(p, &steps);
+    for (v, e) in all.iter().enumerate() {
+        if e.iter().any(|&x| x > MOST_AMOUNT) {
+            return Err((13, (v - p) as u64));
+        }
+    }
+    for (i, &o) in outputs.iter().enumerate() {
+        let payslip: Vec<u64> = amounts[i * p..(i + 1) * p]
+            .iter()
+            .map(|&a| a as u64)
+            .collect();
+        if all[o as usize] != payslip {
+            return Err((14, i as u64 + 1));
+        }
+    }
+    Ok(vec![])
+}
+
+pub fn run(
+    p: usize,
+    steps: &[u32],
+    outputs: &[u32],
+    m: u32,
+    bases: &[u32],
+    values: &mut [u32],
+    figures: &mut [u32],
+) -> Answer {
+    let steps = pairs(steps);
+    sizes(p, outputs.len())?;
+    length(steps.len())?;
+    if m == 0 {
+        return Err((15, 0));
+    }
+    if bases.len() != p || bases.iter().any(|&b| b >= m) {
+        return Err((16, 0));
+    }
+    chain(p, &steps, outputs)?;
+    if values.len() < p + steps.len() + 1 || figures.len() < outputs.len() {
+        return Err((5, 0));
+    }
+    values[0] = if m == 1 { 0 } else { 1 };
+    values[1..=p].copy_from_slice(bases);
+    for (i, &(first, second)) in steps.iter().enumerate() {
+        let product = values[first as usize] as u128 * values[second as usize] as u128;
+        values[p + 1 + i] = (product % m as u128) as u32;
+    }
+    for (i, &o) in outputs.iter().enumerate() {
+        figures[i] = values[o as usize];
+    }
+    Ok(vec![steps.len() as u64])
+}
+
+/// The product of the bases raised to the amounts of one payslip, modulo m, by a plain power loop.
+pub fn figure(m: u32, bases: &[u32], payslip: &[u32]) -> u32 {
+    let m = m as u64;
+    let mut product = 1 % m;
+    for (&base, &amount) in bases.iter().zip(payslip) {
+        let (mut square, mut left) = (base as u64 % m, amount);
+        while left > 0 {
+            if left & 1 == 1 {
+                product = product * square % m;
+            }
+            square = square * square % m;
+            left >>= 1;
+        }
+    }
+    product as u32
+}
+
+pub const LONGEST_FILE: usize = 56_116;
+
+fn bit_length(x: usize) -> usize {
+    (usize::BITS - x.leading_zeros()) as usize
+}
+
+fn file_length(p: usize, q: usize, n: usize) -> usize {
+    (28 + bit_length(p + n) * (2 * n + q)).div_ceil(8)
+}
+
+/// The file of a legal chain, as a list of bits.
+fn file_bits(p: usize, steps: &[(u32, u32)], outputs: &[u32]) -> Vec<bool> {
+    let mut bits = vec![];
+    let mut field = |width: usize, value: usize| {
+        for place in (0..width).rev() {
+            bits.push(value >> place & 1 == 1);
+        }
+    };
+    let width = bit_length(p + steps.len());
+    field(4, 1);
+    field(4, p - 1);
+    field(6, outputs.len() - 1);
+    field(14, steps.len());
+    for &(first, second) in steps {
+        field(width, first as usize);
+        field(width, second as usize);
+    }
+    for &o in outputs {
+        field(width, o as usize);
+    }
+    bits
+}
+
+pub fn write(p: usize, steps: &[u32], outputs: &[u32], bytes: &mut [u8]) -> Answer {
+    let steps = pairs(steps);
+    sizes(p, outputs.len())?;
+    length(steps.len())?;
+    chain(p, &steps, outputs)?;
+    let needed = file_length(p, outputs.len(), steps.len());
+    if bytes.len() < needed {
+        return Err((5, 0));
+    }
+    bytes[..needed].fill(0);
+    for (i, bit) in file_bits(p, &steps, outputs).into_iter().enumerate() {
+        if bit {
+            bytes[i / 8] |= 0x80 >> (i % 8);
+        }
+    }
+    Ok(vec![needed as u64])
+}
+
+pub fn read(bytes: &[u8], steps: &mut [u32], outputs: &mut [u32]) -> Answer {
+    let bit = |at: usize| (bytes[at / 8] >> (7 - at % 8) & 1) as usize;
+    let field = |at: usize, width: usize| (at..at + width).fold(0, |x, i| 2 * x + bit(i));
+    if bytes.len() < 4 {
+        return Err((6, 0));
+    }
+    if field(0, 4) != 1 {
+        return Err((7, 0));
+    }
+    let (p, q, n) = (field(4, 4) + 1, field(8, 6) + 1, field(14, 14));
+    length(n)?;
+    if bytes.len() != file_length(p, q, n) {
+        return Err((6, 0));
+    }
+    if steps.len() / 2 < n || outputs.len() < q {
+        return Err((5, 0));
+    }
+    let width = bit_length(p + n);
+    let end = 28 + width * (2 * n + q);
+    if (end..8 * bytes.len()).any(|i| bit(i) == 1) {
+        return Err((8, 0));
+    }
+    let numbers: Vec<u32> = (0..2 * n + q)
+        .map(|i| field(28 + i * width, width) as u32)
+        .collect();
+    chain(p, &pairs(&numbers[..2 * n]), &numbers[2 * n..])?;
+    steps[..2 * n].copy_from_slice(&numbers[..2 * n]);
+    outputs[..q].copy_from_slice(&numbers[2 * n..]);
+    Ok(vec![p as u64, q as u64, n as u64])
+}
+
+/// A chain in the making: values are vectors of exponents, and a product with the empty value 0 is a copy.
+struct Maker {
+    p: usize,
+    steps: Vec<(u32, u32)>,
+}
+
+impl Maker {
+    fn times(&mut self, a: u32, b: u32) -> u32 {
+        if a == 0 || b == 0 {
+            return a + b;
+        }
+        self.steps.push((a.max(b), a.min(b)));
+        (self.p + self.steps.len()) as u32
+    }
+
+    /// The products of all subsets (digits below `base`) of the inputs, in rising number, by their digits.
+    fn table(&mut self, base: usize, inputs: &[u32]) -> std::collections::HashMap<Vec<usize>, u32> {
+        let mut made = std::collections::HashMap::new();
+        for t in 0..base.pow(inputs.len() as u32) {
+            let digits: Vec<usize> = (0..inputs.len())
+                .map(|c| t / base.pow(c as u32) % base)
+                .collect();
+            let value = match digits.iter().sum() {
+                0 => 0,
+                1 => inputs[digits.iter().position(|&d| d == 1).unwrap()],
+                _ => {
+                    let lowest = digits.iter().position(|&d| d != 0).unwrap();
+                    let mut rest = digits.clone();
+                    rest[lowest] -= 1;
+                    self.times(made[&rest], inputs[lowest])
+                }
+            };
+            made.insert(digits, value);
+        }
+        made
+    }
+}
+
+fn digits_of(k: usize, mut x: u64) -> usize {
+    let mut count = 0;
+    while x > 0 {
+        x >>= k;
+        count += 1;
+    }
+    count
+}
+
+fn digit(k: usize, x: u32, j: usize) -> usize {
+    ((x as u64 >> (k * j)) & ((1 << k) - 1)) as usize
+}
+
+/// Steps and outputs by a method and its parameter, whose range is not tested here.
+pub fn make(
+    p: usize,
+    q: usize,
+    amounts: &[u32],
+    method: usize,
+    k: usize,
+) -> (Vec<(u32, u32)>, Vec<u32>) {
+    let payslip = |i: usize| &amounts[i * p..(i + 1) * p];
+    let column_most = |c: usize| (0..q).map(|i| amounts[i * p + c]).max().unwrap();
+    let mut m = Maker { p, steps: vec![] };
+    let mut outputs = vec![];
+    match method {
+        1 => {
+            let bases: Vec<u32> = (1..=p as u32).collect();
+            let table = m.table(1 << k, &bases);
+            for i in 0..q {
+                let most = *payslip(i).iter().max().unwrap();
+                let mut value = 0;
+                for j in (0..digits_of(k, most as u64)).rev() {
+                    for _ in 0..k {
+                        value = m.times(value, value);
+                    }
+                    let digits: Vec<usize> = payslip(i).iter().map(|&x| digit(k, x, j)).collect();
+                    value = m.times(value, table[&digits]);
+                }
+                outputs.push(value);
+            }
+        }
+        2 => {
+            let mut powers: Vec<Vec<u32>> = vec![];
+            for c in 0..p {
+                let mut column = vec![];
+                let mut value = c as u32 + 1;
+                for i in 0..digits_of(k, column_most(c) as u64) {
+                    if i > 0 {
+                        for _ in 0..k {
+                            value = m.times(value, value);
+                        }
+                    }
+                    column.push(value);
+                }
+                powers.push(column);
+            }
+            for i in 0..q {
+                let mut product = 0;
+                for c in 0..p {
+                    let (mut a, mut b) = (0, 0);
+                    for d in (1..1usize << k).rev() {
+                        for (j, &power) in powers[c].iter().enumerate() {
+                            if digit(k, payslip(i)[c], j) == d {
+                                b = m.times(b, power);
+                            }
+                        }
+                        a = m.times(a, b);
+                    }
+                    product = m.times(product, a);
+                }
+                outputs.push(product);
+            }
+        }
+        _ => {
+            let mut inputs: Vec<(u32, usize, usize)> = vec![];
+            for c in 0..p {
+                let mut value = c as u32 + 1;
+                for j in 0..digits_of(1, column_most(c) as u64) {
+                    if j > 0 {
+                        value = m.times(value, value);
+                    }
+                    inputs.push((value, c, j));
+                }
+            }
+            let groups: Vec<_> = inputs.chunks(k).collect();
+            let tables: Vec<_> = groups
+                .iter()
+                .map(|group| m.table(2, &group.iter().map(|g| g.0).collect::<Vec<_>>()))
+                .collect();
+            for i in 0..q {
+                let mut product = 0;
+                for (group, table) in groups.iter().zip(&tables) {
+                    let part: Vec<usize> = group
+                        .iter()
+                        .map(|&(_, c, j)| digit(1, payslip(i)[c], j))
+                        .collect();
+                    product = m.times(product, table[&part]);
+                }
+                outputs.push(product);
+            }
+        }
+    }
+    (m.steps, outputs)
+}
+
+fn parameter(p: usize, method: usize, k: usize) -> Result<(), (u32, u64)> {
+    let fits = match method {
+        1 => (1..=5).contains(&k) && p * k <= 10,
+        2 | 3 => (1..=8).contains(&k),
+        _ => false,
+    };
+    if fits {
+        Ok(())
+    } else {
+        Err((3, 0))
+    }
+}
+
+pub fn compile(
+    p: usize,
+    q: usize,
+    amounts: &[u32],
+    method: usize,
+    k: usize,
+    steps: &mut [u32],
+    outputs: &mut [u32],
+) -> Answer {
+    sizes(p, q)?;
+    if amounts.len() != p * q {
+        return Err((2, 0));
+    }
+    parameter(p, method, k)?;
+    let (made, outs) = make(p, q, amounts, method, k);
+    length(made.len())?;
+    if steps.len() / 2 < made.len() || outputs.len() < q {
+        return Err((5, 0));
+    }
+    for (i, &(first, second)) in made.iter().enumerate() {
+        steps[2 * i] = first;
+        steps[2 * i + 1] = second;
+    }
+    outputs[..q].copy_from_slice(&outs);
+    Ok(vec![made.len() as u64])
+}
+
+/// The ceiling of a method, from the document's formulas.
+pub fn ceiling(p: usize, q: usize, amounts: &[u32], method: usize, k: usize) -> usize {
+    let amount = |i: usize, c: usize| amounts[i * p + c];
+    let column_most = |c: usize| (0..q).map(|i| amount(i, c)).max().unwrap() as u64;
+    match method {
+        1 => {
+            let slips: usize = (0..q)
+                .map(|i| (0..p).map(|c| amount(i, c)).max().unwrap() as u64)
+                .filter(|&most| most > 0)
+                .map(|most| (digits_of(k, most) - 1) * (k + 1))
+                .sum();
+            (1 << (p * k)) - p - 1 + slips
+        }
+        2 => {
+            let js: Vec<usize> = (0..p).map(|c| digits_of(k, column_most(c))).collect();
+            let squarings: usize = js.iter().filter(|&&j| j > 0).map(|j| (j - 1) * k).sum();
+            let slips: usize = (0..q)
+                .map(|i| {
+                    let some: Vec<usize> = (0..p).filter(|&c| amount(i, c) > 0).collect();
+                    some.iter().map(|&c| js[c] + (1 << k) - 3).sum::<usize>()
+                        + some.len().saturating_sub(1)
+                })
+                .sum();
+            squarings + slips
+        }
+        _ => {
+            let bits: Vec<usize> = (0..p).map(|c| digits_of(1, column_most(c))).collect();
+            let w: usize = bits.iter().sum();
+            if w == 0 {
+                return 0;
+            }
+            let groups = w.div_ceil(k);
+            w - bits.iter().filter(|&&b| b > 0).count()
+                + groups * ((1 << k) - k - 1)
+                + q * (groups - 1)
+        }
+    }
+}
+
+/// The file chosen (1 or 2), or the refusal.
+pub fn choose(
+    p: usize,
+    q: usize,
+    amounts: &[u32],
+    a: &[u8],
+    b: &[u8],
+    pairs_lent: usize,
+    outputs_lent: usize,
+    numbers_lent: usize,
+) -> Answer {
+    sizes(p, q)?;
+    if amounts.len() != p * q {
+        return Err((2, 0));
+    }
+    if pairs_lent < MOST_STEPS || outputs_lent < MOST_PAYSLIPS || numbers_lent < 16_017 {
+        return Err((5, 0));
+    }
+    let judge = |file: &[u8]| -> Result<u64, (u32, u64)> {
+        let (mut steps, mut outputs) = (vec![0; 2 * MOST_STEPS], vec![0; MOST_PAYSLIPS]);
+        let read = read(file, &mut steps, &mut outputs)?;
+        if read[0] != p as u64 || read[1] != q as u64 {
+            return Err((14, 0));
+        }
+        let n = read[2];
+        verify(
+            p,
+            &steps[..2 * n as usize],
+            &outputs[..q],
+            amounts,
+            &mut vec![0; 16_017],
+        )?;
+        Ok(n)
+    };
+    match (judge(a), judge(b)) {
+        (Ok(m), Ok(n)) => Ok(vec![if m <= n { 1 } else { 2 }]),
+        (Ok(_), Err(_)) => Ok(vec![1]),
+        (Err(_), Ok(_)) => Ok(vec![2]),
+        (Err(refusal), Err(_)) => Err(refusal),
+    }
+}
+
+/// What the listing program writes.
+pub fn listing(bytes: &[u8]) -> String {
+    let lines = || -> Result<String, (u32, u64)> {
+        if bytes.len() > LONGEST_FILE {
+            return Err((6, 0));
+        }
+        let (mut steps, mut outputs) = (vec![0; 2 * MOST_STEPS], vec![0; MOST_PAYSLIPS]);
+        let read = read(bytes, &mut steps, &mut outputs)?;
+        let (p, q, n) = (read[0] as usize, read[1] as usize, read[2] as usize);
+        let all = exponents(p, &pairs(&steps[..2 * n]));
+        if all.iter().flatten().any(|&e| e > MOST_AMOUNT) {
+            return Err((13, 0));
+        }
+        let mut text = format!("{p} {q} {n}\n");
+        for (i, &o) in outputs[..q].iter().enumerate() {
+            text += &format!("{}", i + 1);
+            for e in &all[o as usize] {
+                text += &format!(" {e}");
+            }
+            text += "\n";
+        }
+        Ok(text)
+    };
+    lines().unwrap_or_else(|(number, _)| format!("refused {number}\n"))
+}

@@ -1,0 +1,306 @@
+//! The check and the run against the reference, every lent cell included.
+use spoutbasket_tests::random::{legal_chain, Chain, Random};
+use spoutbasket_tests::{ffi, reference};
+
+/// The check by the library and by the reference, on equal scratch: the same answer and the same cells.
+fn same_check(c: &Chain, amounts: &[u32], scratch: &[u32]) -> reference::Answer {
+    let (mut ours, mut theirs) = (scratch.to_vec(), scratch.to_vec());
+    let got = ffi::verify(c.p, &c.steps, &c.outputs, amounts, &mut ours);
+    let want = reference::verify(c.p, &c.steps, &c.outputs, amounts, &mut theirs);
+    assert_eq!(got, want, "{c:?} {amounts:?}");
+    assert_eq!(ours, theirs, "{c:?} {amounts:?}");
+    got
+}
+
+/// The run likewise.
+fn same_run(
+    c: &Chain,
+    m: u32,
+    bases: &[u32],
+    values: &[u32],
+    figures: &[u32],
+) -> (reference::Answer, Vec<u32>) {
+    let (mut ours, mut theirs) = (values.to_vec(), values.to_vec());
+    let (mut our_figures, mut their_figures) = (figures.to_vec(), figures.to_vec());
+    let got = ffi::run(
+        c.p,
+        &c.steps,
+        &c.outputs,
+        m,
+        bases,
+        &mut ours,
+        &mut our_figures,
+    );
+    let want = reference::run(
+        c.p,
+        &c.steps,
+        &c.outputs,
+        m,
+        bases,
+        &mut theirs,
+        &mut their_figures,
+    );
+    assert_eq!(got, want, "{c:?} {m} {bases:?}");
+    assert_eq!(ours, theirs, "{c:?} {m} {bases:?}");
+    assert_eq!(our_figures, their_figures, "{c:?} {m} {bases:?}");
+    (got, our_figures)
+}
+
+/// The sheet that a legal chain makes, if its amounts fit.
+fn sheet_of(c: &Chain) -> Option<Vec<u32>> {
+    let all = reference::exponents(c.p, &reference::pairs(&c.steps));
+    if all.iter().flatten().any(|&e| e > reference::MOST_AMOUNT) {
+        return None;
+    }
+    Some(
+        c.outputs
+            .iter()
+            .flat_map(|&o| all[o as usize].iter().map(|&e| e as u32))
+            .collect(),
+    )
+}
+
+fn modulus(r: &mut Random) -> u32 {
+    let any = r.word() as u32 | 1;
+    r.pick(&[
+        1,
+        2,
+        3,
+        7,
+        1000,
+        10_000,
+        65_537,
+        2_147_483_648,
+        u32::MAX - 1,
+        u32::MAX,
+        any,
+        any >> 9,
+    ])
+}
+
+fn bases(r: &mut Random, p: usize, m: u32) -> Vec<u32> {
+    (0..p)
+        .map(|_| {
+            if r.one_in(5) {
+                0
+            } else if r.one_in(5) {
+                m - 1
+            } else {
+                r.below(m as usize) as u32
+            }
+        })
+        .collect()
+}
+
+#[test]
+fn random_legal_chains() {
+    let mut r = Random(1);
+    let mut passed = 0;
+    for round in 0..6000 {
+        let (p, q) = (r.within(1, 16), r.within(1, 64));
+        let n = if round % 500 == 0 {
+            r.within(15_000, 16_000)
+        } else if r.one_in(3) {
+            r.below(4)
+        } else {
+            r.below(120)
+        };
+        let c = legal_chain(&mut r, p, q, n, true);
+        let needed = p + n + 1;
+        let amounts = sheet_of(&c).unwrap_or_else(|| vec![5; p * q]);
+        let scratch = r.words(needed + round % 3);
+        if same_check(&c, &amounts, &scratch).is_ok() {
+            passed += 1;
+        }
+        let m = modulus(&mut r);
+        let bases = bases(&mut r, p, m);
+        let (values, places) = (r.words(needed + round % 4), r.words(q + round % 2));
+        let (answer, figures) = same_run(&c, m, &bases, &values, &places);
+        assert_eq!(answer, Ok(vec![n as u64]));
+        if let Some(sheet) = sheet_of(&c) {
+            for i in 0..q {
+                assert_eq!(
+                    figures[i],
+                    reference::figure(m, &bases, &sheet[i * p..(i + 1) * p])
+                );
+            }
+        }
+    }
+    assert!(passed > 3000, "only {passed} chains passed");
+}
+
+#[test]
+fn damaged_chains_and_short_slices() {
+    let mut r = Random(2);
+    let mut seen = [0usize; 17];
+    for _ in 0..60_000 {
+        let n = if r.one_in(4) {
+            r.within(40, 70)
+        } else {
+            r.below(20)
+        };
+        let (p, q) = (r.within(1, 16), r.within(1, 12));
+        let slow = r.one_in(2);
+        let mut c = legal_chain(&mut r, p, q, n, slow);
+        let mut amounts = sheet_of(&c).unwrap_or_else(|| vec![1; p * q]);
+        let mut m = modulus(&mut r);
+        let mut bases = bases(&mut r, p, m);
+        let needed = p + n + 1;
+        let (mut scratch, mut values, mut places) = (needed + 1, needed + 1, q + 1);
+        for _ in 0..r.within(1, 2) {
+            match r.below(14) {
+                0 => c.p = r.pick(&[0, 17, usize::MAX, p + 1, p.saturating_sub(1)]),
+                1 => c.outputs = if r.one_in(2) { vec![] } else { vec![0; 65] },
+                2 => {
+                    amounts.pop();
+                }
+                3 => amounts.push(1),
+                4 if n > 0 => {
+                    let i = r.below(2 * n);
+                    c.steps[i] = 0;
+                }
+                5 if n > 0 => {
+                    let i = r.below(2 * n);
+                    c.steps[i] = r.pick(&[(p + i / 2 + 1) as u32, u32::MAX, (p + n) as u32]);
+                }
+                6 if n > 0 => {
+                    let s = r.below(n);
+                    c.steps.swap(2 * s, 2 * s + 1);
+                }
+                7 if !c.outputs.is_empty() => {
+                    let i = r.below(c.outputs.len());
+                    c.outputs[i] = r.pick(&[(p + n + 1) as u32, u32::MAX, (p + n) as u32]);
+                }
+                8 => scratch = r.pick(&[0, needed - 1, needed]),
+                9 => {
+                    values = r.pick(&[0, needed - 1, needed]);
+                    places = r.pick(&[0, q - 1, q]);
+                }
+                10 if !amounts.is_empty() => {
+                    let i = r.below(amounts.len());
+                    amounts[i] ^= 1 << r.below(32);
+                }
+                11 => m = r.pick(&[0, 1]),
+                12 => {
+                    if r.one_in(2) {
+                        bases.push(0)
+                    } else if let Some(b) = bases.first_mut() {
+                        *b = m
+                    }
+                }
+                _ => c.steps.push(r.word() as u32),
+            }
+        }
+        let (scratch, values, places) = (r.words(scratch), r.words(values), r.words(places));
+        for answer in [
+            same_check(&c, &amounts, &scratch),
+            same_run(&c, m, &bases, &values, &places).0,
+        ] {
+            seen[answer.map_or_else(|(number, _)| number as usize, |_| 0)] += 1;
+        }
+    }
+    for number in [0, 1, 2, 5, 9, 10, 11, 12, 13, 14, 15, 16] {
+        assert!(
+            seen[number] > 50,
+            "answer {number} came only {} times",
+            seen[number]
+        );
+    }
+}
+
+#[test]
+fn too_many_steps() {
+    for n in [16_000, 16_001] {
+        let c = Chain {
+            p: 1,
+            steps: vec![1; 2 * n],
+            outputs: vec![1],
+        };
+        let answer = same_check(&c, &[1], &vec![9; n + 3]);
+        assert_eq!(answer, if n == 16_000 { Ok(vec![]) } else { Err((4, 0)) });
+        assert_eq!(
+            same_run(&c, 7, &[3], &vec![9; n + 3], &[9, 9]).0.is_ok(),
+            n == 16_000
+        );
+    }
+}
+
+#[test]
+fn squarings_at_the_limit() {
+    for n in [31usize, 32, 33, 40] {
+        let steps = (1..=n as u32).flat_map(|v| [v, v]).collect();
+        let c = Chain {
+            p: 1,
+            steps,
+            outputs: vec![32],
+        };
+        let answer = same_check(&c, &[1 << 31], &vec![9; n + 4]);
+        assert_eq!(answer, if n == 31 { Ok(vec![]) } else { Err((13, 32)) });
+    }
+}
+
+/// 13 beats 14, and is the first step over all columns, also where no output uses it.
+#[test]
+fn first_place_over_all_columns() {
+    // column 2 is too large from step 32 on, column 1 only at step 66
+    let mut steps: Vec<u32> = vec![];
+    for s in 0..32u32 {
+        let v = if s == 0 { 2 } else { 2 + s };
+        steps.extend([v, v]);
+    }
+    for s in 0..34u32 {
+        let v = if s == 0 { 1 } else { 34 + s };
+        steps.extend([v, v]);
+    }
+    let c = Chain {
+        p: 2,
+        steps,
+        outputs: vec![0, 1],
+    };
+    assert_eq!(same_check(&c, &[9, 9, 9, 9], &[9; 80]), Err((13, 32)));
+    let c = Chain {
+        p: 2,
+        steps: vec![],
+        outputs: vec![0, 2, 1],
+    };
+    assert_eq!(same_check(&c, &[0, 0, 1, 1, 1, 0], &[9; 4]), Err((14, 2)));
+}
+
+/// Trials A, F and G of document 01, and its examples of refusals.
+#[test]
+fn trials() {
+    let a = Chain {
+        p: 2,
+        steps: vec![2, 1, 3, 3, 4, 1],
+        outputs: vec![5],
+    };
+    assert_eq!(same_check(&a, &[3, 2], &[9; 7]), Ok(vec![]));
+    let (answer, figures) = same_run(&a, 1000, &[3, 5], &[9; 7], &[9; 2]);
+    assert_eq!((answer, figures), (Ok(vec![3]), vec![675, 9]));
+    assert_eq!(
+        same_check(
+            &Chain {
+                outputs: vec![4],
+                ..a.clone()
+            },
+            &[3, 2],
+            &[9; 7]
+        ),
+        Err((14, 1))
+    );
+    let f = Chain {
+        p: 1,
+        steps: vec![],
+        outputs: vec![0],
+    };
+    assert_eq!(same_run(&f, 1000, &[3], &[9; 2], &[9]).1, [1]);
+    assert_eq!(same_run(&f, 1, &[0], &[9; 2], &[9]).1, [0]);
+    assert_eq!(same_run(&f, 7, &[7], &[9; 2], &[9]).0, Err((16, 0)));
+    assert_eq!(same_run(&f, 0, &[0], &[9; 2], &[9]).0, Err((15, 0)));
+    let g = Chain {
+        p: 1,
+        steps: vec![1, 1, 2, 1, 3, 2, 4, 2, 5, 5, 6, 6, 7, 7, 8, 5],
+        outputs: vec![9],
+    };
+    assert_eq!(same_check(&g, &[63], &[9; 10]), Ok(vec![]));
+}

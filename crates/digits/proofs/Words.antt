@@ -1,7 +1,7 @@
 -- Digits by operations on words: a power of two is a shift, and a number's digits are counted by its leading zeros.
-use mathlib.Core.Path.{_≡_, ap, _∙_}
+use mathlib.Core.Path.{_≡_, _∙_}
 use Prim.Native.Nat.{ℕ, zero, suc, _+_, _-_, _*_, _/_, _%_, _^_, _≤_, _<_}
-use native.Mathlib.Nat.{mul-comm, one-mul, pow-suc, suc-mul, le-refl, le-trans, lt-of-lt-of-le, le-antisymm, div-lt-iff-lt-mul, le-div-iff-mul-le}
+use native.Mathlib.Nat.{mul-comm, one-mul, pow-suc, suc-mul, le-refl, lt-of-lt-of-le, le-antisymm, div-lt-iff-lt-mul, le-div-iff-mul-le}
 use native.Mathlib.Decide.{decLt}
 use native.Mathlib.Omega.{arith}
 use lib.Count.{leadingZeros, leading-length}

@@ -1,9 +1,9 @@
 -- Laws of steps in a lent slice while they are being made: what the slice holds, one step more, and emitters one after the other.
 use mathlib.Core.Path.{_≡_, refl, sym, ap, ap₂, _∙_}
 use mathlib.Core.List.{List, [], _∷_, _++_, append-assoc}
-use Prim.Native.Nat.{ℕ, zero, suc, _+_, _*_, _/_, _^_, _≤_, _<_, min, max}
+use Prim.Native.Nat.{ℕ, _+_, _*_, _≤_, _<_, min, max}
 use native.Mathlib.Omega.{arith}
-use lib.ListN.{length, take, drop, set, length-append}
+use lib.ListN.{length, take, set, length-append}
 use lib.Seq.{length-take-le}
 use Rattle.chain.specs.Chain.{by, pairs, flat}
 use Rattle.chain.specs.Written.{over, laid}
@@ -12,7 +12,7 @@ use Rattle.chain.proofs.Pairs.{length-pairs, pairs-flat, length-flat, flat-appe
 use Rattle.chain.proofs.Written.{laid-nil, laid-pair, over-length, take-over, over-take, over-over}
 use Rattle.methods.specs.Product.{Made, made, ordered}
 use Rattle.methods.specs.Emitted.{stepsIn, Room, Stored, Emitted}
-use Rattle.methods.proofs.Sound.{Begins, begins-own, begins-length}
+use Rattle.methods.proofs.Sound.{Begins, begins-length}
 
 -- what stands in a slice already
 module _ (cells : List ℕ) (n : ℕ) (fits : 2 * n ≤ length cells) where

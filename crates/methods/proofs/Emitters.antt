@@ -1,11 +1,10 @@
 -- Laws by which the emitters of products keep to their contracts.
 use mathlib.Core.Path.{_≡_, refl, sym, ap, _∙_}
 use mathlib.Core.List.{List, [], _∷_, _++_}
-use Prim.Native.Nat.{ℕ, zero, suc, _+_, _*_, _^_, _≤_, _<_}
+use Prim.Native.Nat.{ℕ, suc, _+_, _*_, _^_, _≤_, _<_}
 use native.Mathlib.Numerals.{add-one}
 use native.Mathlib.Omega.{arith}
 use lib.ListN.{length, length-append}
-use Rattle.chain.specs.declared.Step.{Step}
 use Rattle.methods.specs.Product.{Made, made, ordered, times, squared}
 use Rattle.methods.specs.Emitted.{stepsIn, Room, Stored, Emitted}
 use Rattle.methods.proofs.Product.{times-start, times-copy, times-new, times-begins, squared-begins}

@@ -1,18 +1,17 @@
 -- Laws by which payslips emitted one after the other keep to their contract, for any method whose payslips only append steps.
-use mathlib.Core.Path.{_≡_, refl, sym, ap, ap₂, _∙_}
+use mathlib.Core.Path.{_≡_, refl, ap, _∙_}
 use mathlib.Core.List.{List, [], _∷_, _++_, append-assoc}
 use Prim.Native.Nat.{ℕ, zero, suc, _+_, _≤_, _<_}
-use native.Mathlib.Decide.{decLe}
 use native.Mathlib.Numerals.{add-one}
 use native.Mathlib.Omega.{arith}
-use lib.ListN.{length, getD, drop, set, length-append, length-drop}
+use lib.ListN.{length, getD, drop, set, length-append}
 use lib.Seq.{drop-cons, set-at}
 use Rattle.chain.specs.Chain.{flat}
 use Rattle.chain.specs.Written.{over}
 use Rattle.chain.specs.declared.Step.{Step}
 use Rattle.methods.specs.Product.{Made, payslips}
 use Rattle.methods.specs.Emitted.{stepsIn, Room, Stored, Emitted}
-use Rattle.methods.proofs.Sound.{Begins, begins-own, begins-on}
+use Rattle.methods.proofs.Sound.{Begins, begins-rise}
 use Rattle.methods.proofs.Emitted.{stored-own, stored-is, stored-on, stored-room}
 
 -- one number more over a slice's front
@@ -43,16 +42,7 @@ module _ (slip : ℕ → List Step → Made) (start : List Step) (i q : ℕ) (h 
 
 module _ (slip : ℕ → List Step → Made) (start : List Step) (each : (i : ℕ) (before : List Step) → Begins before (slip i before .steps)) where
   pub paid-begins : (i q : ℕ) → i ≤ q → Begins (payslips slip start i .steps) (payslips slip start q .steps)
-  paid-begins zero zero h = begins-own start
-  paid-begins (suc i) zero h = absurd (omega arith)
-  paid-begins i (suc q) h = by-place (paid-begins i q) (decLe i q)
-    where
-      by-place : (i ≤ q → Begins (payslips slip start i .steps) (payslips slip start q .steps)) → Dec (i ≤ q)
-          → Begins (payslips slip start i .steps) (payslips slip start (suc q) .steps)
-      by-place ih (yes le) = begins-on (ih le) (each q (payslips slip start q .steps))
-      by-place ih (no gt) =
-          let last : i ≡ suc q = omega arith in
-          rw last (begins-own (payslips slip start (suc q) .steps))
+  paid-begins = begins-rise (λ i. payslips slip start i .steps) (λ i. each i (payslips slip start i .steps))
 
   pub paid-length : (i : ℕ) → length (payslips slip start i .outputs) ≡ i
   paid-length zero = refl

@@ -3,7 +3,6 @@ use mathlib.Core.Bool.{Bool, true, false, cond}
 use mathlib.Core.Path.{_≡_, refl, sym, ap, _∙_}
 use mathlib.Core.List.{List, [], _∷_, _++_, append-nil, append-assoc}
 use Prim.Native.Nat.{ℕ, zero, suc, _+_, _-_, _*_, _^_, _≤_, _<_}
-use native.Mathlib.Decide.{decLe}
 use native.Mathlib.Numerals.{add-one}
 use native.Mathlib.Omega.{arith}
 use lib.Dec.{eqb}
@@ -17,9 +16,9 @@ use Rattle.digits.proofs.Words.{digit-place}
 use Rattle.methods.specs.Product.{ordered}
 use Rattle.methods.specs.Table.{isUnit, entry, lowestFrom, lowest, tableNext, table}
 use Rattle.methods.specs.Emitted.{stepsIn, Room, Stored}
-use Rattle.methods.proofs.Sound.{Begins, begins-own, begins-more, begins-on}
-use Rattle.methods.proofs.Table.{Lowest, lowest-digit}
-use Rattle.methods.proofs.Emitted.{length-stepsIn, stored-own, stored-is, stored-length, stored-on, stored-room}
+use Rattle.methods.proofs.Sound.{Begins, begins-own, begins-more, begins-rise}
+use Rattle.methods.proofs.Table.{lowest-digit}
+use Rattle.methods.proofs.Emitted.{length-stepsIn, stored-own, stored-is, stored-on, stored-room}
 
 count-nonzero : (k t : ℕ) → 0 < t → 0 < digitCount k t
 count-nonzero k zero h = absurd (omega arith)
@@ -172,18 +171,7 @@ module _ (k : ℕ) (inputs : List ℕ) (at : ℕ) (front : List Step) where
   after-next t = rw (add-one t) (sym (next-front k inputs at t front (table k inputs at t)))
 
   after-begins : (t T : ℕ) → t ≤ T → Begins (After t) (After T)
-  after-begins zero zero h = begins-own (After 0)
-  after-begins (suc t) zero h = absurd (omega arith)
-  after-begins t (suc T) h = by-place (after-begins t T) (decLe t T)
-    where
-      one : Begins (After T) (After (suc T))
-      one = rw (← next-front k inputs at T front (table k inputs at T)) (next-begins k inputs at T (After T))
-
-      by-place : (t ≤ T → Begins (After t) (After T)) → Dec (t ≤ T) → Begins (After t) (After (suc T))
-      by-place ih (yes le) = begins-on (ih le) one
-      by-place ih (no gt) =
-          let last : t ≡ suc T = omega arith in
-          rw last (begins-own (After (suc T)))
+  after-begins = begins-rise After (λ t. rw (← next-front k inputs at t front (table k inputs at t)) (next-begins k inputs at t (After t)))
 
   table-room : (p : ℕ) (old cells : List ℕ) (n s t end T : ℕ) → Room p old n (After T) → end ≡ T → t < end → Stored old cells s (After t)
       → Room p cells s (tableNext k inputs at t (stepsIn cells s))

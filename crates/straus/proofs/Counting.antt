@@ -1,9 +1,8 @@
 -- Laws by which the functions of digits and counts keep to their contracts.
-use mathlib.Core.Path.{_≡_, refl, sym, ap, ap₂, _∙_}
+use mathlib.Core.Path.{_≡_, refl, ap, ap₂, _∙_}
 use mathlib.Core.List.{List}
 use Prim.Native.Nat.{ℕ, zero, suc, _+_, _-_, _*_, _^_, _≤_, _<_, max}
 use native.Mathlib.Nat.{add-mul, mul-comm, mul-one, one-mul, mul-zero, zero-mul, pow-suc, mul-le-mul-left, mul-le-mul-right, lt-of-lt-of-le}
-use native.Mathlib.Numerals.{add-one}
 use native.Mathlib.Omega.{arith}
 use lib.Pow.{pow-mono}
 use Rattle.digits.specs.Digits.{digitCount, digit}

@@ -1,20 +1,18 @@
 -- Laws by which the emitters of payslips and of the chain keep to their contracts.
-use mathlib.Core.Path.{_≡_, refl, sym, ap, ap₂, subst, _∙_}
-use mathlib.Core.List.{List, [], _∷_, _++_}
-use Prim.Native.Nat.{ℕ, zero, suc, _+_, _-_, _*_, _^_, _≤_, _<_}
-use native.Mathlib.Decide.{decLe}
-use native.Mathlib.Nat.{le-refl, mul-le-mul-left}
+use mathlib.Core.Path.{_≡_, ap, ap₂, subst, _∙_}
+use mathlib.Core.List.{List}
+use Prim.Native.Nat.{ℕ, suc, _+_, _-_, _*_, _^_, _≤_, _<_}
+use native.Mathlib.Nat.{mul-le-mul-left}
 use native.Mathlib.Numerals.{add-one}
 use native.Mathlib.Omega.{arith}
 use lib.ListN.{length, set}
 use lib.Pow.{pow-mono}
-use Rattle.chain.specs.Chain.{flat}
 use Rattle.chain.specs.Written.{over}
 use Rattle.chain.specs.declared.Step.{Step}
 use Rattle.methods.specs.Product.{Made, made, times, squared, payslips}
 use Rattle.methods.specs.Table.{entry}
 use Rattle.methods.specs.Emitted.{stepsIn, Room, Stored, Emitted}
-use Rattle.methods.proofs.Sound.{Begins, begins-own, begins-on}
+use Rattle.methods.proofs.Sound.{Begins, begins-own, begins-on, begins-rise}
 use Rattle.methods.proofs.Product.{times-begins, squared-begins}
 use Rattle.methods.proofs.Emitted.{emitted-own, emits-room, emits-on}
 use Rattle.methods.proofs.Paying.{pay-room, pay-steps, pay-output}
@@ -51,19 +49,8 @@ module _ (p k : ℕ) (amounts : List ℕ) (i : ℕ) where
       let m = digitsMade p k amounts i before d in
       begins-on (squared-begins p m 0 k (omega arith)) (times-begins p (squared p k m) _)
 
-  pub digits-begin : (before : List Step) (c d : ℕ) → c ≤ d → Begins (digitsMade p k amounts i before c .steps) (digitsMade p k amounts i before d .steps)
-  digits-begin before zero zero h = begins-own before
-  digits-begin before (suc c) zero h = absurd (omega arith)
-  digits-begin before c (suc d) h = by-place (digits-begin before c d) (decLe c d)
-    where
-      made-by : ℕ → List Step
-      made-by n = digitsMade p k amounts i before n .steps
-
-      by-place : (c ≤ d → Begins (made-by c) (made-by d)) → Dec (c ≤ d) → Begins (made-by c) (made-by (suc d))
-      by-place ih (yes le) = begins-on (ih le) (next-begins before d)
-      by-place ih (no gt) =
-          let last : c ≡ suc d = omega arith in
-          rw last (begins-own (made-by (suc d)))
+  digits-begin : (before : List Step) (c d : ℕ) → c ≤ d → Begins (digitsMade p k amounts i before c .steps) (digitsMade p k amounts i before d .steps)
+  digits-begin before = begins-rise (λ d. digitsMade p k amounts i before d .steps) (next-begins before)
 
   -- a payslip only appends steps
   pub payslip-begins : (before : List Step) → Begins before (strausPayslip p k amounts i before .steps)

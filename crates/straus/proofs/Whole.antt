@@ -3,7 +3,7 @@ use mathlib.Core.Path.{_≡_, refl, sym, ap, ap₂, _∙_}
 use mathlib.Core.List.{List, [], _∷_, _++_}
 use Prim.Native.Nat.{ℕ, zero, suc, _+_, _-_, _*_, _^_, _≤_, _<_}
 use native.Mathlib.Decide.{decLe}
-use native.Mathlib.Nat.{add-zero, mul-comm, le-trans, mul-le-mul-right}
+use native.Mathlib.Nat.{add-zero, mul-comm, mul-le-mul-right}
 use native.Mathlib.Omega.{arith}
 use lib.ListN.{length, getD, take}
 use lib.Pow.{pow-mono}
@@ -13,7 +13,7 @@ use Rattle.chain.specs.Written.{over}
 use Rattle.chain.specs.declared.Step.{Step}
 use Rattle.chain.proofs.Pairs.{length-flat}
 use Rattle.chain.proofs.Written.{over-over}
-use Rattle.digits.specs.Range.{sumTo, maxTo}
+use Rattle.digits.specs.Range.{maxTo}
 use Rattle.digits.proofs.Range.{sum-low, max-low}
 use Rattle.sheet.specs.Sheet.{amount}
 use Rattle.methods.specs.Product.{payslips}

@@ -7,7 +7,7 @@ ghost use Rattle.chain.specs.Written.{over};
 ghost use Rattle.digits.specs.Range.{sumTo, maxTo, sign};
 ghost use Rattle.sheet.specs.Sheet.{amount};
 ghost use Rattle.methods.specs.Product.{made, times, squared, payslips};
-ghost use Rattle.methods.specs.Emitted.{stepsIn, Room, Stored, Emitted};
+ghost use Rattle.methods.specs.Emitted.{stepsIn, Room, Emitted};
 ghost use Rattle.straus.specs.Straus.{bases, strausDigits, digitVector, strausPayslip, straus, strausCount};
 use methods::PartialProduct;
 

@@ -16,7 +16,7 @@ power-requires : tie.Need-power-requires
 power-requires c κs = search needs
 
 rem-result : tie.Need-rem-result
-rem-result c = rw (c .power .ensures) (pow-pos (c .before .args .k))
+rem-result c = rw (c .power .ensures) (pow-pos _)
 
 returns : tie.Need-returns
 returns c = rw (c .power .ensures)

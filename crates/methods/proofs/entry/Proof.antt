@@ -1,4 +1,4 @@
-use borrow.Author.Needs.{needs, fits-under}
+use borrow.Author.Needs.{needs}
 use native.Mathlib.Omega.{arith}
 use Rattle.methods.proofs.Tabling.{entering, digits-few}
 use Rattle.methods.proofs.entry.Statement.{statement}

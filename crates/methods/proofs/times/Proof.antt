@@ -1,5 +1,4 @@
 use borrow.Author.Needs.{needs}
-use native.Mathlib.Omega.{arith}
 use Rattle.methods.proofs.Emitters.{multiplying}
 use Rattle.methods.proofs.times.Statement.{statement}
 use Rattle.methods.proofs.times.Tie as tie

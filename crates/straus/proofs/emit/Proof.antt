@@ -1,5 +1,4 @@
 use borrow.Author.Needs.{needs}
-use native.Mathlib.Omega.{arith}
 use Rattle.straus.proofs.Whole.{bases-listed, bases-counted}
 use Rattle.straus.proofs.emit.Statement.{statement}
 use Rattle.straus.proofs.emit.Tie as tie

@@ -1,7 +1,6 @@
 use borrow.Author.Needs.{needs, fits-under}
 use mathlib.Core.Path.{_≡_}
 use Prim.Native.Nat.{_+_, _*_, _≤_, _-_}
-use native.Mathlib.Omega.{arith}
 use Rattle.straus.proofs.Counting.{signsTo, lower-place, cost-none, squarings-fit, signs-on, sum-fits, cost-all, cost-few}
 use Rattle.straus.proofs.payslip_count.Statement.{statement}
 use Rattle.straus.proofs.payslip_count.Tie as tie

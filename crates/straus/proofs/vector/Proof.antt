@@ -1,7 +1,6 @@
 use borrow.Author.Needs.{needs, fits-under}
 use mathlib.Core.Path.{_≡_}
 use Prim.Native.Nat.{_≤_, _-_}
-use native.Mathlib.Omega.{arith}
 use Rattle.straus.proofs.Counting.{vectorTo, term-fits, adding}
 use Rattle.straus.proofs.vector.Statement.{statement}
 use Rattle.straus.proofs.vector.Tie as tie

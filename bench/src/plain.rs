@@ -80,6 +80,22 @@ pub fn run(
     Ok(n)
 }
 
+/// The step after s others: 9, 10, 11.
+#[inline]
+fn step(p: usize, s: usize, a: usize, b: usize) -> Result<(), (u32, usize)> {
+    let v = p + s + 1;
+    if a == 0 || b == 0 {
+        return Err((9, s + 1));
+    }
+    if a >= v || b >= v {
+        return Err((10, s + 1));
+    }
+    if a < b {
+        return Err((11, s + 1));
+    }
+    Ok(())
+}
+
 /// Legality: 1, 4, steps, 12.
 fn judge(p: usize, steps: &[u32], outputs: &[u32]) -> Result<(), (u32, usize)> {
     let (n, q) = (steps.len() / 2, outputs.len());
@@ -90,16 +106,7 @@ fn judge(p: usize, steps: &[u32], outputs: &[u32]) -> Result<(), (u32, usize)> {
         return Err((4, 0));
     }
     for (s, pair) in steps.chunks_exact(2).enumerate() {
-        let (a, b, v) = (pair[0] as usize, pair[1] as usize, p + s + 1);
-        if a == 0 || b == 0 {
-            return Err((9, s + 1));
-        }
-        if a >= v || b >= v {
-            return Err((10, s + 1));
-        }
-        if a < b {
-            return Err((11, s + 1));
-        }
+        step(p, s, pair[0] as usize, pair[1] as usize)?;
     }
     match outputs.iter().position(|&o| o as usize > p + n) {
         Some(i) => Err((12, i + 1)),

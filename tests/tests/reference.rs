@@ -2,40 +2,30 @@
 use spoutbasket_tests::random::Random;
 use spoutbasket_tests::reference::*;
 
-fn made(
-    p: usize,
-    q: usize,
-    amounts: &[u32],
-    method: usize,
-    k: usize,
-) -> (Vec<(u32, u32)>, Vec<u32>) {
-    make(p, q, amounts, method, k)
-}
-
 #[test]
 fn trials_a_to_e() {
     assert_eq!(
-        made(2, 1, &[3, 2], 1, 1),
+        make(2, 1, &[3, 2], 1, 1),
         (vec![(2, 1), (3, 3), (4, 1)], vec![5])
     );
     assert_eq!(
-        made(2, 1, &[3, 2], 2, 1),
+        make(2, 1, &[3, 2], 2, 1),
         (vec![(1, 1), (2, 2), (3, 1), (5, 4)], vec![6])
     );
     assert_eq!(
-        made(2, 1, &[3, 2], 3, 2),
+        make(2, 1, &[3, 2], 3, 2),
         (vec![(1, 1), (2, 2), (3, 1), (4, 2), (5, 4)], vec![7])
     );
     assert_eq!(
-        made(1, 1, &[11], 1, 2).0,
+        make(1, 1, &[11], 1, 2).0,
         [(1, 1), (2, 1), (2, 2), (4, 4), (5, 3)]
     );
     assert_eq!(
-        made(1, 1, &[11], 2, 2).0,
+        make(1, 1, &[11], 2, 2).0,
         [(1, 1), (2, 2), (3, 1), (4, 1), (5, 4)]
     );
-    assert_eq!(made(1, 1, &[0], 1, 1), (vec![], vec![0]));
-    assert_eq!(made(1, 1, &[u32::MAX], 1, 1).0.len(), 62);
+    assert_eq!(make(1, 1, &[0], 1, 1), (vec![], vec![0]));
+    assert_eq!(make(1, 1, &[u32::MAX], 1, 1).0.len(), 62);
 }
 
 #[test]

@@ -1,1 +1,3 @@
 pub mod Method
+pub mod Fits
+pub mod Compiled

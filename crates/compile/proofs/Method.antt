@@ -10,11 +10,11 @@ use Rattle.chain.proofs.Rules.{refuse-yes, refuse-no, lt-yes, lt-no, or-left, o
 use Rattle.compile.specs.Compile.{outside, methodRule}
 
 module _ (p method k : ℕ) where
-  is-one : method ≡ 1 → methodRule p method k ≡ refuseIf (outside 1 5 k or 10 <? p * k) 3 0
+  pub is-one : method ≡ 1 → methodRule p method k ≡ refuseIf (outside 1 5 k or 10 <? p * k) 3 0
   unfolding methodRule
   is-one e = rw (eq-yes method 1 e)
 
-  is-more : 2 ≤ method → method ≤ 3 → methodRule p method k ≡ refuseIf (outside 1 8 k) 3 0
+  pub is-more : 2 ≤ method → method ≤ 3 → methodRule p method k ≡ refuseIf (outside 1 8 k) 3 0
   unfolding methodRule
   is-more h g = by-number (ℕ-discrete method 2)
     where
@@ -22,7 +22,7 @@ module _ (p method k : ℕ) where
       by-number (yes e) = rw (eq-no method 1 (omega arith), eq-yes method 2 e)
       by-number (no e) = let three : method ≡ 3 = omega arith in rw (eq-no method 1 (omega arith), eq-no method 2 e, eq-yes method 3 three)
 
-  is-none : (method ≡ 1 → ⊥) → (method ≡ 2 → ⊥) → (method ≡ 3 → ⊥) → methodRule p method k ≡ refuseIf true 3 0
+  pub is-none : (method ≡ 1 → ⊥) → (method ≡ 2 → ⊥) → (method ≡ 3 → ⊥) → methodRule p method k ≡ refuseIf true 3 0
   unfolding methodRule
   is-none a b c = rw (eq-no method 1 a, eq-no method 2 b, eq-no method 3 c)
 

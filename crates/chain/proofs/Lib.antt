@@ -1,6 +1,7 @@
 pub mod Rules
 pub mod Pairs
 pub mod Sizes
+pub mod Legal
 pub mod Steps
 pub mod Outputs
 pub mod Values

@@ -1,5 +1,5 @@
--- What legality promises the file: sizes that fit the header's fields, and numbers that fit the width.
-use mathlib.Core.Path.{_≡_, sym}
+-- What legality promises the file: numbers that fit the width.
+use mathlib.Core.Path.{_≡_}
 use mathlib.Core.List.{List, [], _∷_}
 use Prim.Native.Nat.{ℕ, zero, suc, _+_, _^_, _≤_, _<_, zero-le}
 use native.Mathlib.Nat.{lt-of-not-le}
@@ -7,35 +7,13 @@ use native.Mathlib.Decide.{decLe}
 use native.Mathlib.Omega.{arith}
 use lib.ListN.{length, getD, List·getD-eq-default}
 use Rattle.chain.specs.Verdict.{fine}
-use Rattle.chain.specs.Chain.{mostSteps, flat, stepsRule, chainRule, Legal, legalRule}
+use Rattle.chain.specs.Chain.{flat, stepsRule, chainRule}
 use Rattle.chain.specs.declared.Step.{Step}
-use Rattle.chain.proofs.Rules.{then-fine, pass}
-use Rattle.chain.proofs.Sizes.{Sizes, sizes-fit, fit-sizes, length-fits, fits-length}
+use Rattle.chain.proofs.Rules.{then-fine}
 use Rattle.chain.proofs.Steps.{step-legal}
 use Rattle.chain.proofs.Outputs.{outputs-low}
 use Rattle.file.specs.File.{width}
 use Rattle.file.proofs.Lengths.{width-holds}
-
--- a legal chain in parts
-pub record LegalChain (p : ℕ) (steps : List Step) (outputs : List ℕ) : Type 0 where
-  pub sizes : Sizes p (length outputs)
-  pub few : length steps ≤ mostSteps
-  pub chain : chainRule p steps outputs ≡ fine
-
-module _ (p : ℕ) (steps : List Step) (outputs : List ℕ) where
-  pub legal-parts : Legal p steps outputs → LegalChain p steps outputs
-  unfolding legalRule
-  legal-parts ok =
-      let a = then-fine _ _ ok in
-      let b = then-fine _ _ (a .1) in
-      record { sizes = sizes-fit p (length outputs) (a .0); few = length-fits mostSteps (length steps) (b .0); chain = b .1 }
-
-  pub parts-legal : LegalChain p steps outputs → Legal p steps outputs
-  unfolding legalRule
-  parts-legal l =
-      sym
-      (pass _ _ fine (sym (fit-sizes p (length outputs) (l .sizes)))
-      (pass _ _ fine (sym (fits-length mostSteps (length steps) (l .few))) (sym (l .chain))))
 
 -- each operand is at most the number of the last value
 flat-low : (p s top : ℕ) (steps : List Step) → stepsRule p s steps ≡ fine → p + s + length steps ≤ suc top → (k : ℕ) → getD (flat steps) k 0 ≤ top

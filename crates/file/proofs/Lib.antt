@@ -1,6 +1,5 @@
 pub mod Lengths
 pub mod Legal
-pub mod Answers
 pub mod Writing
 pub mod WriteAnswers
 pub mod Readable

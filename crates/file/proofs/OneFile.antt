@@ -16,7 +16,7 @@ use Rattle.bits.proofs.Pack.{Bytes}
 use Rattle.bits.proofs.Filed.{filled}
 use Rattle.file.specs.File.{edition, headerBits, headerSize, width, fileBits, fileOf, bitCount, byteCount, columnsOf, payslipsOf, lengthOf, widthOf, stepsOf, outputsOf, readRule}
 use Rattle.file.proofs.Lengths.{count-parts}
-use Rattle.file.proofs.Legal.{LegalChain, parts-legal}
+use Rattle.chain.proofs.Legal.{LegalChain, parts-legal}
 use Rattle.file.proofs.Readable.{Readable, readable, columns-low, payslips-low}
 
 module _ (bytes : List ℕ) where

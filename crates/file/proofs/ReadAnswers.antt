@@ -4,6 +4,7 @@ use mathlib.Core.List.{List, [], _∷_}
 use Prim.Native.Nat.{ℕ, _+_, _-_, _*_, _/_, _≤_}
 use native.Mathlib.Omega.{arith}
 use lib.ListN.{length}
+use Rattle.chain.proofs.Rules.{stop, pass, told-fine, told-refused, answer-refused, answer-done, kept, renewed}
 use Rattle.chain.specs.Tests.{_<?_, _≠?_, _or_}
 use Rattle.chain.specs.Verdict.{Verdict, refused, _then_, refuseIf, done, refusal}
 use Rattle.chain.specs.Judgement.{verdictOf}
@@ -11,7 +12,6 @@ use Rattle.chain.specs.Written.{over}
 use Rattle.chain.specs.Chain.{mostColumns, mostPayslips, mostSteps, pairs, flat, lengthRule, stepsRule, outputsRule, chainRule}
 use Rattle.chain.specs.declared.Judgement.{Judgement}
 use Rattle.chain.specs.declared.Judgement.the-variants.{Fine, Refused}
-use Rattle.chain.proofs.Rules.{stop, pass, told-fine, told-refused}
 use Rattle.chain.proofs.Pairs.{length-pairs}
 use Rattle.digits.specs.Digits.{bitLength}
 use Rattle.bits.specs.Bits.{fieldAt, fieldsAt}
@@ -19,7 +19,6 @@ use Rattle.bits.specs.Cursor.{Room}
 use Rattle.bits.proofs.Fields.{length-fieldsAt}
 use Rattle.file.specs.File.{edition, headerSize, width, bitCount, longestFile, columnsOf, payslipsOf, lengthOf, stepsOf, outputsOf, readRule, readAnswer, readSteps, readOutputs}
 use Rattle.file.proofs.Lengths.{width-low, count-parts, count-low}
-use Rattle.file.proofs.Answers.{answer-refused, answer-done, kept, filled}
 use Rattle.file.proofs.Readable.{columns-low, payslips-low}
 use Rattle.file.proofs.Taking.{HeaderOf}
 
@@ -94,7 +93,7 @@ module _ (j : Judgement) (bytes steps outputs : List ℕ) (told : verdictOf j �
   unfolding readAnswer readSteps readOutputs
   read-refused n s e =
       let v = told-refused j _ n s told e in
-      (answer-refused _ n s v _, (kept _ n s v _ steps, kept _ n s v _ outputs))
+      (answer-refused _ _ n s v, (kept _ _ steps n s v, kept _ _ outputs n s v))
 
   pub read-done : (p q n : ℕ) (steps′ outputs′ : List ℕ) → j ≡ Fine → (p ≡ columnsOf bytes) × (q ≡ payslipsOf bytes) × (n ≡ lengthOf bytes)
       → steps′ ≡ over (flat (stepsOf bytes)) steps → outputs′ ≡ over (outputsOf bytes) outputs
@@ -103,4 +102,4 @@ module _ (j : Judgement) (bytes steps outputs : List ℕ) (told : verdictOf j �
   unfolding readAnswer readSteps readOutputs
   read-done p q n steps′ outputs′ e (hp, hq, hn) es eo =
       let v = told-fine j _ told e in
-      (rw (hp, hq, hn) (answer-done _ v _), (es ∙ filled _ v _ steps, eo ∙ filled _ v _ outputs))
+      (rw (hp, hq, hn) (answer-done _ _ v), (renewed _ _ steps _ v es, renewed _ _ outputs _ v eo))

@@ -18,7 +18,8 @@ use Rattle.bits.proofs.Fields.{length-fields}
 use Rattle.bits.proofs.Filed.{field-back, fields-back, filling-zero}
 use Rattle.file.specs.File.{edition, headerBits, headerSize, width, fileBits, fileOf, bitCount, byteCount, longestFile, editionOf, columnsOf, payslipsOf, lengthOf, widthOf, stepsOf, outputsOf, fillingOf, readRule}
 use Rattle.file.proofs.Lengths.{length-header, length-fileBits, length-file, longest}
-use Rattle.file.proofs.Legal.{LegalChain, legal-parts, operands-small, outputs-small}
+use Rattle.chain.proofs.Legal.{LegalChain, legal-parts}
+use Rattle.file.proofs.Legal.{operands-small, outputs-small}
 use Rattle.file.proofs.Readable.{read-fine}
 
 module _ (p : ℕ) (steps : List Step) (outputs : List ℕ) where

@@ -3,6 +3,7 @@ use mathlib.Core.Path.{_≡_, sym, ap, _∙_}
 use mathlib.Core.List.{List, [], _∷_}
 use Prim.Native.Nat.{ℕ, _/_, _≤_, _<_}
 use lib.ListN.{length}
+use Rattle.chain.proofs.Rules.{told-fine, told-refused, pass, lt-yes, lt-no, refuse-yes, refuse-no, answer-refused, answer-done, kept, renewed}
 use Rattle.chain.specs.Tests.{_<?_}
 use Rattle.chain.specs.Verdict.{fine, refused, refuseIf, done, refusal}
 use Rattle.chain.specs.Judgement.{verdictOf}
@@ -10,10 +11,8 @@ use Rattle.chain.specs.Written.{over}
 use Rattle.chain.specs.Chain.{pairs, legalRule}
 use Rattle.chain.specs.declared.Judgement.{Judgement}
 use Rattle.chain.specs.declared.Judgement.the-variants.{Fine, Refused}
-use Rattle.chain.proofs.Rules.{told-fine, told-refused, pass, lt-yes, lt-no, refuse-yes, refuse-no}
 use Rattle.chain.proofs.Pairs.{length-pairs}
 use Rattle.file.specs.File.{byteCount, fileOf, writeRule, writeAnswer, writeBytes}
-use Rattle.file.proofs.Answers.{answer-refused, answer-done, kept, filled}
 
 -- the chain is legal and its file has count bytes
 module _ (j : Judgement) (p : ℕ) (l o : List ℕ) (lent count : ℕ) (told : verdictOf j ≡ legalRule p (pairs l) o) (is-fine : j ≡ Fine)
@@ -34,13 +33,13 @@ module _ (j : Judgement) (p : ℕ) (l o old : List ℕ) (told : verdictOf j ≡ 
   unfolding writeAnswer writeBytes
   write-refused n s e =
       let v = told-refused j _ n s told e in
-      (answer-refused _ n s v _, kept _ n s v _ old)
+      (answer-refused _ _ n s v, kept _ _ old n s v)
 
   pub write-done : (count : ℕ) (new : List ℕ) → j ≡ Fine → count ≡ byteCount p (length o) (length l / 2) → new ≡ over (fileOf p (pairs l) o) old
       → (done (count ∷ []) ≡ writeAnswer p (pairs l) o (length old)) × (new ≡ writeBytes p (pairs l) o old)
   unfolding writeAnswer writeBytes
   write-done count new e is en =
       let v = told-fine j _ told e in (
-        ap (λ (k : ℕ). done (k ∷ [])) (is ∙ ap (byteCount p (length o)) (sym (length-pairs l))) ∙ answer-done _ v _,
-        en ∙ filled _ v _ old,
+        ap (λ (k : ℕ). done (k ∷ [])) (is ∙ ap (byteCount p (length o)) (sym (length-pairs l))) ∙ answer-done _ _ v,
+        renewed _ _ old _ v en,
       )

@@ -19,7 +19,8 @@ use Rattle.bits.proofs.Filed.{put-next, filed-more}
 use Rattle.fields.specs.Fields.{Clean, FillAll}
 use Rattle.file.specs.File.{edition, headerBits, headerSize, width, fileBits, fileOf, bitCount, byteCount, writeRule}
 use Rattle.file.proofs.Lengths.{width-low, width-some, count-parts, count-low, length-header, length-fileBits}
-use Rattle.file.proofs.Legal.{LegalChain, legal-parts, operands-small, outputs-small}
+use Rattle.chain.proofs.Legal.{LegalChain, legal-parts}
+use Rattle.file.proofs.Legal.{operands-small, outputs-small}
 
 -- the four fields of the header
 pub header-stored : (old m₁ m₂ m₃ m₄ : List ℕ) (a₁ a₂ a₃ a₄ p q n : ℕ)

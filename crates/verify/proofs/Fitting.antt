@@ -4,10 +4,9 @@ use mathlib.Core.List.{List}
 use Prim.Native.Nat.{ℕ, _+_, _*_, _≤_}
 use lib.ListN.{length}
 use Rattle.chain.specs.Verdict.{fine}
-use Rattle.chain.specs.Chain.{mostSteps, stepsRule, outputsRule, chainRule, Legal, legalRule}
+use Rattle.chain.specs.Chain.{Legal, legalRule}
 use Rattle.chain.specs.declared.Step.{Step}
 use Rattle.chain.proofs.Rules.{then-fine, refuseIf-fine, not-lt, refuse-no, lt-no, pass}
-use Rattle.chain.proofs.Sizes.{Sizes, sizes-fit, length-fits}
 use Rattle.sheet.proofs.Amounts.{amounts-fit, fit-amounts}
 use Rattle.verify.specs.Verify.{scratchSize, fittingRule}
 
@@ -41,18 +40,3 @@ fits p steps outputs amounts scratch f =
     (pass _ _ fine (sym (b .0))
     (pass _ _ fine (sym (fit-amounts p (length outputs) amounts (f .amounts-fit)))
     (pass _ _ fine (sym (b .1)) (refuse-no _ 5 0 (lt-no _ _ (f .room)))))))
-
--- the parts of a legal chain
-pub record LegalChain (p : ℕ) (steps : List Step) (outputs : List ℕ) : Type 0 where
-  pub sizes : Sizes p (length outputs)
-  pub length-low : length steps ≤ mostSteps
-  pub steps-fine : stepsRule p 1 steps ≡ fine
-  pub outputs-fine : outputsRule (p + length steps) 1 outputs ≡ fine
-
-pub legal-chain : (p : ℕ) (steps : List Step) (outputs : List ℕ) → Legal p steps outputs → LegalChain p steps outputs
-unfolding legalRule chainRule
-legal-chain p steps outputs e =
-    let a = then-fine _ _ e in
-    let b = then-fine _ _ (a .1) in
-    let k = then-fine _ _ (b .1) in
-    record { sizes = sizes-fit _ _ (a .0); length-low = length-fits _ _ (b .0); steps-fine = k .0; outputs-fine = k .1 }

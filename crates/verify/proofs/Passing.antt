@@ -18,7 +18,8 @@ use Rattle.verify.proofs.Places.{earliest-none, none-earliest}
 use Rattle.verify.proofs.Over.{over-none, none-over}
 use Rattle.verify.proofs.Other.{other-none, none-other}
 use Rattle.verify.proofs.Columns.{largeIn, otherIn, at-none}
-use Rattle.verify.proofs.Fitting.{fitting, fits, legal-chain}
+use Rattle.chain.proofs.Legal.{legal-parts, chain-parts}
+use Rattle.verify.proofs.Fitting.{fitting, fits}
 
 pub record Passing (p : ℕ) (steps : List Step) (outputs amounts : List ℕ) : Type 0 where
   pub legal : Legal p steps outputs
@@ -86,12 +87,12 @@ module _ (p : ℕ) (steps : List Step) (outputs amounts : List ℕ) where
       let a = then-fine _ _ e in
       let b = then-fine _ _ (a .1) in
       let f = fitting p steps outputs amounts scratch (a .0) in
-      let k = legal-chain p steps outputs (f .legal) in
+      let parts = chain-parts p steps outputs (legal-parts p steps outputs (f .legal) .chain) in
       record {
         legal = f .legal;
         amounts-fit = f .amounts-fit;
         low = exponents-within p steps (b .0);
-        made = λ i h. record { there = outputs-low _ 1 outputs (k .outputs-fine) i h; exponent = λ c g. payslips-made (b .1) i h c g };
+        made = λ i h. record { there = outputs-low _ 1 outputs (parts .1) i h; exponent = λ c g. payslips-made (b .1) i h c g };
       }
 
   pub passes-verify : (scratch : ℕ) → Passing p steps outputs amounts → scratchSize p (length steps) ≤ scratch

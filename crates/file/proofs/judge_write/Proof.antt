@@ -3,7 +3,7 @@ use mathlib.Core.Path.{sym}
 use Rattle.chain.proofs.Rules.{judging, told-fine}
 use Rattle.chain.proofs.Pairs.{length-pairs}
 use Rattle.file.specs.File.{writeRule}
-use Rattle.file.proofs.Legal.{legal-parts}
+use Rattle.chain.proofs.Legal.{legal-parts}
 use Rattle.file.proofs.WriteAnswers.{too-short, enough}
 use borrow.Author.Needs.{needs}
 use Rattle.file.proofs.judge_write.Statement.{statement}

@@ -8,7 +8,8 @@ use Rattle.chain.specs.Chain.{pairs}
 use Rattle.chain.proofs.Rules.{told-fine, told-refused}
 use Rattle.chain.proofs.Pairs.{length-pairs}
 use Rattle.verify.specs.Verify.{fittingRule}
-use Rattle.verify.proofs.Fitting.{Fitting, fitting, legal-chain}
+use Rattle.chain.proofs.Legal.{legal-parts, chain-parts}
+use Rattle.verify.proofs.Fitting.{Fitting, fitting}
 use Rattle.verify.proofs.Answers.{early-answer, early-scratch, late-answer, late-scratch}
 use Rattle.verify.proofs.verify.Statement.{statement}
 use Rattle.verify.proofs.verify.Tie as tie
@@ -42,8 +43,9 @@ room c = let a = c .before .before .before .before .before .before .before .args
 hold-requires : tie.Need-hold-requires
 hold-requires c κs =
     let f = fits (c .before) in
-    let k = legal-chain _ _ _ (f .legal) in
-    (k .sizes .p-low, k .steps-fine, k .outputs-fine, f .amounts-fit, room (c .before))
+    let k = legal-parts _ _ _ (f .legal) in
+    let parts = chain-parts _ _ _ (k .chain) in
+    (k .sizes .p-low, parts .0, parts .1, f .amounts-fit, room (c .before))
 
 add-clear : tie.Need-add-clear
 add-clear c = omega (arith, room (c .before .before .before .before))

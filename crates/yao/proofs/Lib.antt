@@ -5,3 +5,4 @@ pub mod Cost
 pub mod Payslip
 pub mod Yao
 pub mod Emitting
+pub mod Columns

@@ -6,8 +6,8 @@ ghost use lib.ListN.{length, getD};
 ghost use Rattle.methods.specs.Product.{made};
 ghost use Rattle.methods.specs.Powers.{powerAt};
 ghost use Rattle.methods.specs.Emitted.{stepsIn, Room, Stored, Emitted};
-ghost use Rattle.yao.specs.Yao.{gatherOne, gather, running};
-ghost use Rattle.yao.specs.Emitted.{Reach, powerIn, Ran};
+ghost use Rattle.yao.specs.Yao.{yaoDigits, yaoSquarings, gatherOne, gather, running};
+ghost use Rattle.yao.specs.Emitted.{Reach, powerIn, Ran, digitsTo};
 use methods::PartialProduct;
 
 // The powers of a column: its place, the value after which they are made, and how many they are.
@@ -105,4 +105,35 @@ fn run_column(p: usize, k: usize, column: Column, x: u32, n: usize, steps: &mut 
         i += 1;
     }
     s
+}
+
+// How many digits the largest amount of column c has.
+fn column_digits(p: usize, q: usize, k: usize, amounts: &[u32], c: usize) -> usize
+    requires { ⌜ (c < p) × (length (now amounts) ≡ p * q) × (0 < k) × (k < 32) ⌝ }
+    ensures { λ r. ⌜ (r ≡ yaoDigits p q k (now (amounts .entry)) c) × (k * r ≤ 31 + k) ⌝ }
+{
+    digits::digit_count(k, methods::largest_in(p, q, amounts, c))
+}
+
+// How many digits each column has.
+fn all_digits(p: usize, q: usize, k: usize, amounts: &[u32], columns: &mut [u32])
+    requires { ⌜ (length (now columns) ≡ p) × (length (now amounts) ≡ p * q) × (0 < k) × (k < 32) ⌝ }
+    ensures { λ r. ⌜ now (columns .exit) ≡ digitsTo p q k (now (amounts .entry)) p ⌝ }
+{
+    let mut c: usize = 0;
+    while c < p {
+        columns[c] = column_digits(p, q, k, amounts, c) as u32;
+        c += 1;
+    }
+}
+
+// How often a column of so many digits is squared.
+fn squarings_of(k: usize, digits: u32) -> u32
+    requires { ⌜ (digits ≤ 32) × (k < 32) ⌝ }
+    ensures { λ r. ⌜ r ≡ (digits - 1) * k ⌝ }
+{
+    if digits == 0 {
+        return 0;
+    }
+    (digits - 1) * (k as u32)
 }

@@ -1,10 +1,12 @@
--- What the emitters of Yao's method are asked and leave.
+-- What the functions of Yao's method are asked and leave.
 use mathlib.Core.Path.{_≡_}
-use mathlib.Core.List.{List, [], _∷_, _++_}
-use Prim.Native.Nat.{ℕ, zero, suc, _+_, _*_, _^_, _≤_, _<_}
+use mathlib.Core.List.{List}
+use Prim.Native.Nat.{ℕ, _+_, _*_, _^_, _≤_, _<_}
+use Rattle.digits.specs.Range.{sumTo}
+use Rattle.sheet.specs.Sheet.{amount}
 use Rattle.methods.specs.Powers.{powerAt}
 use Rattle.methods.specs.Emitted.{Stored}
-use Rattle.yao.specs.Yao.{yaoDigits, Running}
+use Rattle.yao.specs.Yao.{yaoDigits, Running, amountCount, joinCount}
 
 -- a column's powers: column c, the values after first, J of them, in base 2^k; their numbers fit 32 bits, and so does a number of J digits but for its top digit
 pub record Reach (k c first J : ℕ) : Type 0 where
@@ -24,7 +26,6 @@ pub record Ran (before cells : List ℕ) (n a b : ℕ) (r : Running) : Type 0 wh
   pub a-is : a ≡ r .a
   pub b-is : b ≡ r .b
 
--- the digits of the first columns, one number each
-abbrev pub digitsTo : ℕ → ℕ → ℕ → List ℕ → ℕ → List ℕ
-digitsTo p q k amounts zero = []
-digitsTo p q k amounts (suc c) = digitsTo p q k amounts c ++ yaoDigits p q k amounts c ∷ []
+-- the steps of payslip i
+abbrev pub payslipCount : ℕ → ℕ → ℕ → List ℕ → ℕ → ℕ
+payslipCount p q k amounts i = sumTo p (λ c. amountCount k (yaoDigits p q k amounts c) (amount p amounts i c)) + joinCount p amounts i

@@ -1,13 +1,14 @@
 // Method 2: Yao.
 ghost use mathlib.Core.Path.{_≡_};
-ghost use mathlib.Core.List.{[]};
-ghost use Prim.Native.Nat.{ℕ, _+_, _-_, _*_, _^_, _≤_, _<_};
-ghost use lib.ListN.{length, getD};
+ghost use Prim.Native.Nat.{_+_, _-_, _*_, _^_, _≤_, _<_};
+ghost use lib.ListN.{length};
+ghost use Rattle.chain.specs.Chain.{mostColumns, mostPayslips};
+ghost use Rattle.digits.specs.Range.{sumTo};
 ghost use Rattle.methods.specs.Product.{made};
 ghost use Rattle.methods.specs.Powers.{powerAt};
-ghost use Rattle.methods.specs.Emitted.{stepsIn, Room, Stored, Emitted};
-ghost use Rattle.yao.specs.Yao.{yaoDigits, yaoSquarings, gatherOne, gather, running};
-ghost use Rattle.yao.specs.Emitted.{Reach, powerIn, Ran, digitsTo};
+ghost use Rattle.methods.specs.Emitted.{stepsIn, Room, Emitted};
+ghost use Rattle.yao.specs.Yao.{yaoDigits, yaoSquarings, gatherOne, gather, running, amountCount, yaoCount};
+ghost use Rattle.yao.specs.Emitted.{Reach, powerIn, Ran, payslipCount};
 use methods::PartialProduct;
 
 // The powers of a column: its place, the value after which they are made, and how many they are.
@@ -115,25 +116,84 @@ fn column_digits(p: usize, q: usize, k: usize, amounts: &[u32], c: usize) -> usi
     digits::digit_count(k, methods::largest_in(p, q, amounts, c))
 }
 
-// How many digits each column has.
-fn all_digits(p: usize, q: usize, k: usize, amounts: &[u32], columns: &mut [u32])
-    requires { ⌜ (length (now columns) ≡ p) × (length (now amounts) ≡ p * q) × (0 < k) × (k < 32) ⌝ }
-    ensures { λ r. ⌜ now (columns .exit) ≡ digitsTo p q k (now (amounts .entry)) p ⌝ }
-{
-    let mut c: usize = 0;
-    while c < p {
-        columns[c] = column_digits(p, q, k, amounts, c) as u32;
-        c += 1;
-    }
-}
-
 // How often a column of so many digits is squared.
-fn squarings_of(k: usize, digits: u32) -> u32
-    requires { ⌜ (digits ≤ 32) × (k < 32) ⌝ }
-    ensures { λ r. ⌜ r ≡ (digits - 1) * k ⌝ }
+fn squarings_of(k: usize, digits: usize) -> usize
+    requires { ⌜ k * digits ≤ 31 + k ⌝ }
+    ensures { λ r. ⌜ (r ≡ (digits - 1) * k) × (r ≤ 31) ⌝ }
 {
     if digits == 0 {
         return 0;
     }
-    (digits - 1) * (k as u32)
+    (digits - 1) * k
+}
+
+// How often the columns are squared.
+fn squaring_count(p: usize, q: usize, k: usize, amounts: &[u32]) -> usize
+    requires { ⌜ (p ≤ mostColumns) × (length (now amounts) ≡ p * q) × (0 < k) × (k < 32) ⌝ }
+    ensures { λ r. ⌜ (r ≡ sumTo p (yaoSquarings p q k (now (amounts .entry)))) × (r ≤ 496) ⌝ }
+{
+    let mut n: usize = 0;
+    let mut c: usize = 0;
+    while c < p {
+        let digits = column_digits(p, q, k, amounts, c);
+        n += squarings_of(k, digits);
+        c += 1;
+    }
+    n
+}
+
+// The steps of an amount x in a column of so many digits.
+fn amount_count(k: usize, digits: usize, x: u32) -> usize
+    requires { ⌜ (0 < k) × (k ≤ 8) × (k * digits ≤ 31 + k) ⌝ }
+    ensures { λ r. ⌜ (r ≡ amountCount k digits x) × (r ≤ 300) ⌝ }
+{
+    let mut z: usize = 0;
+    let mut h: u32 = 0;
+    let mut j: usize = 0;
+    while j < digits {
+        let d = digits::digit(k, x, j);
+        z += digits::sign(d);
+        h = digits::larger(h, d);
+        j += 1;
+    }
+    let t = z + h as usize;
+    if t < 2 {
+        return 0;
+    }
+    t - 2
+}
+
+// The steps of payslip i.
+fn payslip_count(p: usize, q: usize, k: usize, amounts: &[u32], i: usize) -> usize
+    requires { ⌜ (p ≤ mostColumns) × (i < q) × (length (now amounts) ≡ p * q) × (0 < k) × (k ≤ 8) ⌝ }
+    ensures { λ r. ⌜ (r ≡ payslipCount p q k (now (amounts .entry)) i) × (r ≤ 5000) ⌝ }
+{
+    let mut n: usize = 0;
+    let mut z: usize = 0;
+    let mut c: usize = 0;
+    while c < p {
+        let digits = column_digits(p, q, k, amounts, c);
+        let x = sheet::amount(p, amounts, i, c);
+        n += amount_count(k, digits, x);
+        z += digits::sign(x);
+        c += 1;
+    }
+    if z == 0 {
+        return n;
+    }
+    n + z - 1
+}
+
+// The number of steps of the chain.
+pub fn count(p: usize, q: usize, amounts: &[u32], k: usize) -> usize
+    requires { ⌜ (1 ≤ p) × (p ≤ mostColumns) × (q ≤ mostPayslips) × (length (now amounts) ≡ p * q) × (1 ≤ k) × (k ≤ 8) ⌝ }
+    ensures { λ r. ⌜ r ≡ yaoCount p q (now (amounts .entry)) k ⌝ }
+{
+    let mut n = squaring_count(p, q, k, amounts);
+    let mut i: usize = 0;
+    while i < q {
+        n += payslip_count(p, q, k, amounts, i);
+        i += 1;
+    }
+    n
 }

@@ -1,10 +1,7 @@
 use borrow.Author.Needs.{needs}
+use Rattle.yao.proofs.Columns.{digits-are, digits-few}
 use Rattle.yao.proofs.column_digits.Statement.{statement}
 use Rattle.yao.proofs.column_digits.Tie as tie
-use Rattle.yao.proofs.column_digits.Reads as reads
-use Rattle.yao.proofs.column_digits.Lts as lts
-use Rattle.digits.proofs.digit_count.Reads as digit-count-reads
-use Rattle.methods.proofs.largest_in.Reads as largest-in-reads
 
 largest-in-requires : tie.Need-largest-in-requires
 largest-in-requires c κs = search needs
@@ -13,7 +10,7 @@ digit-count-requires : tie.Need-digit-count-requires
 digit-count-requires c κs = search needs
 
 returns : tie.Need-returns
-returns c = search needs
+returns c = search (digits-are, digits-few)
 
 pub column-digits-spec : {M : Type 1} → statement M
 column-digits-spec = tie.close (tie.spec largest-in-requires digit-count-requires returns)

@@ -1,23 +1,20 @@
-use borrow.Author.Needs.{needs}
+use borrow.Author.Needs.{needs, fits-under}
+use native.Mathlib.Omega.{arith}
+use Rattle.yao.proofs.Columns.{squarings-none, squarings-few}
 use Rattle.yao.proofs.squarings_of.Statement.{statement}
 use Rattle.yao.proofs.squarings_of.Tie as tie
-use Rattle.yao.proofs.squarings_of.Reads as reads
-use Rattle.yao.proofs.squarings_of.Lts as lts
 
 returns : tie.Need-returns
-returns c = search needs
+returns c = (search squarings-none, search needs)
 
 sub-result : tie.Need-sub-result
 sub-result c = search needs
 
-cast-result : tie.Need-cast-result
-cast-result c = search needs
-
 mul-result : tie.Need-mul-result
-mul-result c = search needs
+mul-result c = fits-under _ _ 32 (omega (arith, squarings-few (c .before .args .k) (c .before .args .digits) (search needs))) tt
 
 returns-2 : tie.Need-returns-2
-returns-2 c = search needs
+returns-2 c = (search needs, search squarings-few)
 
 pub squarings-of-spec : {M : Type 1} → statement M
-squarings-of-spec = tie.close (tie.spec returns sub-result cast-result mul-result returns-2)
+squarings-of-spec = tie.close (tie.spec returns sub-result mul-result returns-2)

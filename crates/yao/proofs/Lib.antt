@@ -6,3 +6,6 @@ pub mod Payslip
 pub mod Yao
 pub mod Emitting
 pub mod Columns
+pub mod Squarings
+pub mod Paying
+pub mod Whole

@@ -1,7 +1,7 @@
 -- Laws by which the emitters of payslips keep to their contracts.
-use mathlib.Core.Path.{_≡_, refl, sym, ap, subst, _∙_}
+use mathlib.Core.Path.{_≡_, refl, ap, subst, _∙_}
 use mathlib.Core.List.{List}
-use Prim.Native.Nat.{ℕ, zero, suc, _+_, _-_, _*_, _^_, _≤_, _<_}
+use Prim.Native.Nat.{ℕ, suc, _+_, _-_, _*_, _^_, _≤_, _<_}
 use native.Mathlib.Numerals.{add-one}
 use native.Mathlib.Omega.{arith}
 use lib.ListN.{length, set}
@@ -17,6 +17,7 @@ use Rattle.methods.proofs.Emitted.{stored-own, stored-room, emits-room, emits-o
 use Rattle.methods.proofs.Paying.{pay-room, pay-steps, pay-output}
 use Rattle.yao.specs.Yao.{yaoDigits, yaoSquarings, yaoPower, Running, running, yaoPayslip}
 use Rattle.yao.specs.Emitted.{Reach, powerIn, Ran, joined, yaoSlip}
+use Rattle.yao.proofs.Counting.{squarings-on}
 use Rattle.yao.proofs.Emitting.{running-begin}
 
 join-begins : (p k : ℕ) (power : ℕ → ℕ) (J x : ℕ) (m : Made) → Begins (m .steps) (joined p k power J x m .steps)
@@ -96,9 +97,7 @@ module _ (p q k : ℕ) (amounts : List ℕ) (i : ℕ) where
 -- the value before the next column's powers
 pub first-on : (p q k : ℕ) (amounts : List ℕ) (first c d r : ℕ) → d ≡ yaoDigits p q k amounts c → r ≡ (d - 1) * k
     → first ≡ p + sumTo c (yaoSquarings p q k amounts) → first + r ≡ p + sumTo (c + 1) (yaoSquarings p q k amounts)
-first-on p q k amounts first c d r e f g =
-    let one : r ≡ yaoSquarings p q k amounts c = f ∙ ap (λ (y : ℕ). (y - 1) * k) e in
-    rw (add-one c) (omega arith)
+first-on p q k amounts first c d r e f g = omega (arith, squarings-on p q k amounts (sumTo c (yaoSquarings p q k amounts)) c d r e f refl)
 
 pub reaches : (p k c first J : ℕ) → 0 < k → k < 32 → k * J ≤ 31 + k → p ≤ 16 → c < p → first ≤ p + 31 * c → Reach k c first J
 reaches p k c first J some narrow digits columns less low =

@@ -1,7 +1,7 @@
 -- Laws by which the emitter of the whole chain keeps to its contract.
 use mathlib.Core.Path.{_≡_, ap, ap₂, _∙_}
 use mathlib.Core.List.{List}
-use Prim.Native.Nat.{ℕ, _+_, _*_, _^_, _≤_, _<_}
+use Prim.Native.Nat.{ℕ, _*_, _≤_}
 use native.Mathlib.Omega.{arith}
 use lib.ListN.{length}
 use Rattle.chain.specs.Chain.{flat}
@@ -30,9 +30,6 @@ module _ (p q : ℕ) (amounts : List ℕ) (k : ℕ) where
   powers-begin = paid-begins (yaoSlip p q k amounts) Powers (slip-begins p q k amounts) 0 q (omega arith)
 
   module _ (counts old : List ℕ) (is : counts ≡ squaringsTo p q k amounts p) where
-    abbrev Made-first : List Step
-    Made-first = squarings p (countsOf counts) (length counts)
-
     module _ (some : 1 ≤ k) (columns : p ≤ 16) (small : yaoCount p q amounts k ≤ 16000) (fits : 2 * yaoCount p q amounts k ≤ length old) where
       whole : Room p old 0 (yao p q amounts k .steps)
       whole =

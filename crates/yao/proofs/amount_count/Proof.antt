@@ -1,8 +1,7 @@
 use borrow.Author.Needs.{needs, fits-under}
 use mathlib.Core.Path.{_≡_}
 use Prim.Native.Nat.{_≤_, _-_}
-use native.Mathlib.Omega.{arith}
-use Rattle.yao.proofs.Columns.{signsTo, mostTo, amount-place, signs-on, most-on, next-fits, amount-fits, most-low, amount-none, amount-end, amount-few}
+use Rattle.yao.proofs.Counting.{signsTo, mostTo, digit-place, signs-on, most-on, next-fits, amount-fits, most-low, amount-none, amount-end, amount-few}
 use Rattle.yao.proofs.amount_count.Statement.{statement}
 use Rattle.yao.proofs.amount_count.Tie as tie
 
@@ -16,7 +15,7 @@ loop-holds : tie.Need-loop-holds Inv-loop μ-loop
 loop-holds c = search needs
 
 digit-requires : tie.Need-digit-requires Inv-loop μ-loop
-digit-requires c κs = search (needs, amount-place)
+digit-requires c κs = search (needs, digit-place)
 
 sign-requires : tie.Need-sign-requires Inv-loop μ-loop
 sign-requires c κs = search needs

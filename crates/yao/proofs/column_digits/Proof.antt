@@ -1,5 +1,5 @@
 use borrow.Author.Needs.{needs}
-use Rattle.yao.proofs.Columns.{digits-are, digits-few}
+use Rattle.yao.proofs.Counting.{digits-are, digits-few}
 use Rattle.yao.proofs.column_digits.Statement.{statement}
 use Rattle.yao.proofs.column_digits.Tie as tie
 

@@ -1,7 +1,7 @@
 use borrow.Author.Needs.{needs}
 use mathlib.Core.Path.{_≡_}
 use Prim.Native.Nat.{_+_, _*_, _≤_, _-_}
-use Rattle.yao.proofs.Columns.{costsTo, costs-on, count-all}
+use Rattle.yao.proofs.Counting.{costsTo, costs-on, count-all}
 use Rattle.yao.proofs.count.Statement.{statement}
 use Rattle.yao.proofs.count.Tie as tie
 

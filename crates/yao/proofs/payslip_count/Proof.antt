@@ -1,9 +1,8 @@
 use borrow.Author.Needs.{needs, fits-under}
 use mathlib.Core.Path.{_≡_}
 use Prim.Native.Nat.{_*_, _≤_, _-_}
-use native.Mathlib.Omega.{arith}
 use Rattle.sheet.proofs.Amounts.{amount-there}
-use Rattle.yao.proofs.Columns.{amountsTo, nonzeroTo, amounts-on, nonzero-on, nonzero-few, nonzero-fits, payslip-none, payslip-some}
+use Rattle.yao.proofs.Counting.{amountsTo, nonzeroTo, amounts-on, nonzero-on, nonzero-few, nonzero-fits, payslip-none, payslip-some}
 use Rattle.yao.proofs.payslip_count.Statement.{statement}
 use Rattle.yao.proofs.payslip_count.Tie as tie
 

@@ -3,7 +3,7 @@ use mathlib.Core.Path.{_≡_}
 use Prim.Native.Nat.{_*_, _≤_, _-_}
 use Rattle.digits.specs.Range.{sumTo}
 use Rattle.yao.specs.Yao.{yaoSquarings}
-use Rattle.yao.proofs.Columns.{squarings-on, squarings-end}
+use Rattle.yao.proofs.Counting.{squarings-on, squarings-end}
 use Rattle.yao.proofs.squaring_count.Statement.{statement}
 use Rattle.yao.proofs.squaring_count.Tie as tie
 

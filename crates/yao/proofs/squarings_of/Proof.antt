@@ -1,6 +1,6 @@
 use borrow.Author.Needs.{needs, fits-under}
 use native.Mathlib.Omega.{arith}
-use Rattle.yao.proofs.Columns.{squarings-none, squarings-few}
+use Rattle.yao.proofs.Counting.{squarings-none, squarings-few}
 use Rattle.yao.proofs.squarings_of.Statement.{statement}
 use Rattle.yao.proofs.squarings_of.Tie as tie
 

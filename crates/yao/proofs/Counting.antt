@@ -2,7 +2,7 @@
 use mathlib.Core.Path.{_≡_, refl, sym, ap, ap₂, _∙_}
 use mathlib.Core.List.{List}
 use Prim.Native.Nat.{ℕ, zero, suc, _+_, _-_, _*_, _^_, _≤_, _<_, max}
-use native.Mathlib.Nat.{mul-suc, mul-comm, zero-mul, mul-le-mul-left, mul-le-mul-right, mul-one, one-mul}
+use native.Mathlib.Nat.{mul-suc, mul-comm, zero-mul, mul-le-mul-left, mul-le-mul-right, one-mul}
 use native.Mathlib.Decide.{decLt}
 use native.Mathlib.Numerals.{sub-one}
 use native.Mathlib.Omega.{arith}
@@ -14,7 +14,7 @@ use Rattle.digits.proofs.Range.{sum-on, max-on, sign-low, signs-low, max-low}
 use Rattle.digits.proofs.Vector.{digit-low}
 use Rattle.sheet.specs.Sheet.{amount}
 use Rattle.methods.specs.Powers.{largestIn}
-use Rattle.yao.specs.Yao.{yaoDigits, yaoSquarings, amountCount, joinCount, yaoCount}
+use Rattle.yao.specs.Yao.{yaoDigits, yaoSquarings, amountCount, yaoCount}
 use Rattle.yao.specs.Emitted.{payslipCount}
 
 -- the digits of a column
@@ -33,6 +33,10 @@ digits-few k x (suc r) some low e = by-place (decLt (k * r) 32)
         let high = count-high k some x r (omega arith) in
         let wide : 2 ^ 32 ≤ 2 ^ (k * r) = pow-mono {i = 32} (omega arith) in
         absurd (omega arith)
+
+-- each digit begins within them
+pub digit-place : (k j digits : ℕ) → 0 < k → j < digits → k * digits ≤ 31 + k → k * j < 32
+digit-place k j digits some h room = omega (arith, mul-le-mul-left k h, mul-suc k j)
 
 -- its squarings
 pub squarings-none : (digits k : ℕ) → digits ≡ 0 → 0 ≡ (digits - 1) * k
@@ -60,9 +64,6 @@ abbrev pub mostTo : ℕ → ℕ → ℕ → ℕ
 mostTo k x j = maxTo j (λ i. digit k x i)
 
 module _ (k x : ℕ) where
-  pub amount-place : (j digits : ℕ) → 0 < k → j < digits → k * digits ≤ 31 + k → k * j < 32
-  amount-place j digits some h room = omega (arith, mul-le-mul-left k h, mul-suc k j)
-
   pub signs-on : (z j d r : ℕ) → d ≡ digit k x j → r ≡ sign d → z ≡ signsTo k x j → z + r ≡ signsTo k x (j + 1)
   signs-on z j d r e f = sum-on (λ i. sign (digit k x i)) j z r (f ∙ ap sign e)
 

@@ -216,7 +216,7 @@ pub fn read(bytes: &[u8], steps: &mut [u32], outputs: &mut [u32]) -> Answer {
     if bytes.len() < 4 {
         return Err((6, 0));
     }
-    if field(0, 4) != 1 {
+    if bytes[0] >> 4 != 1 {
         return Err((7, 0));
     }
     let (p, q, n) = (field(4, 4) + 1, field(8, 6) + 1, field(14, 14));

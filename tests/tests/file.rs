@@ -92,7 +92,7 @@ fn refused_writes() {
             _ => c.steps.push(r.word() as u32),
         }
         let lent: Vec<u8> = (0..room).map(|_| r.word() as u8).collect();
-        same_write(&c, &lent);
+        let _ = same_write(&c, &lent);
     }
     let long = Chain {
         p: 1,
@@ -117,20 +117,20 @@ fn damaged_files() {
         // room for what a changed header may say, and too little
         for (pairs, outputs) in [(16_000, 64), (n, q), (n.saturating_sub(1), q), (n, q - 1)] {
             let (steps, outputs) = (r.words(2 * pairs), r.words(outputs));
-            same_read(&file, &steps, &outputs);
+            let _ = same_read(&file, &steps, &outputs);
             if pairs == 16_000 && round % 10 != 0 {
                 continue;
             }
             for bit in 0..8 * file.len() {
                 let mut changed = file.clone();
                 changed[bit / 8] ^= 0x80 >> (bit % 8);
-                same_read(&changed, &steps, &outputs);
+                let _ = same_read(&changed, &steps, &outputs);
             }
             for end in 0..file.len() {
-                same_read(&file[..end], &steps, &outputs);
+                let _ = same_read(&file[..end], &steps, &outputs);
             }
             for more in [vec![0], vec![0xff], vec![0; 100]] {
-                same_read(&[&file[..], &more[..]].concat(), &steps, &outputs);
+                let _ = same_read(&[&file[..], &more[..]].concat(), &steps, &outputs);
             }
         }
     }

@@ -15,7 +15,7 @@ use Rattle.methods.proofs.Sound.{Begins, begins-rise}
 use Rattle.methods.proofs.Emitted.{stored-own, stored-is, stored-on, stored-room}
 
 -- one number more over a slice's front
-over-next : (l old : List ℕ) (x n : ℕ) → length l ≡ n → n < length old → set (over l old) n x ≡ over (l ++ x ∷ []) old
+pub over-next : (l old : List ℕ) (x n : ℕ) → length l ≡ n → n < length old → set (over l old) n x ≡ over (l ++ x ∷ []) old
 unfolding over
 over-next l old x n long h =
     let len : length (l ++ x ∷ []) ≡ suc n = length-append l (x ∷ []) ∙ omega arith in

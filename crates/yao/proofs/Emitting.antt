@@ -1,24 +1,24 @@
 -- Laws by which the emitters of a column's products keep to their contracts.
 use mathlib.Core.Path.{_≡_, refl, sym, ap, subst, _∙_}
 use mathlib.Core.List.{List}
-use Prim.Native.Nat.{ℕ, zero, suc, _+_, _-_, _*_, _^_, _≤_, _<_}
+use Prim.Native.Nat.{ℕ, suc, _+_, _-_, _*_, _^_, _≤_, _<_}
 use native.Mathlib.Nat.{mul-le-mul-left, mul-suc}
 use native.Mathlib.Decide.{ℕ-discrete}
 use native.Mathlib.Numerals.{add-one}
 use native.Mathlib.Omega.{arith}
-use lib.ListN.{length}
 use Rattle.chain.specs.declared.Step.{Step}
 use Rattle.chain.proofs.Rules.{eq-yes, eq-no}
 use Rattle.digits.specs.Digits.{digit}
 use Rattle.methods.specs.Product.{Made, made, times}
 use Rattle.methods.specs.Powers.{powerAt}
-use Rattle.methods.specs.Emitted.{stepsIn, Room, Stored, Emitted}
+use Rattle.methods.specs.Emitted.{stepsIn, Room, Emitted}
 use Rattle.methods.proofs.Sound.{Begins, begins-own, begins-on, begins-rise}
 use Rattle.methods.proofs.Product.{times-begins}
 use Rattle.methods.proofs.Emitted.{emitted-own, stored-own, emits-room, emits-on}
 use Rattle.yao.specs.Yao.{gatherOne, gather, Running, running}
 use Rattle.yao.specs.Emitted.{Reach, powerIn, Ran}
 use Rattle.yao.proofs.Gather.{one-yes, one-no}
+use Rattle.yao.proofs.Counting.{digit-place}
 
 -- the number of a power
 module _ (c first j : ℕ) where
@@ -57,14 +57,14 @@ module _ (k c first J i : ℕ) (r : Reach k c first J) (less : i < J) where
   reach : k * i + k ≤ k * J
   reach = omega (arith, mul-le-mul-left k less, mul-suc k i)
 
-  pub digit-place : k * i < 32
-  digit-place = omega (arith, reach, r .digits, r .some)
+  pub digit-reach : k * i < 32
+  digit-reach = digit-place k i J (r .some) less (r .digits)
 
   pub power-place : first + k * i < 2 ^ 32
   power-place = omega (arith, reach, r .numbers)
 
   pub power-product : k * i < 2 ^ 64
-  power-product = omega (arith, digit-place)
+  power-product = omega (arith, digit-reach)
 
 -- the powers one after the other, i of J taken up
 module _ (p k c first x d : ℕ) (old : List ℕ) (m : Made) (cells : List ℕ) (n v i : ℕ) (e : Emitted old cells n v (gather p k (powerIn k c first) x d i m))

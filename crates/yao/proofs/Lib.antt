@@ -4,4 +4,8 @@ pub mod Running
 pub mod Cost
 pub mod Payslip
 pub mod Yao
+pub mod Counting
 pub mod Emitting
+pub mod Squarings
+pub mod Paying
+pub mod Whole

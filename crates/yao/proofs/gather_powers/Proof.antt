@@ -6,7 +6,7 @@ use Rattle.methods.specs.Product.{made}
 use Rattle.methods.specs.Emitted.{stepsIn, Emitted}
 use Rattle.yao.specs.Yao.{gather}
 use Rattle.yao.specs.Emitted.{powerIn}
-use Rattle.yao.proofs.Emitting.{power-product, power-place, digit-place, powers-on, gathering}
+use Rattle.yao.proofs.Emitting.{power-product, power-place, digit-reach, powers-on, gathering}
 use Rattle.yao.proofs.gather_powers.Statement.{statement}
 use Rattle.yao.proofs.gather_powers.Tie as tie
 
@@ -26,7 +26,7 @@ power-at-requires : tie.Need-power-at-requires Inv-loop μ-loop
 power-at-requires c κs = search (needs, power-place)
 
 digit-requires : tie.Need-digit-requires Inv-loop μ-loop
-digit-requires c κs = search (needs, digit-place)
+digit-requires c κs = search (needs, digit-reach)
 
 gather-one-requires : tie.Need-gather-one-requires Inv-loop μ-loop
 gather-one-requires c κs = search gathering

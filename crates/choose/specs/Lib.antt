@@ -1,1 +1,2 @@
 pub mod Choose
+pub mod Answers

@@ -1,1 +1,165 @@
 // The choice between two files.
+ghost use mathlib.Core.Path.{_≡_};
+ghost use Prim.Native.Nat.{_/_, _≤_};
+ghost use lib.ListN.{length};
+ghost use Rattle.chain.specs.Verdict.{fine};
+ghost use Rattle.chain.specs.Judgement as judgement;
+ghost use Rattle.chain.specs.Chain.{mostPayslips, mostSteps};
+ghost use Rattle.file.specs.File.{lengthOf};
+ghost use Rattle.choose.specs.Choose.{mostScratch, fileRule, better, chooseRule, choice, Handed};
+ghost use Rattle.choose.specs.Answers.{verdictOf, countOf, choiceOf};
+use chain::Judgement;
+use file::Reading;
+use verify::Verified;
+
+// A file's number of steps where it reads and passes, or a refusal.
+pub enum Judged {
+    Passed(usize),
+    Refused(u32, usize),
+}
+
+// The file chosen, or a refusal.
+pub enum Chosen {
+    First,
+    Second,
+    Neither(u32, usize),
+}
+
+// As many numbers as the check of any chain asks for.
+const MOST_SCRATCH: usize = 16017;
+
+// 1, 2, then 5: what is found before either file, for so many pairs, outputs and numbers lent.
+fn judge_lent(
+    p: usize,
+    q: usize,
+    amounts: &[u32],
+    pairs: usize,
+    outputs: usize,
+    numbers: usize,
+) -> Judgement
+    ensures { λ r. ⌜ judgement.verdictOf r ≡ chooseRule p q (now (amounts .entry)) pairs outputs numbers ⌝ }
+{
+    match sheet::judge_sheet(p, q, amounts) {
+        Judgement::Refused(number, place) => {
+            return Judgement::Refused(number, place);
+        }
+        Judgement::Fine => {}
+    }
+    if pairs < chain::MOST_STEPS {
+        return Judgement::Refused(5, 0);
+    }
+    if outputs < chain::MOST_PAYSLIPS {
+        return Judgement::Refused(5, 0);
+    }
+    if numbers < MOST_SCRATCH {
+        return Judgement::Refused(5, 0);
+    }
+    Judgement::Fine
+}
+
+// The file with fewer steps, the first on equality; else the first file's refusal.
+fn better(x: Judged, y: Judged) -> Chosen
+    ensures { λ r. ⌜ choiceOf r ≡ better (verdictOf x) (verdictOf y) (countOf x) (countOf y) ⌝ }
+{
+    match x {
+        Judged::Passed(m) => match y {
+            Judged::Passed(n) => if m <= n {
+                Chosen::First
+            } else {
+                Chosen::Second
+            },
+            Judged::Refused(_, _) => Chosen::First,
+        },
+        Judged::Refused(number, place) => match y {
+            Judged::Passed(_) => Chosen::Second,
+            Judged::Refused(_, _) => Chosen::Neither(number, place),
+        },
+    }
+}
+
+// Whether the file in the lent bytes reads and makes the sheet. The lent slices are large enough for any file.
+fn judge_file(
+    p: usize,
+    q: usize,
+    amounts: &[u32],
+    bytes: &[u8],
+    steps: &mut [u32],
+    outputs: &mut [u32],
+    numbers: &mut [u32],
+) -> Judged
+    requires { ⌜ (mostSteps ≤ length (now steps) / 2) × (mostPayslips ≤ length (now outputs)) × (mostScratch ≤ length (now numbers)) ⌝ }
+    ensures { λ r. ⌜ verdictOf r ≡ fileRule p q (now (amounts .entry)) (now (bytes .entry)) ⌝ }
+    ensures { λ r. ⌜ (fileRule p q (now (amounts .entry)) (now (bytes .entry)) ≡ fine → countOf r ≡ lengthOf (now (bytes .entry))) ⌝ }
+{
+    match file::read(bytes, steps, outputs) {
+        Reading::Refused(number, place) => Judged::Refused(number, place),
+        Reading::Chain {
+            p: columns,
+            q: payslips,
+            n,
+        } => {
+            if columns != p {
+                return Judged::Refused(14, 0);
+            }
+            if payslips != q {
+                return Judged::Refused(14, 0);
+            }
+            match verify::verify(p, &steps[..2 * n], &outputs[..q], amounts, numbers) {
+                Verified::Refused(number, place) => Judged::Refused(number, place),
+                Verified::Passed => Judged::Passed(n),
+            }
+        }
+    }
+}
+
+// Which file is chosen.
+fn decide(
+    p: usize,
+    q: usize,
+    amounts: &[u32],
+    a: &[u8],
+    b: &[u8],
+    steps: &mut [u32],
+    outputs: &mut [u32],
+    numbers: &mut [u32],
+) -> Chosen
+    ensures { λ r. ⌜ choiceOf r ≡ choice p q (now (amounts .entry)) (now (a .entry)) (now (b .entry)) (length (now (steps .entry)) / 2) (length (now (outputs .entry))) (length (now (numbers .entry))) ⌝ }
+{
+    match judge_lent(p, q, amounts, steps.len() / 2, outputs.len(), numbers.len()) {
+        Judgement::Refused(number, place) => Chosen::Neither(number, place),
+        Judgement::Fine => {
+            let x = judge_file(p, q, amounts, a, steps, outputs, numbers);
+            let y = judge_file(p, q, amounts, b, steps, outputs, numbers);
+            better(x, y)
+        }
+    }
+}
+
+// Hands back the file with fewer steps among those that read and make the sheet, as the lender's own bytes, number and place being 0;
+// else an empty part, and the refusal's number and place.
+pub fn choose<'a>(
+    p: usize,
+    q: usize,
+    amounts: &[u32],
+    a: &'a [u8],
+    b: &'a [u8],
+    steps: &mut [u32],
+    outputs: &mut [u32],
+    numbers: &mut [u32],
+    number: &mut u32,
+    place: &mut usize,
+) -> &'a [u8]
+    ensures { λ r. ⌜ Handed (choice p q (now (amounts .entry)) (now (a .entry)) (now (b .entry)) (length (now (steps .entry)) / 2) (length (now (outputs .entry))) (length (now (numbers .entry)))) (a .entry) (b .entry) r (now (number .exit)) (now (place .exit)) ⌝ }
+{
+    *number = 0;
+    *place = 0;
+    match decide(p, q, amounts, a, b, steps, outputs, numbers) {
+        Chosen::First => a,
+        Chosen::Second => b,
+        Chosen::Neither(k, s) => {
+            *number = k;
+            *place = s;
+            &a[..0]
+        }
+    }
+}

@@ -1,0 +1,4 @@
+pub mod Preferring
+pub mod Reading
+pub mod Files
+pub mod Choices

@@ -1,0 +1,53 @@
+use borrow.Author.Needs.{needs}
+use Rattle.choose.proofs.Preferring.{preferring}
+use Rattle.choose.proofs.better.Statement.{statement}
+use Rattle.choose.proofs.better.Tie as tie
+
+enum-known-x : tie.Need-enum-known-x
+enum-known-x c = search needs
+
+enum-known-y : tie.Need-enum-known-y
+enum-known-y c = search needs
+
+enum-told : tie.Need-enum-told
+enum-told c = search needs
+
+enum-known-x-2 : tie.Need-enum-known-x-2
+enum-known-x-2 c = search needs
+
+enum-told-2 : tie.Need-enum-told-2
+enum-told-2 c = search needs
+
+enum-told-3 : tie.Need-enum-told-3
+enum-told-3 c = search needs
+
+returns : tie.Need-returns
+returns c = search preferring
+
+returns-2 : tie.Need-returns-2
+returns-2 c = search preferring
+
+returns-3 : tie.Need-returns-3
+returns-3 c = search preferring
+
+returns-4 : tie.Need-returns-4
+returns-4 c = search preferring
+
+returns-5 : tie.Need-returns-5
+returns-5 c = search preferring
+
+pub better-spec : {M : Type 1} → statement M
+better-spec =
+    tie.close
+    (tie.spec
+    enum-known-x
+    enum-known-y
+    enum-told
+    enum-known-x-2
+    enum-told-2
+    enum-told-3
+    returns
+    returns-2
+    returns-3
+    returns-4
+    returns-5)

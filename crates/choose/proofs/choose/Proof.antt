@@ -1,0 +1,79 @@
+use borrow.Author.Needs.{needs}
+use mathlib.Core.Path.{refl, sym, ap, _∙_}
+use Rattle.choose.specs.Answers.{choiceOf}
+use Rattle.choose.proofs.Choices.{handed}
+use Rattle.choose.proofs.choose.Statement.{statement}
+use Rattle.choose.proofs.choose.Tie as tie
+
+decide-requires : tie.Need-decide-requires
+decide-requires c κs = search needs
+
+enum-told : tie.Need-enum-told
+enum-told c = search needs
+
+enum-told-2 : tie.Need-enum-told-2
+enum-told-2 c = search needs
+
+enum-known-k : tie.Need-enum-known-k
+enum-known-k c = search needs
+
+slice-aggregate-result : tie.Need-slice-aggregate-result
+slice-aggregate-result c = search needs
+
+same-length : tie.Need-same-length
+same-length c = search needs
+
+same-length-2 : tie.Need-same-length-2
+same-length-2 c = search needs
+
+same-length-3 : tie.Need-same-length-3
+same-length-3 c = search needs
+
+returns : tie.Need-returns
+returns c = handed _ _ _ _ _ (sym (c .before .before .before .before .before .before .before .before .decide .ensures) ∙ ap choiceOf (c .enum-told .given .1)) (refl, (refl, refl))
+
+same-length-4 : tie.Need-same-length-4
+same-length-4 c = search needs
+
+same-length-5 : tie.Need-same-length-5
+same-length-5 c = search needs
+
+same-length-6 : tie.Need-same-length-6
+same-length-6 c = search needs
+
+returns-2 : tie.Need-returns-2
+returns-2 c = handed _ _ _ _ _ (sym (c .before .before .before .before .before .before .before .before .decide .ensures) ∙ ap choiceOf (c .enum-told2 .given .1)) (refl, (refl, refl))
+
+same-length-7 : tie.Need-same-length-7
+same-length-7 c = search needs
+
+same-length-8 : tie.Need-same-length-8
+same-length-8 c = search needs
+
+same-length-9 : tie.Need-same-length-9
+same-length-9 c = search needs
+
+returns-3 : tie.Need-returns-3
+returns-3 c = let k = c .before .before in handed _ _ _ _ _ (sym (k .before .before .before .before .before .before .before .before .decide .ensures) ∙ ap choiceOf (k .k .given .1)) (refl, (refl, refl))
+
+pub choose-spec : {M : Type 1} → statement M
+choose-spec =
+    tie.close
+    (tie.spec
+    decide-requires
+    enum-told
+    enum-told-2
+    enum-known-k
+    slice-aggregate-result
+    same-length
+    same-length-2
+    same-length-3
+    returns
+    same-length-4
+    same-length-5
+    same-length-6
+    returns-2
+    same-length-7
+    same-length-8
+    same-length-9
+    returns-3)

@@ -1,0 +1,163 @@
+use borrow.Author.Needs.{needs}
+use mathlib.Core.Path.{sym}
+use native.Mathlib.Omega.{arith}
+use lib.Seq.{length-take-le}
+use denote.Ref.{now}
+use Rattle.choose.proofs.Files.{Taken, refusal-says, read-bad, read-good, other-columns, other-payslips, not-held, all-held}
+use Rattle.choose.proofs.judge_file.Statement.{statement}
+use Rattle.choose.proofs.judge_file.Tie as tie
+
+read-requires : tie.Need-read-requires
+read-requires c κs = search needs
+
+enum-known-number : tie.Need-enum-known-number
+enum-known-number c = search needs
+
+enum-known-columns : tie.Need-enum-known-columns
+enum-known-columns c = search needs
+
+-- what the file that was read tells
+taken : (c : tie.After-columns)
+    → let r = c .before .before .before .before .before .before in
+    Taken (now (r .before .before .before .before .before .before .before .before .args .bytes)) (r .read .last .1 .0) (r .read .last .1 .1 .0) (c .columns .given .0 .0) (c .columns .given .0 .1 .0) (c .columns .given .0 .1 .1 .0)
+taken c =
+    let r = c .before .before .before .before .before .before in
+    let s = r .before .before .before .before .before .before .before .before in
+    let a = s .args in
+    let e = r .read .ensures in
+    read-good (now (a .bytes)) (now (a .steps)) (now (a .outputs)) (s .pre .0) (s .pre .1) _ (e .0) _ _ _ (c .columns .given .1) _ _ (e .1 .0) (e .1 .1)
+
+same-length : tie.Need-same-length
+same-length c = search needs
+
+same-length-2 : tie.Need-same-length-2
+same-length-2 c = search needs
+
+returns : tie.Need-returns
+returns c =
+    let t = taken (c .before .before) in
+    refusal-says _ _ _ _ (other-columns _ _ _ _ _ _ _ _ _ t (c .if1 .taken))
+
+same-length-3 : tie.Need-same-length-3
+same-length-3 c = search needs
+
+same-length-4 : tie.Need-same-length-4
+same-length-4 c = search needs
+
+returns-2 : tie.Need-returns-2
+returns-2 c =
+    let t = taken (c .before .before .before) in
+    refusal-says _ _ _ _ (other-payslips _ _ _ _ _ _ _ _ _ t (c .if2 .taken))
+
+mul-verify : tie.Need-mul-verify
+mul-verify c = omega (arith, taken (c .before .before .before) .few)
+
+slice-reshare-prefix-verify : tie.Need-slice-reshare-prefix-verify
+slice-reshare-prefix-verify c = taken (c .before .before .before) .steps-room
+
+slice-aggregate-verify : tie.Need-slice-aggregate-verify
+slice-aggregate-verify c = sym (length-take-le _ _ (taken (c .before .before .before .before) .steps-room))
+
+slice-reshare-prefix-verify-2 : tie.Need-slice-reshare-prefix-verify-2
+slice-reshare-prefix-verify-2 c =
+    let e = c .before .if2 .left in
+    omega (arith, taken (c .before .before .before .before) .outputs-room)
+
+slice-aggregate-verify-2 : tie.Need-slice-aggregate-verify-2
+slice-aggregate-verify-2 c =
+    let e = c .before .before .if2 .left in
+    sym (length-take-le _ _ (omega (arith, taken (c .before .before .before .before .before) .outputs-room)))
+
+verify-requires : tie.Need-verify-requires
+verify-requires c κs = search needs
+
+enum-known-number-2 : tie.Need-enum-known-number-2
+enum-known-number-2 c = search needs
+
+enum-told : tie.Need-enum-told
+enum-told c = search needs
+
+same-length-5 : tie.Need-same-length-5
+same-length-5 c = search needs
+
+same-length-6 : tie.Need-same-length-6
+same-length-6 c = search needs
+
+returns-3 : tie.Need-returns-3
+returns-3 c =
+    let n = c .before in
+    let r = n .before .before .before .before .before .before in
+    let s = r .before .before .before .before .before .before .before .before in
+    let a = s .args in
+    refusal-says _ _ _ _
+    (read-bad (now (a .bytes)) (now (a .steps)) (now (a .outputs)) (s .pre .0) (s .pre .1) _ (r .read .ensures .0) _ _ _ _ _ (n .number .given .1))
+
+same-length-7 : tie.Need-same-length-7
+same-length-7 c = search needs
+
+same-length-8 : tie.Need-same-length-8
+same-length-8 c = search needs
+
+same-length-9 : tie.Need-same-length-9
+same-length-9 c = search needs
+
+returns-4 : tie.Need-returns-4
+returns-4 c =
+    let v = c .before .before .before .before .before in
+    let e = v .before .before .before .before in
+    let k = e .before .before .before in
+    let s = k .before .before .before .before .before .before .before .before .before .before .before .before .before .before in
+    refusal-says _ _ _ _
+    (not-held _ _ _ _ _ _ _ _ _ (taken k) (e .before .if1 .left) (e .if2 .left) _ (s .pre .2) _ (v .verify .ensures .0) _ _ (c .before .number2 .given .1))
+
+same-length-10 : tie.Need-same-length-10
+same-length-10 c = search needs
+
+same-length-11 : tie.Need-same-length-11
+same-length-11 c = search needs
+
+same-length-12 : tie.Need-same-length-12
+same-length-12 c = search needs
+
+returns-5 : tie.Need-returns-5
+returns-5 c =
+    let v = c .before .before .before .before in
+    let e = v .before .before .before .before in
+    let k = e .before .before .before in
+    let s = k .before .before .before .before .before .before .before .before .before .before .before .before .before .before in (
+      all-held _ _ _ _ _ _ _ _ _ (taken k) (e .before .if1 .left) (e .if2 .left) _ (s .pre .2) _ (v .verify .ensures .0) (c .enum-told .given .1),
+      λ f. taken k .long,
+    )
+
+pub judge-file-spec : {M : Type 1} → statement M
+judge-file-spec =
+    tie.close
+    (tie.spec
+    read-requires
+    enum-known-number
+    enum-known-columns
+    same-length
+    same-length-2
+    returns
+    same-length-3
+    same-length-4
+    returns-2
+    mul-verify
+    slice-reshare-prefix-verify
+    slice-aggregate-verify
+    slice-reshare-prefix-verify-2
+    slice-aggregate-verify-2
+    verify-requires
+    enum-known-number-2
+    enum-told
+    same-length-5
+    same-length-6
+    returns-3
+    same-length-7
+    same-length-8
+    same-length-9
+    returns-4
+    same-length-10
+    same-length-11
+    same-length-12
+    returns-5)

@@ -1,0 +1,23 @@
+-- What the code's enums say in document 01's terms.
+use Prim.Native.Nat.{ℕ}
+use Rattle.chain.specs.Verdict.{Verdict, fine, refused}
+use Rattle.choose.specs.Choose.{Choice, first, second, neither}
+use Rattle.choose.specs.declared.Judged.{Judged}
+use Rattle.choose.specs.declared.Judged.the-variants as judged
+use Rattle.choose.specs.declared.Chosen.{Chosen}
+use Rattle.choose.specs.declared.Chosen.the-variants as chosen
+
+-- the verdict on a file
+abbrev pub verdictOf : Judged → Verdict
+verdictOf (judged.Passed n) = fine
+verdictOf (judged.Refused number place) = refused number place
+
+-- the number of steps of a file that passed
+abbrev pub countOf : Judged → ℕ
+countOf (judged.Passed n) = n
+countOf (judged.Refused number place) = 0
+
+abbrev pub choiceOf : Chosen → Choice
+choiceOf chosen.First = first
+choiceOf chosen.Second = second
+choiceOf (chosen.Neither number place) = neither number place

@@ -1,5 +1,5 @@
 -- The verdict on a file, from what reading it and the check answer.
-use mathlib.Core.Path.{_≡_, sym, ap, ap₂, _∙_}
+use mathlib.Core.Path.{_≡_, refl, sym, ap, ap₂, _∙_}
 use mathlib.Core.List.{List, [], _∷_}
 use Prim.Native.Nat.{ℕ, _+_, _*_, _/_, _≤_}
 use native.Mathlib.Omega.{arith}
@@ -8,7 +8,7 @@ use Rattle.chain.specs.Verdict.{Verdict, fine, refused, done}
 use Rattle.chain.specs.Written.{over}
 use Rattle.chain.specs.Chain.{mostPayslips, mostSteps, pairs, flat}
 use Rattle.chain.specs.declared.Step.{Step}
-use Rattle.chain.proofs.Rules.{not-fine, stop, pass, refuse-yes, refuse-no, or-left, or-right, or-none, ne-yes, ne-no}
+use Rattle.chain.proofs.Rules.{renewed, not-fine, stop, pass, refuse-yes, refuse-no, or-left, or-right, or-none, ne-yes, ne-no}
 use Rattle.chain.proofs.Pairs.{pairs-flat, length-flat}
 use Rattle.chain.proofs.Written.{take-over, over-length}
 use Rattle.verify.specs.Verify.{verifyRule, verifyAnswer}
@@ -19,7 +19,6 @@ use Rattle.file.specs.File.{columnsOf, payslipsOf, lengthOf, stepsOf, outputsOf
 use Rattle.file.specs.Answers.{readOf}
 use Rattle.file.specs.declared.Reading.{Reading}
 use Rattle.file.specs.declared.Reading.the-variants as reading
-use Rattle.file.proofs.Answers.{filled}
 use Rattle.file.proofs.Readable.{readable, columns-low, payslips-low}
 use Rattle.file.proofs.OneFile.{length-stepsOf, length-outputsOf}
 use Rattle.choose.specs.Choose.{mostScratch, fileRule}
@@ -67,8 +66,8 @@ module _ (bytes steps outputs : List ℕ) (hs : mostSteps ≤ length steps / 2) 
         let ep : p ≡ columnsOf bytes = ap (λ (l : List ℕ). getD l 0 0) sizes in
         let eq : q ≡ payslipsOf bytes = ap (λ (l : List ℕ). getD l 1 0) sizes in
         let en : n ≡ lengthOf bytes = ap (λ (l : List ℕ). getD l 2 0) sizes in
-        let fs : steps′ ≡ over (flat (stepsOf bytes)) steps = es ∙ sym (filled _ read-fine _ steps) in
-        let fo : outputs′ ≡ over (outputsOf bytes) outputs = eo ∙ sym (filled _ read-fine _ outputs) in
+        let fs : steps′ ≡ over (flat (stepsOf bytes)) steps = es ∙ sym (renewed _ _ steps _ read-fine refl) in
+        let fo : outputs′ ≡ over (outputsOf bytes) outputs = eo ∙ sym (renewed _ _ outputs _ read-fine refl) in
         let ls : length (flat (stepsOf bytes)) ≡ 2 * n = omega (arith, length-flat (stepsOf bytes), length-stepsOf bytes) in
         let lo : length (outputsOf bytes) ≡ q = omega (arith, length-outputsOf bytes) in
         let few : n ≤ mostSteps = omega (arith, ok .few) in

@@ -113,7 +113,7 @@ fn judge_file(
 }
 
 // Which file is chosen.
-fn decide(
+pub fn decide(
     p: usize,
     q: usize,
     amounts: &[u32],

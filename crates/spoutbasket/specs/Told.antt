@@ -3,6 +3,7 @@ use mathlib.Core.List.{List, [], _∷_, _++_}
 use Prim.Native.Nat.{ℕ}
 use lib.ListN.{take}
 use Rattle.chain.specs.Verdict.{Answer, done, refusal}
+use Rattle.choose.specs.Choose.{Choice, first, second, neither}
 
 -- what is returned: 0 where the call is done, else the refusal's number
 abbrev pub numberOf : Answer → ℕ
@@ -13,3 +14,9 @@ numberOf (refusal n s) = n
 abbrev pub wordsOf : Answer → List ℕ
 wordsOf (done vs) = take 4 (vs ++ 0 ∷ 0 ∷ 0 ∷ 0 ∷ [])
 wordsOf (refusal n s) = s ∷ 0 ∷ 0 ∷ 0 ∷ []
+
+-- what the chooser answers: the file handed back, 1 or 2, or the refusal
+abbrev pub chosen : Choice → Answer
+chosen first = done (1 ∷ [])
+chosen second = done (2 ∷ [])
+chosen (neither n s) = refusal n s

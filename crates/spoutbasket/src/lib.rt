@@ -9,7 +9,9 @@ ghost use Rattle.chain.specs.Chain.{pairs};
 ghost use Rattle.file.specs.File.{writeAnswer, writeBytes, readAnswer, readSteps, readOutputs};
 ghost use Rattle.verify.specs.Verify.{verifyAnswer, verifyScratch};
 ghost use Rattle.run.specs.Run.{runAnswer, runValues, runFigures};
-ghost use Rattle.spoutbasket.specs.Told.{numberOf, wordsOf};
+ghost use Rattle.choose.specs.Choose.{choice};
+ghost use Rattle.spoutbasket.specs.Told.{numberOf, wordsOf, chosen};
+use choose::Chosen;
 use file::Reading;
 use file::Written;
 use run::Ran;
@@ -101,5 +103,28 @@ pub extern "C" fn spoutbasket_run(
     match run::run(p, steps, outputs, m, bases, values, figures) {
         Ran::Refused(number, place) => tell(number, place, 0, 0, answer),
         Ran::Multiplications(n) => tell(0, n, 0, 0, answer),
+    }
+}
+
+// The choice between two files: which of them is handed back. The scratch slices are left free in content.
+#[no_mangle]
+pub extern "C" fn spoutbasket_choose(
+    p: usize,
+    q: usize,
+    amounts: &[u32],
+    a: &[u8],
+    b: &[u8],
+    steps: &mut [u32],
+    outputs: &mut [u32],
+    numbers: &mut [u32],
+    answer: &mut [u64; 4],
+) -> u32
+    ensures { λ r. ⌜ r ≡ numberOf (chosen (choice p q (now (amounts .entry)) (now (a .entry)) (now (b .entry)) (length (now (steps .entry)) / 2) (length (now (outputs .entry))) (length (now (numbers .entry))))) ⌝ }
+    ensures { λ r. ⌜ now (answer .exit) ≡ wordsOf (chosen (choice p q (now (amounts .entry)) (now (a .entry)) (now (b .entry)) (length (now (steps .entry)) / 2) (length (now (outputs .entry))) (length (now (numbers .entry))))) ⌝ }
+{
+    match choose::decide(p, q, amounts, a, b, steps, outputs, numbers) {
+        Chosen::First => tell(0, 1, 0, 0, answer),
+        Chosen::Second => tell(0, 2, 0, 0, answer),
+        Chosen::Neither(number, place) => tell(number, place, 0, 0, answer),
     }
 }

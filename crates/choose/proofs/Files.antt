@@ -1,10 +1,10 @@
 -- The verdict on a file, from what reading it and the check answer.
 use mathlib.Core.Path.{_≡_, sym, ap, ap₂, _∙_}
 use mathlib.Core.List.{List, [], _∷_}
-use Prim.Native.Nat.{ℕ, _+_, _*_, _/_, _≤_}
+use Prim.Native.Nat.{ℕ, _*_, _/_, _≤_}
 use native.Mathlib.Omega.{arith}
 use lib.ListN.{length, getD, take}
-use Rattle.chain.specs.Verdict.{Verdict, fine, refused, done}
+use Rattle.chain.specs.Verdict.{Verdict, fine, refused}
 use Rattle.chain.specs.Written.{over}
 use Rattle.chain.specs.Chain.{mostPayslips, mostSteps, pairs, flat}
 use Rattle.chain.specs.declared.Step.{Step}

@@ -1,10 +1,10 @@
 -- The verdict on a file, from what reading it and the check answer.
 use mathlib.Core.Path.{_≡_, refl, sym, ap, ap₂, _∙_}
 use mathlib.Core.List.{List, [], _∷_}
-use Prim.Native.Nat.{ℕ, _+_, _*_, _/_, _≤_}
+use Prim.Native.Nat.{ℕ, _*_, _/_, _≤_}
 use native.Mathlib.Omega.{arith}
 use lib.ListN.{length, getD, take}
-use Rattle.chain.specs.Verdict.{Verdict, fine, refused, done}
+use Rattle.chain.specs.Verdict.{Verdict, fine, refused}
 use Rattle.chain.specs.Written.{over}
 use Rattle.chain.specs.Chain.{mostPayslips, mostSteps, pairs, flat}
 use Rattle.chain.specs.declared.Step.{Step}
@@ -22,7 +22,8 @@ use Rattle.file.specs.declared.Reading.the-variants as reading
 use Rattle.file.proofs.Readable.{readable, columns-low, payslips-low}
 use Rattle.file.proofs.OneFile.{length-stepsOf, length-outputsOf}
 use Rattle.choose.specs.Choose.{mostScratch, fileRule}
-use Rattle.choose.proofs.Reading.{read-any, verify-any, verdictIn, told, told-values}
+use Rattle.choose.proofs.Lent.{read-any, verify-any}
+use Rattle.choose.proofs.Told.{verdictIn, told, told-values}
 
 -- a file that reads: its p, q and n, and its chain at the front of the two slices
 pub record Taken (bytes steps outputs : List ℕ) (p q n : ℕ) : Type 0 where

@@ -1,4 +1,5 @@
 pub mod Preferring
-pub mod Reading
+pub mod Lent
+pub mod Told
 pub mod Files
 pub mod Choices

@@ -34,8 +34,6 @@ module _ (x y : Judged) where
   unfolding better
   none k s j t ex ey = sym (ap₂ betterOf ex ey)
 
-pub ruleset preferring = (first-fewer, second-fewer, first-only, second-only, none)
-
 -- only the lengths of files that pass count
 pub same-better : (v w : Verdict) (m n m′ n′ : ℕ) → (v ≡ fine → m ≡ m′) → (w ≡ fine → n ≡ n′) → better v w m n ≡ better v w m′ n′
 unfolding better

@@ -13,13 +13,13 @@ use file::Reading;
 use verify::Verified;
 
 // A file's number of steps where it reads and passes, or a refusal.
-pub enum Judged {
+enum Judged {
     Passed(usize),
     Refused(u32, usize),
 }
 
 // The file chosen, or a refusal.
-pub enum Chosen {
+enum Chosen {
     First,
     Second,
     Neither(u32, usize),

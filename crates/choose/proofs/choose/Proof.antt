@@ -1,9 +1,20 @@
 use borrow.Author.Needs.{needs}
-use mathlib.Core.Path.{refl, sym, ap, _∙_}
+use mathlib.Core.Path.{_≡_, refl, sym, ap, _∙_}
+use Prim.Native.Nat.{_/_}
+use lib.ListN.{length}
+use denote.Ref.{now}
+use Rattle.choose.specs.Choose.{choice}
 use Rattle.choose.specs.Answers.{choiceOf}
 use Rattle.choose.proofs.Choices.{handed}
 use Rattle.choose.proofs.choose.Statement.{statement}
 use Rattle.choose.proofs.choose.Tie as tie
+
+-- the choice that was found
+chosen : (c : tie.After-decide)
+    → let a = c .before .before .before .before .before .before .before .before .before .before .args in
+    choice (a .p) (a .q) (now (a .amounts)) (now (a .a)) (now (a .b)) (length (now (a .steps)) / 2) (length (now (a .outputs))) (length (now (a .numbers)))
+    ≡ choiceOf (c .decide .result)
+chosen c = sym (c .decide .ensures)
 
 decide-requires : tie.Need-decide-requires
 decide-requires c κs = search needs
@@ -30,7 +41,7 @@ same-length-3 : tie.Need-same-length-3
 same-length-3 c = search needs
 
 returns : tie.Need-returns
-returns c = handed _ _ _ _ _ (sym (c .before .before .before .before .before .before .before .before .decide .ensures) ∙ ap choiceOf (c .enum-told .given .1)) (refl, (refl, refl))
+returns c = handed _ _ _ _ _ (chosen (c .before .before .before .before .before .before .before .before) ∙ ap choiceOf (c .enum-told .given .1)) (refl, (refl, refl))
 
 same-length-4 : tie.Need-same-length-4
 same-length-4 c = search needs
@@ -42,7 +53,7 @@ same-length-6 : tie.Need-same-length-6
 same-length-6 c = search needs
 
 returns-2 : tie.Need-returns-2
-returns-2 c = handed _ _ _ _ _ (sym (c .before .before .before .before .before .before .before .before .decide .ensures) ∙ ap choiceOf (c .enum-told2 .given .1)) (refl, (refl, refl))
+returns-2 c = handed _ _ _ _ _ (chosen (c .before .before .before .before .before .before .before .before) ∙ ap choiceOf (c .enum-told2 .given .1)) (refl, (refl, refl))
 
 same-length-7 : tie.Need-same-length-7
 same-length-7 c = search needs
@@ -54,7 +65,7 @@ same-length-9 : tie.Need-same-length-9
 same-length-9 c = search needs
 
 returns-3 : tie.Need-returns-3
-returns-3 c = let k = c .before .before in handed _ _ _ _ _ (sym (k .before .before .before .before .before .before .before .before .decide .ensures) ∙ ap choiceOf (k .k .given .1)) (refl, (refl, refl))
+returns-3 c = let k = c .before .before in handed _ _ _ _ _ (chosen (k .before .before .before .before .before .before .before .before) ∙ ap choiceOf (k .k .given .1)) (refl, (refl, refl))
 
 pub choose-spec : {M : Type 1} → statement M
 choose-spec =

@@ -1,15 +1,15 @@
--- Verdicts that do not depend on how much is lent, once it is enough; and verdicts from answers.
+-- Verdicts do not depend on how much is lent, once it is enough.
 use mathlib.Core.Path.{_≡_, refl, sym, ap, _∙_}
 use mathlib.Core.Bool.{Bool, false}
-use mathlib.Core.List.{List, []}
+use mathlib.Core.List.{List}
 use Prim.Native.Nat.{ℕ, _≤_}
 use native.Mathlib.Omega.{arith}
 use lib.ListN.{length}
 use Rattle.chain.specs.Tests.{_<?_, _or_}
-use Rattle.chain.specs.Verdict.{Verdict, fine, refused, _then_, refuseIf, Answer, done, refusal, answer}
+use Rattle.chain.specs.Verdict.{Verdict, fine, refused, _then_, refuseIf}
 use Rattle.chain.specs.Chain.{mostPayslips, mostSteps, lengthRule}
 use Rattle.chain.specs.declared.Step.{Step}
-use Rattle.chain.proofs.Rules.{not-fine, lt-no, or-none}
+use Rattle.chain.proofs.Rules.{lt-no, or-none}
 use Rattle.chain.proofs.Sizes.{length-fits}
 use Rattle.verify.specs.Verify.{scratchSize, fittingRule, verifyRule}
 use Rattle.file.specs.File.{lengthOf, payslipsOf, readRule}
@@ -48,23 +48,3 @@ unfolding verifyRule fittingRule
 verify-any p steps outputs amounts x y hx hy =
     then-same _ _ _
     (then-under _ _ _ (λ a. then-under _ _ _ (λ b. then-under _ _ _ (λ c. then-under _ _ _ (λ d. same-test _ _ 5 0 (lt-no x _ hx ∙ sym (lt-no y _ hy)))))))
-
--- the verdict that an answer tells
-abbrev pub verdictIn : Answer → Verdict
-verdictIn (done vs) = fine
-verdictIn (refusal n s) = refused n s
-
-abbrev valuesIn : Answer → List ℕ
-valuesIn (done vs) = vs
-valuesIn (refusal n s) = []
-
-pub told : (a : Answer) (v : Verdict) (vs : List ℕ) → a ≡ answer v vs → verdictIn a ≡ v
-unfolding answer
-told a fine vs e = ap verdictIn e
-told a (refused n s) vs e = ap verdictIn e
-
--- and its values
-pub told-values : (ws vs : List ℕ) (v : Verdict) → done ws ≡ answer v vs → ws ≡ vs
-unfolding answer
-told-values ws vs fine e = ap valuesIn e
-told-values ws vs (refused n s) e = absurd (not-fine (sym (ap verdictIn e)))

@@ -24,6 +24,23 @@ mod raw {
             outputs_len: usize,
             answer: *mut u64,
         ) -> u32;
+        pub fn spoutbasket_choose(
+            p: usize,
+            q: usize,
+            amounts: *const u32,
+            amounts_len: usize,
+            a: *const u8,
+            a_len: usize,
+            b: *const u8,
+            b_len: usize,
+            steps: *mut u32,
+            steps_len: usize,
+            outputs: *mut u32,
+            outputs_len: usize,
+            numbers: *mut u32,
+            numbers_len: usize,
+            answer: *mut u64,
+        ) -> u32;
         pub fn spoutbasket_verify(
             p: usize,
             steps: *const u32,
@@ -157,4 +174,42 @@ pub fn read_words(bytes: &[u8], steps: &mut [u32], outputs: &mut [u32]) -> (u32,
 pub fn read(bytes: &[u8], steps: &mut [u32], outputs: &mut [u32]) -> Answer {
     let (number, words) = read_words(bytes, steps, outputs);
     answer(number, words, 3)
+}
+
+/// The scratch that the chooser is lent.
+pub struct Scratch {
+    pub steps: Vec<u32>,
+    pub outputs: Vec<u32>,
+    pub numbers: Vec<u32>,
+}
+
+pub fn choose(
+    p: usize,
+    q: usize,
+    amounts: &[u32],
+    a: &[u8],
+    b: &[u8],
+    scratch: &mut Scratch,
+) -> Answer {
+    let mut words = [7u64; 4];
+    let number = unsafe {
+        raw::spoutbasket_choose(
+            p,
+            q,
+            amounts.as_ptr(),
+            amounts.len(),
+            a.as_ptr(),
+            a.len(),
+            b.as_ptr(),
+            b.len(),
+            scratch.steps.as_mut_ptr(),
+            scratch.steps.len(),
+            scratch.outputs.as_mut_ptr(),
+            scratch.outputs.len(),
+            scratch.numbers.as_mut_ptr(),
+            scratch.numbers.len(),
+            words.as_mut_ptr(),
+        )
+    };
+    answer(number, words, 1)
 }

@@ -19,7 +19,7 @@ enum Judged {
 }
 
 // The file chosen, or a refusal.
-enum Chosen {
+pub enum Chosen {
     First,
     Second,
     Neither(u32, usize),

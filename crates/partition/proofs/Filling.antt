@@ -8,6 +8,7 @@ use native.Mathlib.Omega.{arith}
 use lib.ListN.{length, getD, set}
 use Rattle.chain.specs.Written.{over, laid}
 use Rattle.chain.proofs.Written.{laid-nil, laid-one, laid-laid, laid-length, over-laid}
+use Rattle.chain.proofs.Rules.{eq-yes, eq-no}
 use Rattle.digits.specs.Digits.{digit}
 use Rattle.digits.specs.Range.{sumTo}
 use Rattle.digits.proofs.Range.{sum-more}
@@ -92,3 +93,46 @@ module _ (p : ℕ) (amounts bits : List ℕ) (i : ℕ) (old : List ℕ) where
 
   pub taken-end : (col : ℕ) (cells : List ℕ) → cells ≡ over (takenTo col) old → col ≤ p → p ≤ col → cells ≡ over (takenTo p) old
   taken-end col cells e h g = let last : col ≡ p = omega arith in e ∙ ap (λ (n : ℕ). over (takenTo n) old) last
+
+-- the number of a power
+module _ (col first j : ℕ) where
+  pub number-none : j ≡ 0 → col + 1 ≡ powerAt col first j
+  number-none e = rw (eq-yes j 0 e)
+
+  pub number-some : (j ≡ 0 → ⊥) → first + j ≡ powerAt col first j
+  number-some ne = rw (eq-no j 0 ne)
+
+-- the numbers of a column's powers
+module _ (col first s : ℕ) (old : List ℕ) where
+  pub number-on : (n j x : ℕ) (cells : List ℕ) → x ≡ powerAt col first j → j < n → s + n ≤ length old → cells ≡ laid s (powersOf j (powerAt col first)) old
+      → set cells (s + j) x ≡ laid s (powersOf (j + 1) (powerAt col first)) old
+  number-on n j x cells is h g e = filled-on (powerAt col first) s j x old cells is (omega arith) e
+
+  pub numbers-end : (n j : ℕ) (cells : List ℕ) → cells ≡ laid s (powersOf j (powerAt col first)) old → j ≤ n → n ≤ j → cells ≡ laid s (powersOf n (powerAt col first)) old
+  numbers-end n j cells e h g = let last : n ≡ j = omega arith in rw last e
+
+-- the inputs' value numbers
+module _ (p : ℕ) (bits counts old : List ℕ) where
+  abbrev pub inputsTo : ℕ → List ℕ
+  inputsTo n = overInputs (countsOf bits) (powerOf p (countsOf counts)) n
+
+  pub inputs-on : (col s first : ℕ) (cells cells′ : List ℕ) → s ≡ sumTo col (countsOf bits) → first ≡ p + sumTo col (countsOf counts)
+      → cells ≡ over (inputsTo col) old → cells′ ≡ laid s (powersOf (getD bits col 0) (powerAt col first)) cells → cells′ ≡ over (inputsTo (col + 1)) old
+  inputs-on col s first cells cells′ is at e g =
+      columns-on (countsOf bits) (powerOf p (countsOf counts)) col s old cells cells′ is e
+      (g ∙ ap (λ (k : ℕ). laid s (powersOf (getD bits col 0) (powerAt col k)) cells) at)
+
+  pub inputs-end : (col : ℕ) (cells : List ℕ) → cells ≡ over (inputsTo col) old → col ≤ p → p ≤ col → cells ≡ over (inputsTo p) old
+  inputs-end col cells e h g = let last : col ≡ p = omega arith in e ∙ ap (λ (n : ℕ). over (inputsTo n) old) last
+
+-- their numbers are small
+module _ (counts : List ℕ) (p col first : ℕ) (is : first ≡ p + sumTo col (countsOf counts)) where
+  pub first-number : p ≤ 16 → col < p → sumTo p (countsOf counts) ≤ 512 → first + getD counts col 0 < 1024
+  first-number columns h g = omega (arith, column-few counts p col (sumTo col (countsOf counts)) refl h g)
+
+  pub first-on : first + getD counts col 0 ≡ p + sumTo (col + 1) (countsOf counts)
+  first-on = rw (add-one col) (omega arith)
+
+  pub number-room : (bits : List ℕ) (s : ℕ) → s ≡ sumTo col (countsOf bits) → p ≤ 16 → col < p → sumTo p (countsOf bits) ≤ 512
+      → sumTo p (countsOf counts) ≤ 512 → first + getD bits col 0 < 2 ^ 32
+  number-room bits s at columns h g k = omega (arith, column-few bits p col s at h g, first-number columns h k)

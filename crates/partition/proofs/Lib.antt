@@ -7,4 +7,6 @@ pub mod Partition
 pub mod Counting
 pub mod Filling
 pub mod Taking
+pub mod Emitting
+pub mod Paying
 pub mod Whole

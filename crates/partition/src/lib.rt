@@ -2,13 +2,17 @@
 ghost use mathlib.Core.Path.{_≡_};
 ghost use Prim.Native.Nat.{ℕ, _+_, _-_, _*_, _^_, _≤_, _<_};
 ghost use lib.ListN.{length, getD};
-ghost use Rattle.chain.specs.Chain.{mostColumns, mostPayslips};
+ghost use Rattle.chain.specs.Chain.{mostColumns, mostPayslips, mostSteps, flat};
 ghost use Rattle.chain.specs.Written.{over, laid};
 ghost use Rattle.digits.specs.Digits.{digit};
 ghost use Rattle.digits.specs.Range.{sumTo, sign};
 ghost use Rattle.sheet.specs.Sheet.{amount};
-ghost use Rattle.methods.specs.Powers.{countsOf};
-ghost use Rattle.partition.specs.Partition.{columnBits, powersOf, overInputs, taken, inputCount, group, groupCount, groupSize, weigh, partitionCount};
+ghost use Rattle.methods.specs.Powers.{countsOf, powerAt, powerOf, squarings};
+ghost use Rattle.methods.specs.Product.{payslips};
+ghost use Rattle.methods.specs.Table.{entry};
+ghost use Rattle.methods.specs.Emitted.{stepsIn, Room, Stored, Emitted};
+ghost use Rattle.partition.specs.Partition.{columnBits, columnSquarings, powersOf, overInputs, inputs, taken, inputCount, group, groupCount, groupSize, weigh, groupTables, parts, partition, squaringCount, partitionCount};
+use methods::PartialProduct;
 
 // The bits of the largest amount of column col, less some.
 fn column_bits(p: usize, q: usize, amounts: &[u32], less: usize, col: usize) -> usize
@@ -193,4 +197,148 @@ pub fn count(p: usize, q: usize, amounts: &[u32], c: usize) -> usize
     let w = column_sum(p, q, amounts, 0);
     let n = column_sum(p, q, amounts, 1) + tables_count(c, w);
     n + payslips_count(p, q, amounts, &bits[..p], c, w)
+}
+
+// The value number of a base after j squarings.
+fn power_at(col: usize, first: usize, j: usize) -> u32
+    requires { ⌜ (col + 1 < 2 ^ 32) × (first + j < 2 ^ 32) ⌝ }
+    ensures { λ r. ⌜ r ≡ powerAt col first j ⌝ }
+{
+    if j == 0 {
+        return (col + 1) as u32;
+    }
+    (first + j) as u32
+}
+
+// The numbers of the first n powers of a column, from cell s on.
+fn number_column(col: usize, first: usize, n: usize, s: usize, cells: &mut [u32])
+    requires { ⌜ (col < mostColumns) × (first + n < 2 ^ 32) × (s + n ≤ length (now cells)) ⌝ }
+    ensures { λ r. ⌜ now (cells .exit) ≡ laid s (powersOf n (powerAt col first)) (now (cells .entry)) ⌝ }
+{
+    let mut j: usize = 0;
+    while j < n {
+        cells[s + j] = power_at(col, first, j);
+        j += 1;
+    }
+}
+
+// The inputs' value numbers.
+fn number_inputs(p: usize, bits: &[u32], counts: &[u32], cells: &mut [u32])
+    requires { ⌜ (p ≤ mostColumns) × (p ≤ length (now bits)) × (p ≤ length (now counts)) × (sumTo p (countsOf (now bits)) ≤ 512) × (sumTo p (countsOf (now counts)) ≤ 512) × (512 ≤ length (now cells)) ⌝ }
+    ensures { λ r. ⌜ now (cells .exit) ≡ over (overInputs (countsOf (now (bits .entry))) (powerOf p (countsOf (now (counts .entry)))) p) (now (cells .entry)) ⌝ }
+{
+    let mut s: usize = 0;
+    let mut first = p;
+    let mut col: usize = 0;
+    while col < p {
+        let n = bits[col] as usize;
+        number_column(col, first, n, s, cells);
+        s += n;
+        first += counts[col] as usize;
+        col += 1;
+    }
+}
+
+// The tables of the groups after n steps.
+fn make_tables(p: usize, c: usize, inputs: &[u32], n: usize, steps: &mut [u32]) -> usize
+    requires { ⌜ (p ≤ mostColumns) × (1 ≤ c) × (c ≤ 8) × (length (now inputs) ≤ 512) × (length (groupTables p c (now inputs) (stepsIn (now steps) n) (groupCount c (length (now inputs)))) ≤ mostSteps) ⌝ }
+    requires { ⌜ Room p (now steps) n (groupTables p c (now inputs) (stepsIn (now steps) n) (groupCount c (length (now inputs)))) ⌝ }
+    ensures { λ r. ⌜ Stored (now (steps .entry)) (now (steps .exit)) r (groupTables p c (now (inputs .entry)) (stepsIn (now (steps .entry)) n) (groupCount c (length (now (inputs .entry))))) ⌝ }
+{
+    let groups = group_count(c, inputs.len());
+    let mut s = n;
+    let mut g: usize = 0;
+    while g < groups {
+        let from = g * c;
+        let end = from + group_size(c, inputs.len(), g);
+        s = methods::make_table(p, 1, &inputs[from..end], s, steps);
+        g += 1;
+    }
+    s
+}
+
+// The value number of part t of group g.
+fn part_value(p: usize, c: usize, inputs: &[u32], first: usize, g: usize, t: u32) -> u32
+    requires { ⌜ (p ≤ mostColumns) × (1 ≤ c) × (c ≤ 8) × (length (now inputs) ≤ 512) × (first ≤ mostSteps) × (g * c ≤ length (now inputs)) × (t < 2 ^ (1 * length (group c g (now inputs)))) ⌝ }
+    ensures { λ r. ⌜ r ≡ entry 1 (group c g (now (inputs .entry))) (p + first + g * (2 ^ c - c - 1) + 1) t ⌝ }
+{
+    let from = g * c;
+    let end = from + group_size(c, inputs.len(), g);
+    let at = p + first + g * table_count(c) + 1;
+    methods::entry(1, &inputs[from..end], at as u32, t)
+}
+
+// A payslip's parts, multiplied in order.
+fn make_parts(
+    p: usize,
+    c: usize,
+    inputs: &[u32],
+    first: usize,
+    taken: &[u32],
+    n: usize,
+    steps: &mut [u32],
+) -> PartialProduct
+    requires { ⌜ (p ≤ mostColumns) × (1 ≤ c) × (c ≤ 8) × (length (now inputs) ≤ 512) × (length (now taken) ≡ length (now inputs)) × (first ≤ mostSteps) × (2 * first ≤ length (now steps)) × ((g : ℕ) → weigh (group c g (now taken)) < 2 ^ (1 * length (group c g (now inputs)))) ⌝ }
+    requires { ⌜ Room p (now steps) n (parts p c (now inputs) (stepsIn (now steps) first) (now taken) (stepsIn (now steps) n) (groupCount c (length (now inputs))) .steps) ⌝ }
+    ensures { λ r. ⌜ Emitted (now (steps .entry)) (now (steps .exit)) (r .n) (r .value) (parts p c (now (inputs .entry)) (stepsIn (now (steps .entry)) first) (now (taken .entry)) (stepsIn (now (steps .entry)) n) (groupCount c (length (now (inputs .entry))))) ⌝ }
+{
+    let groups = group_count(c, inputs.len());
+    let mut r = PartialProduct { n: n, value: 0 };
+    let mut g: usize = 0;
+    while g < groups {
+        let y = part_value(p, c, inputs, first, g, part(c, taken, g));
+        r = methods::times(p, r, y, steps);
+        g += 1;
+    }
+    r
+}
+
+// Payslip i after n steps.
+fn make_payslip(
+    p: usize,
+    q: usize,
+    amounts: &[u32],
+    bits: &[u32],
+    c: usize,
+    members: &[u32],
+    first: usize,
+    i: usize,
+    n: usize,
+    steps: &mut [u32],
+) -> PartialProduct
+    requires { ⌜ (1 ≤ c) × (c ≤ 8) × (p ≤ mostColumns) × (length (now amounts) ≡ p * q) × (now bits ≡ powersOf p (columnBits p q (now amounts))) × (now members ≡ inputs p q (now amounts)) × (first ≡ squaringCount p q (now amounts)) × (2 * first ≤ length (now steps)) × (i < q) ⌝ }
+    requires { ⌜ Room p (now steps) n (parts p c (inputs p q (now amounts)) (squarings p (columnSquarings p q (now amounts)) p) (taken p q (now amounts) i) (stepsIn (now steps) n) (groupCount c (inputCount p q (now amounts))) .steps) ⌝ }
+    ensures { λ r. ⌜ Emitted (now (steps .entry)) (now (steps .exit)) (r .n) (r .value) (parts p c (inputs p q (now (amounts .entry))) (squarings p (columnSquarings p q (now (amounts .entry))) p) (taken p q (now (amounts .entry)) i) (stepsIn (now (steps .entry)) n) (groupCount c (inputCount p q (now (amounts .entry))))) ⌝ }
+{
+    let mut cells = [0u32; 512];
+    take_inputs(p, amounts, bits, i, &mut cells);
+    make_parts(p, c, members, first, &cells[..members.len()], n, steps)
+}
+
+// The payslips in order after n steps: their steps, and their products as outputs.
+fn make_payslips(
+    p: usize,
+    q: usize,
+    amounts: &[u32],
+    bits: &[u32],
+    c: usize,
+    members: &[u32],
+    first: usize,
+    n: usize,
+    steps: &mut [u32],
+    outputs: &mut [u32],
+)
+    requires { ⌜ (1 ≤ c) × (c ≤ 8) × (p ≤ mostColumns) × (length (now amounts) ≡ p * q) × (now bits ≡ powersOf p (columnBits p q (now amounts))) × (now members ≡ inputs p q (now amounts)) × (first ≡ squaringCount p q (now amounts)) × (2 * first ≤ length (now steps)) × (q ≤ length (now outputs)) ⌝ }
+    requires { ⌜ Room p (now steps) n (payslips (λ i before. parts p c (inputs p q (now amounts)) (squarings p (columnSquarings p q (now amounts)) p) (taken p q (now amounts) i) before (groupCount c (inputCount p q (now amounts)))) (stepsIn (now steps) n) q .steps) ⌝ }
+    ensures { λ r. ⌜ now (steps .exit) ≡ over (flat (payslips (λ i before. parts p c (inputs p q (now (amounts .entry))) (squarings p (columnSquarings p q (now (amounts .entry))) p) (taken p q (now (amounts .entry)) i) before (groupCount c (inputCount p q (now (amounts .entry))))) (stepsIn (now (steps .entry)) n) q .steps)) (now (steps .entry)) ⌝ }
+    ensures { λ r. ⌜ now (outputs .exit) ≡ over (payslips (λ i before. parts p c (inputs p q (now (amounts .entry))) (squarings p (columnSquarings p q (now (amounts .entry))) p) (taken p q (now (amounts .entry)) i) before (groupCount c (inputCount p q (now (amounts .entry))))) (stepsIn (now (steps .entry)) n) q .outputs) (now (outputs .entry)) ⌝ }
+{
+    let mut s = n;
+    let mut i: usize = 0;
+    while i < q {
+        let r = make_payslip(p, q, amounts, bits, c, members, first, i, s, steps);
+        s = r.n;
+        outputs[i] = r.value;
+        i += 1;
+    }
 }

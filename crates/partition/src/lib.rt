@@ -342,3 +342,52 @@ fn make_payslips(
         i += 1;
     }
 }
+
+// The squarings, the tables of the groups, then the payslips.
+fn make_chain(
+    p: usize,
+    q: usize,
+    amounts: &[u32],
+    bits: &[u32],
+    counts: &[u32],
+    c: usize,
+    members: &[u32],
+    steps: &mut [u32],
+    outputs: &mut [u32],
+)
+    requires { ⌜ (1 ≤ c) × (c ≤ 8) × (p ≤ mostColumns) × (length (now amounts) ≡ p * q) × (now bits ≡ powersOf p (columnBits p q (now amounts))) × (now members ≡ inputs p q (now amounts)) × (now counts ≡ powersOf p (columnSquarings p q (now amounts))) ⌝ }
+    requires { ⌜ (partitionCount p q (now amounts) c ≤ mostSteps) × (2 * partitionCount p q (now amounts) c ≤ length (now steps)) × (q ≤ length (now outputs)) ⌝ }
+    ensures { λ r. ⌜ now (steps .exit) ≡ over (flat (partition p q (now (amounts .entry)) c .steps)) (now (steps .entry)) ⌝ }
+    ensures { λ r. ⌜ now (outputs .exit) ≡ over (partition p q (now (amounts .entry)) c .outputs) (now (outputs .entry)) ⌝ }
+{
+    let first = methods::square_columns(p, counts, steps);
+    let n = make_tables(p, c, members, first, steps);
+    make_payslips(p, q, amounts, bits, c, members, first, n, steps, outputs);
+}
+
+// The chain: its steps, first and second in turn, and its outputs.
+pub fn emit(p: usize, q: usize, amounts: &[u32], c: usize, steps: &mut [u32], outputs: &mut [u32])
+    requires { ⌜ (1 ≤ p) × (p ≤ mostColumns) × (q ≤ mostPayslips) × (length (now amounts) ≡ p * q) × (1 ≤ c) × (c ≤ 8) ⌝ }
+    requires { ⌜ (partitionCount p q (now amounts) c ≤ mostSteps) × (2 * partitionCount p q (now amounts) c ≤ length (now steps)) × (q ≤ length (now outputs)) ⌝ }
+    ensures { λ r. ⌜ now (steps .exit) ≡ over (flat (partition p q (now (amounts .entry)) c .steps)) (now (steps .entry)) ⌝ }
+    ensures { λ r. ⌜ now (outputs .exit) ≡ over (partition p q (now (amounts .entry)) c .outputs) (now (outputs .entry)) ⌝ }
+{
+    let mut bits = [0u32; 16];
+    measure_columns(p, q, amounts, 0, &mut bits);
+    let mut counts = [0u32; 16];
+    measure_columns(p, q, amounts, 1, &mut counts);
+    let mut cells = [0u32; 512];
+    number_inputs(p, &bits[..p], &counts[..p], &mut cells);
+    let w = column_sum(p, q, amounts, 0);
+    make_chain(
+        p,
+        q,
+        amounts,
+        &bits[..p],
+        &counts[..p],
+        c,
+        &cells[..w],
+        steps,
+        outputs,
+    );
+}

@@ -1,5 +1,5 @@
 -- Lists over the inputs: column by column, low power first. Which input stands at a place, and sums over all inputs.
-use mathlib.Core.Path.{_≡_, refl, ap₂, _∙_}
+use mathlib.Core.Path.{_≡_, refl, ap, ap₂, _∙_}
 use mathlib.Core.List.{List, [], _∷_, _++_}
 use Prim.Native.Nat.{ℕ, zero, suc, _+_, _-_, _≤_, _<_}
 use native.Mathlib.Decide.{decLt}
@@ -10,11 +10,11 @@ use Rattle.digits.specs.Range.{sumTo}
 use Rattle.digits.proofs.Range.{sum-same, sum-split, sum-more}
 use Rattle.partition.specs.Partition.{powersOf, overInputs}
 
-length-powers : (n : ℕ) (f : ℕ → ℕ) → length (powersOf n f) ≡ n
+pub length-powers : (n : ℕ) (f : ℕ → ℕ) → length (powersOf n f) ≡ n
 length-powers zero f = refl
 length-powers (suc n) f = length-append (powersOf n f) _ ∙ omega (arith, length-powers n f)
 
-getD-powers : (n : ℕ) (f : ℕ → ℕ) (j : ℕ) → j < n → getD (powersOf n f) j 0 ≡ f j
+pub getD-powers : (n : ℕ) (f : ℕ → ℕ) (j : ℕ) → j < n → getD (powersOf n f) j 0 ≡ f j
 getD-powers zero f j h = absurd (omega arith)
 getD-powers (suc n) f j h = by-place (getD-powers n f j) (decLt j n)
   where
@@ -23,6 +23,18 @@ getD-powers (suc n) f j h = by-place (getD-powers n f j) (decLt j n)
     by-place ih (no ge) =
         let last : j ≡ n = omega arith in
         rw last (getD-at (powersOf n f) (f n) [] 0 n (length-powers n f))
+
+pub powers-same : (n : ℕ) (f g : ℕ → ℕ) → ((j : ℕ) → f j ≡ g j) → powersOf n f ≡ powersOf n g
+powers-same zero f g e = refl
+powers-same (suc n) f g e = ap₂ (λ (l : List ℕ) (x : ℕ). l ++ x ∷ []) (powers-same n f g e) (e n)
+
+-- lists over inputs that agree in every column
+pub over-same : (bits bits′ : ℕ → ℕ) (f g : ℕ → ℕ → ℕ) (n : ℕ) → ((col : ℕ) → col < n → bits col ≡ bits′ col)
+    → ((col j : ℕ) → col < n → f col j ≡ g col j) → overInputs bits f n ≡ overInputs bits′ g n
+over-same bits bits′ f g zero e h = refl
+over-same bits bits′ f g (suc n) e h =
+    ap₂ _++_ (over-same bits bits′ f g n (λ col k. e col (omega arith)) (λ col j k. h col j (omega arith)))
+    (ap (λ (m : ℕ). powersOf m (f n)) (e n (omega arith)) ∙ powers-same (bits′ n) (f n) (g n) (λ j. h n j (omega arith)))
 
 module _ (bits : ℕ → ℕ) where
   pub length-over : (f : ℕ → ℕ → ℕ) (n : ℕ) → length (overInputs bits f n) ≡ sumTo n bits

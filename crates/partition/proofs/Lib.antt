@@ -4,3 +4,9 @@ pub mod Tables
 pub mod Parts
 pub mod Members
 pub mod Partition
+pub mod Counting
+pub mod Filling
+pub mod Taking
+pub mod Emitting
+pub mod Paying
+pub mod Whole

@@ -39,7 +39,7 @@ module _ (p c : ℕ) (members : List ℕ) (start : List Step) (bits : List ℕ) 
   own-two : (g j : ℕ) → j < length (group c g bits) → getD (group c g bits) j 0 < 2 ^ 1
   own-two g j h = rw (getD-group c g bits j h) (two (g * c + j) (group-within c g (length bits) j (omega (arith, length-group c g bits))))
 
-  part-number : (g : ℕ) → weigh (group c g bits) < 2 ^ (1 * length (group c g members))
+  pub part-number : (g : ℕ) → weigh (group c g bits) < 2 ^ (1 * length (group c g members))
   part-number g = rw (← same-size g) (weigh-low (group c g bits) (own-two g))
 
   module _ (limit : ℕ) (x : ℕ → ℕ → ℕ) (low : (d : ℕ) → d < p → sumTo (length members) (λ j. getD bits j 0 * x j d) ≤ limit)

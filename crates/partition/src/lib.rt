@@ -1,1 +1,393 @@
 // Method 3: partition.
+ghost use mathlib.Core.Path.{_≡_};
+ghost use Prim.Native.Nat.{ℕ, _+_, _-_, _*_, _^_, _≤_, _<_};
+ghost use lib.ListN.{length, getD};
+ghost use Rattle.chain.specs.Chain.{mostColumns, mostPayslips, mostSteps, flat};
+ghost use Rattle.chain.specs.Written.{over, laid};
+ghost use Rattle.digits.specs.Digits.{digit};
+ghost use Rattle.digits.specs.Range.{sumTo, sign};
+ghost use Rattle.sheet.specs.Sheet.{amount};
+ghost use Rattle.methods.specs.Powers.{countsOf, powerAt, powerOf, squarings};
+ghost use Rattle.methods.specs.Product.{payslips};
+ghost use Rattle.methods.specs.Table.{entry};
+ghost use Rattle.methods.specs.Emitted.{stepsIn, Room, Stored, Emitted};
+ghost use Rattle.partition.specs.Partition.{columnBits, columnSquarings, powersOf, overInputs, inputs, taken, inputCount, group, groupCount, groupSize, weigh, groupTables, parts, partition, squaringCount, partitionCount};
+use methods::PartialProduct;
+
+// The bits of the largest amount of column col, less some.
+fn column_bits(p: usize, q: usize, amounts: &[u32], less: usize, col: usize) -> usize
+    requires { ⌜ (col < p) × (length (now amounts) ≡ p * q) ⌝ }
+    ensures { λ r. ⌜ (r ≡ columnBits p q (now (amounts .entry)) col - less) × (r ≤ 32) ⌝ }
+{
+    let b = digits::digit_count(1, methods::largest_in(p, q, amounts, col));
+    if b < less {
+        return 0;
+    }
+    b - less
+}
+
+// Each column's bits less some, added up.
+fn column_sum(p: usize, q: usize, amounts: &[u32], less: usize) -> usize
+    requires { ⌜ (p ≤ mostColumns) × (length (now amounts) ≡ p * q) ⌝ }
+    ensures { λ r. ⌜ (r ≡ sumTo p (λ col. columnBits p q (now (amounts .entry)) col - less)) × (r ≤ 32 * p) ⌝ }
+{
+    let mut s: usize = 0;
+    let mut col: usize = 0;
+    while col < p {
+        s += column_bits(p, q, amounts, less, col);
+        col += 1;
+    }
+    s
+}
+
+// Each column's bits less some, one after the other.
+fn measure_columns(p: usize, q: usize, amounts: &[u32], less: usize, cells: &mut [u32])
+    requires { ⌜ (p ≤ length (now cells)) × (length (now amounts) ≡ p * q) ⌝ }
+    ensures { λ r. ⌜ now (cells .exit) ≡ over (powersOf p (λ col. columnBits p q (now (amounts .entry)) col - less)) (now (cells .entry)) ⌝ }
+{
+    let mut col: usize = 0;
+    while col < p {
+        cells[col] = column_bits(p, q, amounts, less, col) as u32;
+        col += 1;
+    }
+}
+
+// The size of group g of w inputs.
+fn group_size(c: usize, w: usize, g: usize) -> usize
+    requires { ⌜ g * c ≤ w ⌝ }
+    ensures { λ r. ⌜ r ≡ groupSize c w g ⌝ }
+{
+    let rest = w - g * c;
+    if rest < c {
+        return rest;
+    }
+    c
+}
+
+// How many groups w inputs make.
+fn group_count(c: usize, w: usize) -> usize
+    requires { ⌜ (1 ≤ c) × (c ≤ 8) × (w ≤ 512) ⌝ }
+    ensures { λ r. ⌜ (r ≡ groupCount c w) × (r ≤ 519) ⌝ }
+{
+    (w + c - 1) / c
+}
+
+// The steps of a table of n inputs.
+fn table_count(n: usize) -> usize
+    requires { ⌜ n ≤ 8 ⌝ }
+    ensures { λ r. ⌜ (r ≡ 2 ^ n - n - 1) × (r ≤ 255) ⌝ }
+{
+    digits::power(n) as usize - n - 1
+}
+
+// The steps of the groups' tables.
+fn tables_count(c: usize, w: usize) -> usize
+    requires { ⌜ (1 ≤ c) × (c ≤ 8) × (w ≤ 512) ⌝ }
+    ensures { λ r. ⌜ (r ≡ sumTo (groupCount c w) (λ g. 2 ^ groupSize c w g - groupSize c w g - 1)) × (r ≤ 200000) ⌝ }
+{
+    let groups = group_count(c, w);
+    let mut n: usize = 0;
+    let mut g: usize = 0;
+    while g < groups {
+        n += table_count(group_size(c, w, g));
+        g += 1;
+    }
+    n
+}
+
+// The number of a payslip's part of group g.
+fn part(c: usize, taken: &[u32], g: usize) -> u32
+    requires { ⌜ (g * c ≤ length (now taken)) × (weigh (group c g (now taken)) < 2 ^ 32) ⌝ }
+    ensures { λ r. ⌜ r ≡ weigh (group c g (now (taken .entry))) ⌝ }
+{
+    let size = group_size(c, taken.len(), g);
+    let mut t: u32 = 0;
+    let mut j: usize = 0;
+    while j < size {
+        t = taken[g * c + (size - (j + 1))] + 2 * t;
+        j += 1;
+    }
+    t
+}
+
+// The steps of a payslip: its nonempty parts less 1.
+fn joins(c: usize, taken: &[u32]) -> usize
+    requires { ⌜ (1 ≤ c) × (c ≤ 8) × (length (now taken) ≤ 512) × ((g : ℕ) → weigh (group c g (now taken)) < 2 ^ 32) ⌝ }
+    ensures { λ r. ⌜ (r ≡ sumTo (groupCount c (length (now (taken .entry)))) (λ g. sign (weigh (group c g (now (taken .entry))))) - 1) × (r ≤ 519) ⌝ }
+{
+    let groups = group_count(c, taken.len());
+    let mut n: usize = 0;
+    let mut g: usize = 0;
+    while g < groups {
+        n += digits::sign(part(c, taken, g));
+        g += 1;
+    }
+    if n == 0 {
+        return 0;
+    }
+    n - 1
+}
+
+// The low n bits of x from cell s on.
+fn take_column(x: u32, n: usize, s: usize, cells: &mut [u32])
+    requires { ⌜ (n ≤ 32) × (s + n ≤ length (now cells)) ⌝ }
+    ensures { λ r. ⌜ now (cells .exit) ≡ laid s (powersOf n (digit 1 x)) (now (cells .entry)) ⌝ }
+{
+    let mut j: usize = 0;
+    while j < n {
+        cells[s + j] = digits::digit(1, x, j);
+        j += 1;
+    }
+}
+
+// Which inputs payslip i takes.
+fn take_inputs(p: usize, amounts: &[u32], bits: &[u32], i: usize, cells: &mut [u32])
+    requires { ⌜ (p ≤ mostColumns) × (i * p + p ≤ length (now amounts)) × (p ≤ length (now bits)) × ((col : ℕ) → getD (now bits) col 0 ≤ 32) × (sumTo p (countsOf (now bits)) ≤ 512) × (512 ≤ length (now cells)) ⌝ }
+    ensures { λ r. ⌜ now (cells .exit) ≡ over (overInputs (countsOf (now (bits .entry))) (λ col j. digit 1 (amount p (now (amounts .entry)) i col) j) p) (now (cells .entry)) ⌝ }
+{
+    let mut s: usize = 0;
+    let mut col: usize = 0;
+    while col < p {
+        let n = bits[col] as usize;
+        take_column(sheet::amount(p, amounts, i, col), n, s, cells);
+        s += n;
+        col += 1;
+    }
+}
+
+// The steps of payslip i of w inputs.
+fn payslip_count(
+    p: usize,
+    q: usize,
+    amounts: &[u32],
+    bits: &[u32],
+    c: usize,
+    w: usize,
+    i: usize,
+) -> usize
+    requires { ⌜ (1 ≤ c) × (c ≤ 8) × (p ≤ mostColumns) × (i < q) × (length (now amounts) ≡ p * q) × (now bits ≡ powersOf p (columnBits p q (now amounts))) × (w ≡ inputCount p q (now amounts)) ⌝ }
+    ensures { λ r. ⌜ (r ≡ sumTo (groupCount c w) (λ g. sign (weigh (group c g (taken p q (now (amounts .entry)) i)))) - 1) × (r ≤ 519) ⌝ }
+{
+    let mut cells = [0u32; 512];
+    take_inputs(p, amounts, bits, i, &mut cells);
+    joins(c, &cells[..w])
+}
+
+// The steps of the payslips of w inputs.
+fn payslips_count(p: usize, q: usize, amounts: &[u32], bits: &[u32], c: usize, w: usize) -> usize
+    requires { ⌜ (1 ≤ c) × (c ≤ 8) × (p ≤ mostColumns) × (q ≤ mostPayslips) × (length (now amounts) ≡ p * q) × (now bits ≡ powersOf p (columnBits p q (now amounts))) × (w ≡ inputCount p q (now amounts)) ⌝ }
+    ensures { λ r. ⌜ (r ≡ sumTo q (λ i. sumTo (groupCount c w) (λ g. sign (weigh (group c g (taken p q (now (amounts .entry)) i)))) - 1)) × (r ≤ 519 * q) ⌝ }
+{
+    let mut n: usize = 0;
+    let mut i: usize = 0;
+    while i < q {
+        n += payslip_count(p, q, amounts, bits, c, w, i);
+        i += 1;
+    }
+    n
+}
+
+// The number of steps of the chain.
+pub fn count(p: usize, q: usize, amounts: &[u32], c: usize) -> usize
+    requires { ⌜ (1 ≤ p) × (p ≤ mostColumns) × (q ≤ mostPayslips) × (length (now amounts) ≡ p * q) × (1 ≤ c) × (c ≤ 8) ⌝ }
+    ensures { λ r. ⌜ r ≡ partitionCount p q (now (amounts .entry)) c ⌝ }
+{
+    let mut bits = [0u32; 16];
+    measure_columns(p, q, amounts, 0, &mut bits);
+    let w = column_sum(p, q, amounts, 0);
+    let n = column_sum(p, q, amounts, 1) + tables_count(c, w);
+    n + payslips_count(p, q, amounts, &bits[..p], c, w)
+}
+
+// The value number of a base after j squarings.
+fn power_at(col: usize, first: usize, j: usize) -> u32
+    requires { ⌜ (col + 1 < 2 ^ 32) × (first + j < 2 ^ 32) ⌝ }
+    ensures { λ r. ⌜ r ≡ powerAt col first j ⌝ }
+{
+    if j == 0 {
+        return (col + 1) as u32;
+    }
+    (first + j) as u32
+}
+
+// The numbers of the first n powers of a column, from cell s on.
+fn number_column(col: usize, first: usize, n: usize, s: usize, cells: &mut [u32])
+    requires { ⌜ (col < mostColumns) × (first + n < 2 ^ 32) × (s + n ≤ length (now cells)) ⌝ }
+    ensures { λ r. ⌜ now (cells .exit) ≡ laid s (powersOf n (powerAt col first)) (now (cells .entry)) ⌝ }
+{
+    let mut j: usize = 0;
+    while j < n {
+        cells[s + j] = power_at(col, first, j);
+        j += 1;
+    }
+}
+
+// The inputs' value numbers.
+fn number_inputs(p: usize, bits: &[u32], counts: &[u32], cells: &mut [u32])
+    requires { ⌜ (p ≤ mostColumns) × (p ≤ length (now bits)) × (p ≤ length (now counts)) × (sumTo p (countsOf (now bits)) ≤ 512) × (sumTo p (countsOf (now counts)) ≤ 512) × (512 ≤ length (now cells)) ⌝ }
+    ensures { λ r. ⌜ now (cells .exit) ≡ over (overInputs (countsOf (now (bits .entry))) (powerOf p (countsOf (now (counts .entry)))) p) (now (cells .entry)) ⌝ }
+{
+    let mut s: usize = 0;
+    let mut first = p;
+    let mut col: usize = 0;
+    while col < p {
+        let n = bits[col] as usize;
+        number_column(col, first, n, s, cells);
+        s += n;
+        first += counts[col] as usize;
+        col += 1;
+    }
+}
+
+// The tables of the groups after n steps.
+fn make_tables(p: usize, c: usize, inputs: &[u32], n: usize, steps: &mut [u32]) -> usize
+    requires { ⌜ (p ≤ mostColumns) × (1 ≤ c) × (c ≤ 8) × (length (now inputs) ≤ 512) × (length (groupTables p c (now inputs) (stepsIn (now steps) n) (groupCount c (length (now inputs)))) ≤ mostSteps) ⌝ }
+    requires { ⌜ Room p (now steps) n (groupTables p c (now inputs) (stepsIn (now steps) n) (groupCount c (length (now inputs)))) ⌝ }
+    ensures { λ r. ⌜ Stored (now (steps .entry)) (now (steps .exit)) r (groupTables p c (now (inputs .entry)) (stepsIn (now (steps .entry)) n) (groupCount c (length (now (inputs .entry))))) ⌝ }
+{
+    let groups = group_count(c, inputs.len());
+    let mut s = n;
+    let mut g: usize = 0;
+    while g < groups {
+        let from = g * c;
+        let end = from + group_size(c, inputs.len(), g);
+        s = methods::make_table(p, 1, &inputs[from..end], s, steps);
+        g += 1;
+    }
+    s
+}
+
+// The value number of part t of group g.
+fn part_value(p: usize, c: usize, inputs: &[u32], first: usize, g: usize, t: u32) -> u32
+    requires { ⌜ (p ≤ mostColumns) × (1 ≤ c) × (c ≤ 8) × (length (now inputs) ≤ 512) × (first ≤ mostSteps) × (g * c ≤ length (now inputs)) × (t < 2 ^ (1 * length (group c g (now inputs)))) ⌝ }
+    ensures { λ r. ⌜ r ≡ entry 1 (group c g (now (inputs .entry))) (p + first + g * (2 ^ c - c - 1) + 1) t ⌝ }
+{
+    let from = g * c;
+    let end = from + group_size(c, inputs.len(), g);
+    let at = p + first + g * table_count(c) + 1;
+    methods::entry(1, &inputs[from..end], at as u32, t)
+}
+
+// A payslip's parts, multiplied in order.
+fn make_parts(
+    p: usize,
+    c: usize,
+    inputs: &[u32],
+    first: usize,
+    taken: &[u32],
+    n: usize,
+    steps: &mut [u32],
+) -> PartialProduct
+    requires { ⌜ (p ≤ mostColumns) × (1 ≤ c) × (c ≤ 8) × (length (now inputs) ≤ 512) × (length (now taken) ≡ length (now inputs)) × (first ≤ mostSteps) × (2 * first ≤ length (now steps)) × ((g : ℕ) → weigh (group c g (now taken)) < 2 ^ (1 * length (group c g (now inputs)))) ⌝ }
+    requires { ⌜ Room p (now steps) n (parts p c (now inputs) (stepsIn (now steps) first) (now taken) (stepsIn (now steps) n) (groupCount c (length (now inputs))) .steps) ⌝ }
+    ensures { λ r. ⌜ Emitted (now (steps .entry)) (now (steps .exit)) (r .n) (r .value) (parts p c (now (inputs .entry)) (stepsIn (now (steps .entry)) first) (now (taken .entry)) (stepsIn (now (steps .entry)) n) (groupCount c (length (now (inputs .entry))))) ⌝ }
+{
+    let groups = group_count(c, inputs.len());
+    let mut r = PartialProduct { n: n, value: 0 };
+    let mut g: usize = 0;
+    while g < groups {
+        let y = part_value(p, c, inputs, first, g, part(c, taken, g));
+        r = methods::times(p, r, y, steps);
+        g += 1;
+    }
+    r
+}
+
+// Payslip i after n steps.
+fn make_payslip(
+    p: usize,
+    q: usize,
+    amounts: &[u32],
+    bits: &[u32],
+    c: usize,
+    members: &[u32],
+    first: usize,
+    i: usize,
+    n: usize,
+    steps: &mut [u32],
+) -> PartialProduct
+    requires { ⌜ (1 ≤ c) × (c ≤ 8) × (p ≤ mostColumns) × (length (now amounts) ≡ p * q) × (now bits ≡ powersOf p (columnBits p q (now amounts))) × (now members ≡ inputs p q (now amounts)) × (first ≡ squaringCount p q (now amounts)) × (2 * first ≤ length (now steps)) × (i < q) ⌝ }
+    requires { ⌜ Room p (now steps) n (parts p c (inputs p q (now amounts)) (squarings p (columnSquarings p q (now amounts)) p) (taken p q (now amounts) i) (stepsIn (now steps) n) (groupCount c (inputCount p q (now amounts))) .steps) ⌝ }
+    ensures { λ r. ⌜ Emitted (now (steps .entry)) (now (steps .exit)) (r .n) (r .value) (parts p c (inputs p q (now (amounts .entry))) (squarings p (columnSquarings p q (now (amounts .entry))) p) (taken p q (now (amounts .entry)) i) (stepsIn (now (steps .entry)) n) (groupCount c (inputCount p q (now (amounts .entry))))) ⌝ }
+{
+    let mut cells = [0u32; 512];
+    take_inputs(p, amounts, bits, i, &mut cells);
+    make_parts(p, c, members, first, &cells[..members.len()], n, steps)
+}
+
+// The payslips in order after n steps: their steps, and their products as outputs.
+fn make_payslips(
+    p: usize,
+    q: usize,
+    amounts: &[u32],
+    bits: &[u32],
+    c: usize,
+    members: &[u32],
+    first: usize,
+    n: usize,
+    steps: &mut [u32],
+    outputs: &mut [u32],
+)
+    requires { ⌜ (1 ≤ c) × (c ≤ 8) × (p ≤ mostColumns) × (length (now amounts) ≡ p * q) × (now bits ≡ powersOf p (columnBits p q (now amounts))) × (now members ≡ inputs p q (now amounts)) × (first ≡ squaringCount p q (now amounts)) × (2 * first ≤ length (now steps)) × (q ≤ length (now outputs)) ⌝ }
+    requires { ⌜ Room p (now steps) n (payslips (λ i before. parts p c (inputs p q (now amounts)) (squarings p (columnSquarings p q (now amounts)) p) (taken p q (now amounts) i) before (groupCount c (inputCount p q (now amounts)))) (stepsIn (now steps) n) q .steps) ⌝ }
+    ensures { λ r. ⌜ now (steps .exit) ≡ over (flat (payslips (λ i before. parts p c (inputs p q (now (amounts .entry))) (squarings p (columnSquarings p q (now (amounts .entry))) p) (taken p q (now (amounts .entry)) i) before (groupCount c (inputCount p q (now (amounts .entry))))) (stepsIn (now (steps .entry)) n) q .steps)) (now (steps .entry)) ⌝ }
+    ensures { λ r. ⌜ now (outputs .exit) ≡ over (payslips (λ i before. parts p c (inputs p q (now (amounts .entry))) (squarings p (columnSquarings p q (now (amounts .entry))) p) (taken p q (now (amounts .entry)) i) before (groupCount c (inputCount p q (now (amounts .entry))))) (stepsIn (now (steps .entry)) n) q .outputs) (now (outputs .entry)) ⌝ }
+{
+    let mut s = n;
+    let mut i: usize = 0;
+    while i < q {
+        let r = make_payslip(p, q, amounts, bits, c, members, first, i, s, steps);
+        s = r.n;
+        outputs[i] = r.value;
+        i += 1;
+    }
+}
+
+// The squarings, the tables of the groups, then the payslips.
+fn make_chain(
+    p: usize,
+    q: usize,
+    amounts: &[u32],
+    bits: &[u32],
+    counts: &[u32],
+    c: usize,
+    members: &[u32],
+    steps: &mut [u32],
+    outputs: &mut [u32],
+)
+    requires { ⌜ (1 ≤ c) × (c ≤ 8) × (p ≤ mostColumns) × (length (now amounts) ≡ p * q) × (now bits ≡ powersOf p (columnBits p q (now amounts))) × (now members ≡ inputs p q (now amounts)) × (now counts ≡ powersOf p (columnSquarings p q (now amounts))) ⌝ }
+    requires { ⌜ (partitionCount p q (now amounts) c ≤ mostSteps) × (2 * partitionCount p q (now amounts) c ≤ length (now steps)) × (q ≤ length (now outputs)) ⌝ }
+    ensures { λ r. ⌜ now (steps .exit) ≡ over (flat (partition p q (now (amounts .entry)) c .steps)) (now (steps .entry)) ⌝ }
+    ensures { λ r. ⌜ now (outputs .exit) ≡ over (partition p q (now (amounts .entry)) c .outputs) (now (outputs .entry)) ⌝ }
+{
+    let first = methods::square_columns(p, counts, steps);
+    let n = make_tables(p, c, members, first, steps);
+    make_payslips(p, q, amounts, bits, c, members, first, n, steps, outputs);
+}
+
+// The chain: its steps, first and second in turn, and its outputs.
+pub fn emit(p: usize, q: usize, amounts: &[u32], c: usize, steps: &mut [u32], outputs: &mut [u32])
+    requires { ⌜ (1 ≤ p) × (p ≤ mostColumns) × (q ≤ mostPayslips) × (length (now amounts) ≡ p * q) × (1 ≤ c) × (c ≤ 8) ⌝ }
+    requires { ⌜ (partitionCount p q (now amounts) c ≤ mostSteps) × (2 * partitionCount p q (now amounts) c ≤ length (now steps)) × (q ≤ length (now outputs)) ⌝ }
+    ensures { λ r. ⌜ now (steps .exit) ≡ over (flat (partition p q (now (amounts .entry)) c .steps)) (now (steps .entry)) ⌝ }
+    ensures { λ r. ⌜ now (outputs .exit) ≡ over (partition p q (now (amounts .entry)) c .outputs) (now (outputs .entry)) ⌝ }
+{
+    let mut bits = [0u32; 16];
+    measure_columns(p, q, amounts, 0, &mut bits);
+    let mut counts = [0u32; 16];
+    measure_columns(p, q, amounts, 1, &mut counts);
+    let mut cells = [0u32; 512];
+    number_inputs(p, &bits[..p], &counts[..p], &mut cells);
+    let w = column_sum(p, q, amounts, 0);
+    make_chain(
+        p,
+        q,
+        amounts,
+        &bits[..p],
+        &counts[..p],
+        c,
+        &cells[..w],
+        steps,
+        outputs,
+    );
+}

@@ -1,0 +1,159 @@
+-- Laws by which the functions of counts keep to their contracts.
+use mathlib.Core.Path.{_≡_, refl, sym, ap, ap₂, _∙_}
+use mathlib.Core.List.{List, [], _∷_, _++_}
+use Prim.Native.Nat.{ℕ, zero, suc, _+_, _-_, _*_, _/_, _%_, _^_, _≤_, _<_, min}
+use native.Mathlib.Nat.{mul-comm, mul-le-mul-right, mul-le-mul-left, div-add-mod', mod-lt, le-trans, suc-mul, pow-suc}
+use native.Mathlib.Numerals.{add-one}
+use native.Mathlib.Omega.{arith}
+use lib.ListN.{length, getD, take, drop, set, length-append, length-drop}
+use lib.Pow.{pow-mono}
+use lib.Seq.{drop-cons, drop-length}
+use Rattle.digits.specs.Digits.{bitLength, digitCount, digit}
+use Rattle.digits.specs.Range.{sumTo, sign}
+use Rattle.digits.proofs.Range.{sum-on, sign-low, signs-low}
+use Rattle.digits.proofs.Count.{low-bits}
+use Rattle.methods.specs.Powers.{largestIn}
+use Rattle.partition.specs.Partition.{columnBits, powersOf, group, groupCount, groupSize, weigh}
+use Rattle.partition.proofs.Groups.{length-group, getD-group}
+
+-- a column's bits less some, b being the bits of its largest amount x
+module _ (p q : ℕ) (amounts : List ℕ) (less col x b : ℕ) (is : x ≡ largestIn p q amounts col) (e : b ≡ digitCount 1 x) where
+  bits-are : b ≡ columnBits p q amounts col
+  unfolding columnBits bitLength
+  bits-are = e ∙ ap (digitCount 1) is
+
+  pub bits-none : b < less → 0 ≡ columnBits p q amounts col - less
+  bits-none h = omega (arith, bits-are)
+
+  pub bits-left : b - less ≡ columnBits p q amounts col - less
+  bits-left = ap (λ (n : ℕ). n - less) bits-are
+
+pub bits-few : (less x b : ℕ) → x < 2 ^ 32 → b ≡ digitCount 1 x → b - less ≤ 32
+unfolding bitLength
+bits-few less x b low e = let few : bitLength x ≤ 32 = low-bits x 32 low in omega arith
+
+-- those of the first n columns together
+abbrev pub bitsTo : ℕ → ℕ → List ℕ → ℕ → ℕ → ℕ
+bitsTo p q amounts less n = sumTo n (λ col. columnBits p q amounts col - less)
+
+pub bits-on : (p q : ℕ) (amounts : List ℕ) (less col s r : ℕ) → r ≡ columnBits p q amounts col - less → s ≡ bitsTo p q amounts less col
+    → s + r ≡ bitsTo p q amounts less (col + 1)
+bits-on p q amounts less col s r is e = sum-on (λ k. columnBits p q amounts k - less) col s r is e
+
+pub bits-end : (p q : ℕ) (amounts : List ℕ) (less col s : ℕ) → s ≡ bitsTo p q amounts less col → col ≤ p → p ≤ col → s ≡ bitsTo p q amounts less p
+bits-end p q amounts less col s e h g = let last : col ≡ p = omega arith in e ∙ ap (bitsTo p q amounts less) last
+
+-- the groups: how many, and each one's first input
+pub groups-few : (c w : ℕ) → 1 ≤ c → c ≤ 8 → w ≤ 512 → groupCount c w ≤ 519
+groups-few c w some few low =
+    let d = div-add-mod' (w + c - 1) c in
+    let wide : groupCount c w * 1 ≤ groupCount c w * c = mul-le-mul-left (groupCount c w) some in
+    omega (arith, mul-comm c (groupCount c w))
+
+pub group-inside : (c w g G : ℕ) → 1 ≤ c → G ≡ groupCount c w → g < G → g * c ≤ w
+group-inside c w g G some e h =
+    let d = div-add-mod' (w + c - 1) c in
+    let le : suc g ≤ groupCount c w = omega arith in
+    let wide : suc g * c ≤ groupCount c w * c = mul-le-mul-right c le in
+    omega (arith, suc-mul g c, mul-comm c (groupCount c w))
+
+pub size-rest : (c w g : ℕ) → w - g * c < c → w - g * c ≡ groupSize c w g
+size-rest c w g h = omega arith
+
+pub size-full : (c w g : ℕ) → c ≤ w - g * c → c ≡ groupSize c w g
+size-full c w g h = omega arith
+
+-- the steps of a table
+inputs-below : (n : ℕ) → n + 1 ≤ 2 ^ n
+inputs-below zero = omega arith
+inputs-below (suc n) = rw (pow-suc 2 n) (omega (arith, inputs-below n))
+
+pub table-some : (n x : ℕ) → x ≡ 2 ^ n → n + 1 ≤ x
+table-some n x e = omega (arith, inputs-below n)
+
+pub table-told : (n x : ℕ) → x ≡ 2 ^ n → x - n - 1 ≡ 2 ^ n - n - 1
+table-told n x e = ap (λ (m : ℕ). m - n - 1) e
+
+pub table-few : (n x : ℕ) → n ≤ 8 → x ≡ 2 ^ n → x - n - 1 ≤ 255
+table-few n x h e = let most : 2 ^ n ≤ 2 ^ 8 = pow-mono {j = 8} h in omega arith
+
+pub size-few : (c w g r : ℕ) → c ≤ 8 → r ≡ groupSize c w g → r ≤ 8
+size-few c w g r few e = omega arith
+
+-- those of the first g groups' tables
+abbrev pub tablesTo : ℕ → ℕ → ℕ → ℕ
+tablesTo c w n = sumTo n (λ g. 2 ^ groupSize c w g - groupSize c w g - 1)
+
+pub tables-on : (c w n g s r : ℕ) → s ≡ groupSize c w g → r ≡ 2 ^ s - s - 1 → n ≡ tablesTo c w g → n + r ≡ tablesTo c w (g + 1)
+tables-on c w n g s r size is e =
+    sum-on (λ k. 2 ^ groupSize c w k - groupSize c w k - 1) g n r (is ∙ ap (λ (m : ℕ). 2 ^ m - m - 1) size) e
+
+pub tables-end : (c w G g n : ℕ) → G ≡ groupCount c w → g ≤ G → G ≤ g → n ≡ tablesTo c w g → n ≡ tablesTo c w (groupCount c w)
+tables-end c w G g n is h k e = let last : groupCount c w ≡ g = omega arith in rw last e
+
+-- the number of a part, from its last member down to the first
+module _ (c : ℕ) (taken : List ℕ) (g size : ℕ) (is : size ≡ groupSize c (length taken) g) where
+  abbrev own : List ℕ
+  own = group c g taken
+
+  long : length own ≡ size
+  long = length-group c g taken ∙ sym is
+
+  weigh-next : (l : List ℕ) (j : ℕ) → j < length l → weigh (drop j l) ≡ getD l j 0 + 2 * weigh (drop (suc j) l)
+  weigh-next l j h = ap weigh (drop-cons l j 0 h)
+
+  pub part-start : 0 ≡ weigh (drop (size - 0) (group c g taken))
+  part-start = let all : size - 0 ≡ length own = omega (arith, long) in sym (ap (λ (n : ℕ). weigh (drop n own)) all ∙ ap weigh (drop-length own))
+
+  module _ (j t : ℕ) (less : j < size) (so-far : t ≡ weigh (drop (size - j) (group c g taken))) where
+    pub part-on : getD taken (g * c + (size - (j + 1))) 0 + 2 * t ≡ weigh (drop (size - (j + 1)) (group c g taken))
+    part-on =
+        let here : size - (j + 1) < length own = omega (arith, long) in
+        let after : suc (size - (j + 1)) ≡ size - j = omega arith in
+        sym (weigh-next own (size - (j + 1)) here
+        ∙ ap₂ (λ (a n : ℕ). a + 2 * weigh (drop n own)) (getD-group c g taken (size - (j + 1)) here) after
+        ∙ ap (λ (n : ℕ). getD taken (g * c + (size - (j + 1))) 0 + 2 * n) (sym so-far))
+
+  -- no end of a list weighs more than the whole
+  weigh-end : (l : List ℕ) (j : ℕ) → weigh (drop j l) ≤ weigh l
+  weigh-end l zero = omega arith
+  weigh-end [] (suc j) = omega arith
+  weigh-end (b ∷ l) (suc j) = omega (arith, weigh-end l j)
+
+  pub part-fits : (j t : ℕ) → j < size → t ≡ weigh (drop (size - j) (group c g taken)) → weigh (group c g taken) < 2 ^ 32
+      → getD taken (g * c + (size - (j + 1))) 0 + 2 * t < 2 ^ 32
+  part-fits j t less so-far low = rw (part-on j t less so-far) (omega (arith, weigh-end own (size - (j + 1))))
+
+  pub part-twice : (j t : ℕ) → j < size → t ≡ weigh (drop (size - j) (group c g taken)) → weigh (group c g taken) < 2 ^ 32 → 2 * t < 2 ^ 32
+  part-twice j t less so-far low = omega (arith, part-fits j t less so-far low)
+
+  pub part-cell : (j : ℕ) → j < size → g * c + (size - (j + 1)) < length taken
+  part-cell j less = omega arith
+
+  pub part-end : (j t : ℕ) → j ≤ size → size ≤ j → t ≡ weigh (drop (size - j) (group c g taken)) → t ≡ weigh (group c g taken)
+  part-end j t h k e = let none : size - j ≡ 0 = omega arith in e ∙ ap (λ (n : ℕ). weigh (drop n own)) none
+
+-- how many parts are not empty, of the first n groups
+abbrev pub signsTo : ℕ → List ℕ → ℕ → ℕ
+signsTo c taken n = sumTo n (λ g. sign (weigh (group c g taken)))
+
+module _ (c : ℕ) (taken : List ℕ) where
+  pub signs-on : (n g t r : ℕ) → t ≡ weigh (group c g taken) → r ≡ sign t → n ≡ signsTo c taken g → n + r ≡ signsTo c taken (g + 1)
+  signs-on n g t r is told e = sum-on (λ k. sign (weigh (group c k taken))) g n r (told ∙ ap sign is) e
+
+  pub sign-added : (n g t r : ℕ) → t ≡ weigh (group c g taken) → r ≡ sign t → n ≤ g → n + r ≤ g + 1
+  sign-added n g t r is told h = omega (arith, sign-low t)
+
+  pub sign-fits : (n g t r G : ℕ) → r ≡ sign t → n ≤ g → g < G → G ≤ 519 → n + r < 1024
+  sign-fits n g t r G told h k few = omega (arith, sign-low t)
+
+  joins-all : (G g n : ℕ) → G ≡ groupCount c (length taken) → g ≤ G → G ≤ g → n ≡ signsTo c taken g → n ≡ signsTo c taken (groupCount c (length taken))
+  joins-all G g n is h k e = let last : groupCount c (length taken) ≡ g = omega arith in rw last e
+
+  pub joins-none : (G g n : ℕ) → G ≡ groupCount c (length taken) → g ≤ G → G ≤ g → n ≡ signsTo c taken g → n ≡ 0
+      → 0 ≡ signsTo c taken (groupCount c (length taken)) - 1
+  joins-none G g n is h k e z = omega (arith, joins-all G g n is h k e)
+
+  pub joins-end : (G g n : ℕ) → G ≡ groupCount c (length taken) → g ≤ G → G ≤ g → n ≡ signsTo c taken g
+      → n - 1 ≡ signsTo c taken (groupCount c (length taken)) - 1
+  joins-end G g n is h k e = ap (λ (m : ℕ). m - 1) (joins-all G g n is h k e)

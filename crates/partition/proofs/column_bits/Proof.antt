@@ -1,0 +1,19 @@
+use Rattle.partition.proofs.Counting.{bits-none, bits-left, bits-few}
+use borrow.Author.Needs.{needs}
+use Rattle.partition.proofs.column_bits.Statement.{statement}
+use Rattle.partition.proofs.column_bits.Tie as tie
+
+largest-in-requires : tie.Need-largest-in-requires
+largest-in-requires c κs = search needs
+
+digit-count-requires : tie.Need-digit-count-requires
+digit-count-requires c κs = search needs
+
+returns : tie.Need-returns
+returns c = (search bits-none, search needs)
+
+returns-2 : tie.Need-returns-2
+returns-2 c = (search bits-left, search bits-few)
+
+pub column-bits-spec : {M : Type 1} → statement M
+column-bits-spec = tie.close (tie.spec largest-in-requires digit-count-requires returns returns-2)

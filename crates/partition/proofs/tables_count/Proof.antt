@@ -1,0 +1,55 @@
+use mathlib.Core.Path.{_≡_}
+use Prim.Native.Nat.{_+_, _*_, _≤_, _-_}
+use Rattle.partition.proofs.Counting.{tablesTo, group-inside, size-few, tables-on, tables-end}
+use borrow.Author.Needs.{needs}
+use Rattle.partition.proofs.tables_count.Statement.{statement}
+use Rattle.partition.proofs.tables_count.Tie as tie
+
+abbrev Inv-loop : tie.InvT-loop
+Inv-loop c w groups n₀ g₀ n g = (g ≤ groups) × (n ≡ tablesTo c w g) × (n ≤ 255 * g)
+
+abbrev μ-loop : tie.MeasureT-loop
+μ-loop c w groups n₀ g₀ n g = groups - g
+
+group-count-requires : tie.Need-group-count-requires Inv-loop μ-loop
+group-count-requires c κs = search needs
+
+loop-holds : tie.Need-loop-holds Inv-loop μ-loop
+loop-holds c = search needs
+
+group-size-requires : tie.Need-group-size-requires Inv-loop μ-loop
+group-size-requires c κs = search group-inside
+
+table-count-requires : tie.Need-table-count-requires Inv-loop μ-loop
+table-count-requires c κs = search size-few
+
+add-n : tie.Need-add-n Inv-loop μ-loop
+add-n c = search needs
+
+add-g : tie.Need-add-g Inv-loop μ-loop
+add-g c = search needs
+
+loop-less : tie.Need-loop-less Inv-loop μ-loop
+loop-less c = search needs
+
+loop-again : tie.Need-loop-again Inv-loop μ-loop
+loop-again c = (search needs, search tables-on, search needs)
+
+returns : tie.Need-returns Inv-loop μ-loop
+returns c = (search tables-end, search needs)
+
+pub tables-count-spec : {M : Type 1} → statement M
+tables-count-spec =
+    tie.close
+    (tie.spec
+    Inv-loop
+    μ-loop
+    group-count-requires
+    loop-holds
+    group-size-requires
+    table-count-requires
+    add-n
+    add-g
+    loop-less
+    loop-again
+    returns)

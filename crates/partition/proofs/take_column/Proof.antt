@@ -1,0 +1,63 @@
+use mathlib.Core.Path.{_≡_}
+use Prim.Native.Nat.{_+_, _*_, _≤_, _-_}
+use lib.ListN.{length, length-set}
+use Rattle.chain.specs.Written.{laid}
+use Rattle.digits.specs.Digits.{digit}
+use Rattle.partition.specs.Partition.{powersOf}
+use Rattle.partition.proofs.Filling.{fill-start, bit-on, bits-end}
+use borrow.Author.Needs.{needs}
+use Rattle.partition.proofs.take_column.Statement.{statement}
+use Rattle.partition.proofs.take_column.Tie as tie
+
+abbrev Inv-loop : tie.InvT-loop
+Inv-loop x n s cells₀ j₀ cells j = (j ≤ n) × (length cells ≡ length cells₀) × (cells ≡ laid s (powersOf j (digit 1 x)) cells₀)
+
+abbrev μ-loop : tie.MeasureT-loop
+μ-loop x n s cells₀ j₀ cells j = n - j
+
+loop-holds : tie.Need-loop-holds Inv-loop μ-loop
+loop-holds c = (search needs, search needs, search fill-start)
+
+digit-requires : tie.Need-digit-requires Inv-loop μ-loop
+digit-requires c κs = search needs
+
+add-cells : tie.Need-add-cells Inv-loop μ-loop
+add-cells c = search needs
+
+mul-cells : tie.Need-mul-cells Inv-loop μ-loop
+mul-cells c = search needs
+
+slice-write-cells : tie.Need-slice-write-cells Inv-loop μ-loop
+slice-write-cells c = search needs
+
+add-j : tie.Need-add-j Inv-loop μ-loop
+add-j c = search needs
+
+loop-less : tie.Need-loop-less Inv-loop μ-loop
+loop-less c = search needs
+
+loop-again : tie.Need-loop-again Inv-loop μ-loop
+loop-again c = (search needs, simp length-set (search needs), search bit-on)
+
+same-length : tie.Need-same-length Inv-loop μ-loop
+same-length c = search needs
+
+returns : tie.Need-returns Inv-loop μ-loop
+returns c = search bits-end
+
+pub take-column-spec : {M : Type 1} → statement M
+take-column-spec =
+    tie.close
+    (tie.spec
+    Inv-loop
+    μ-loop
+    loop-holds
+    digit-requires
+    add-cells
+    mul-cells
+    slice-write-cells
+    add-j
+    loop-less
+    loop-again
+    same-length
+    returns)

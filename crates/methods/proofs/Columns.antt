@@ -6,10 +6,11 @@ use native.Mathlib.Numerals.{add-one}
 use native.Mathlib.Omega.{arith}
 use lib.ListN.{length, getD}
 use Rattle.chain.specs.declared.Step.{Step}
+use Rattle.chain.proofs.Rules.{eq-yes, eq-no}
 use Rattle.digits.specs.Range.{maxTo}
 use Rattle.sheet.specs.Sheet.{amount}
 use Rattle.methods.specs.Product.{made, squared}
-use Rattle.methods.specs.Powers.{largestIn, countsOf, squarings}
+use Rattle.methods.specs.Powers.{largestIn, countsOf, squarings, powerAt}
 use Rattle.methods.specs.Emitted.{stepsIn, Room, Stored, Emitted}
 use Rattle.methods.proofs.Sound.{Begins, begins-rise}
 use Rattle.methods.proofs.Product.{squared-begins}
@@ -34,6 +35,14 @@ module _ (p : ℕ) (amounts : List ℕ) (c : ℕ) where
   column-end q i most h g e = let last : q ≡ i = omega arith in rw last e
 
 pub ruleset finding-largest = (column-start, column-on, column-end)
+
+-- the number of a power: the base itself, or one of the values made
+module _ (c first j : ℕ) where
+  pub number-base : j ≡ 0 → c + 1 ≡ powerAt c first j
+  number-base e = rw (eq-yes j 0 e)
+
+  pub number-made : (j ≡ 0 → ⊥) → first + j ≡ powerAt c first j
+  number-made ne = rw (eq-no j 0 ne)
 
 -- the squarings of fewer columns are made first
 pub squarings-begin : (p : ℕ) (n : ℕ → ℕ) (c d : ℕ) → c ≤ d → Begins (squarings p n c) (squarings p n d)

@@ -6,7 +6,7 @@ ghost use Prim.Native.Nat.{_+_, _*_, _^_, _≤_, _<_};
 ghost use lib.ListN.{length};
 ghost use Rattle.methods.specs.Product.{made, ordered, times, squared};
 ghost use Rattle.methods.specs.Table.{isUnit, entry, lowest, tableNext, table};
-ghost use Rattle.methods.specs.Powers.{largestIn, countsOf, squarings};
+ghost use Rattle.methods.specs.Powers.{largestIn, countsOf, squarings, powerAt};
 ghost use Rattle.chain.specs.Chain.{mostColumns};
 ghost use Rattle.methods.specs.Emitted.{stepsIn, Room, Stored, Emitted};
 
@@ -151,6 +151,17 @@ pub fn largest_in(p: usize, q: usize, amounts: &[u32], c: usize) -> u32
         i += 1;
     }
     most
+}
+
+// The value number of the base of column c after j squarings, which are made after value first.
+pub fn power_at(c: usize, first: usize, j: usize) -> u32
+    requires { ⌜ (c + 1 < 2 ^ 32) × (first + j < 2 ^ 32) ⌝ }
+    ensures { λ r. ⌜ r ≡ powerAt c first j ⌝ }
+{
+    if j == 0 {
+        return (c + 1) as u32;
+    }
+    (first + j) as u32
 }
 
 // The squarings of the columns' bases, column by column, as many for each as counts says: the number of steps made.

@@ -8,7 +8,6 @@ use native.Mathlib.Omega.{arith}
 use lib.ListN.{length, getD, set}
 use Rattle.chain.specs.Written.{over, laid}
 use Rattle.chain.proofs.Written.{laid-nil, laid-one, laid-laid, laid-length, over-laid}
-use Rattle.chain.proofs.Rules.{eq-yes, eq-no}
 use Rattle.digits.specs.Digits.{digit}
 use Rattle.digits.specs.Range.{sumTo}
 use Rattle.digits.proofs.Range.{sum-more}
@@ -93,14 +92,6 @@ module _ (p : ℕ) (amounts bits : List ℕ) (i : ℕ) (old : List ℕ) where
 
   pub taken-end : (col : ℕ) (cells : List ℕ) → cells ≡ over (takenTo col) old → col ≤ p → p ≤ col → cells ≡ over (takenTo p) old
   taken-end col cells e h g = let last : col ≡ p = omega arith in e ∙ ap (λ (n : ℕ). over (takenTo n) old) last
-
--- the number of a power
-module _ (col first j : ℕ) where
-  pub number-none : j ≡ 0 → col + 1 ≡ powerAt col first j
-  number-none e = rw (eq-yes j 0 e)
-
-  pub number-some : (j ≡ 0 → ⊥) → first + j ≡ powerAt col first j
-  number-some ne = rw (eq-no j 0 ne)
 
 -- the numbers of a column's powers
 module _ (col first s : ℕ) (old : List ℕ) where

@@ -199,17 +199,6 @@ pub fn count(p: usize, q: usize, amounts: &[u32], c: usize) -> usize
     n + payslips_count(p, q, amounts, &bits[..p], c, w)
 }
 
-// The value number of a base after j squarings.
-fn power_at(col: usize, first: usize, j: usize) -> u32
-    requires { ⌜ (col + 1 < 2 ^ 32) × (first + j < 2 ^ 32) ⌝ }
-    ensures { λ r. ⌜ r ≡ powerAt col first j ⌝ }
-{
-    if j == 0 {
-        return (col + 1) as u32;
-    }
-    (first + j) as u32
-}
-
 // The numbers of the first n powers of a column, from cell s on.
 fn number_column(col: usize, first: usize, n: usize, s: usize, cells: &mut [u32])
     requires { ⌜ (col < mostColumns) × (first + n < 2 ^ 32) × (s + n ≤ length (now cells)) ⌝ }
@@ -217,7 +206,7 @@ fn number_column(col: usize, first: usize, n: usize, s: usize, cells: &mut [u32]
 {
     let mut j: usize = 0;
     while j < n {
-        cells[s + j] = power_at(col, first, j);
+        cells[s + j] = methods::power_at(col, first, j);
         j += 1;
     }
 }

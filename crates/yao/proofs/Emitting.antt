@@ -7,10 +7,8 @@ use native.Mathlib.Decide.{ℕ-discrete}
 use native.Mathlib.Numerals.{add-one}
 use native.Mathlib.Omega.{arith}
 use Rattle.chain.specs.declared.Step.{Step}
-use Rattle.chain.proofs.Rules.{eq-yes, eq-no}
 use Rattle.digits.specs.Digits.{digit}
 use Rattle.methods.specs.Product.{Made, made, times}
-use Rattle.methods.specs.Powers.{powerAt}
 use Rattle.methods.specs.Emitted.{stepsIn, Room, Emitted}
 use Rattle.methods.proofs.Sound.{Begins, begins-own, begins-on, begins-rise}
 use Rattle.methods.proofs.Product.{times-begins}
@@ -19,14 +17,6 @@ use Rattle.yao.specs.Yao.{gatherOne, gather, Running, running}
 use Rattle.yao.specs.Emitted.{Reach, powerIn, Ran}
 use Rattle.yao.proofs.Gather.{one-yes, one-no}
 use Rattle.yao.proofs.Counting.{digit-place}
-
--- the number of a power
-module _ (c first j : ℕ) where
-  pub power-none : j ≡ 0 → c + 1 ≡ powerAt c first j
-  power-none e = rw (eq-yes j 0 e)
-
-  pub power-some : (j ≡ 0 → ⊥) → first + j ≡ powerAt c first j
-  power-some ne = rw (eq-no j 0 ne)
 
 -- one power
 module _ (p y d : ℕ) (cells : List ℕ) (n v w : ℕ) (room : Room p cells n (gatherOne p y d (made (stepsIn cells n) v) w .steps)) where

@@ -6,7 +6,6 @@ ghost use Rattle.chain.specs.Chain.{mostColumns, mostPayslips, mostSteps, flat}
 ghost use Rattle.chain.specs.Written.{over};
 ghost use Rattle.digits.specs.Range.{sumTo};
 ghost use Rattle.methods.specs.Product.{made, payslips};
-ghost use Rattle.methods.specs.Powers.{powerAt};
 ghost use Rattle.methods.specs.Emitted.{stepsIn, Room, Emitted};
 ghost use Rattle.yao.specs.Yao.{yaoDigits, yaoSquarings, gatherOne, gather, running, yaoPayslip, yao, amountCount, yaoCount};
 ghost use Rattle.yao.specs.Emitted.{Reach, powerIn, Ran, squaringsTo, joined, yaoSlip, payslipCount};
@@ -24,17 +23,6 @@ pub struct Pair {
     pub n: usize,
     pub a: u32,
     pub b: u32,
-}
-
-// The value number of a base after j squarings.
-fn power_at(c: usize, first: usize, j: usize) -> u32
-    requires { ⌜ (c + 1 < 2 ^ 32) × (first + j < 2 ^ 32) ⌝ }
-    ensures { λ r. ⌜ r ≡ powerAt c first j ⌝ }
-{
-    if j == 0 {
-        return (c + 1) as u32;
-    }
-    (first + j) as u32
 }
 
 // b times the power, where the digit is d.
@@ -72,7 +60,7 @@ fn gather_powers(
     let mut r = b;
     let mut i: usize = 0;
     while i < column.digits {
-        let power = power_at(column.c, column.first, k * i);
+        let power = methods::power_at(column.c, column.first, k * i);
         r = gather_one(p, digits::digit(k, x, i), d, r, power, steps);
         i += 1;
     }

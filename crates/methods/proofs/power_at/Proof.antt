@@ -1,7 +1,7 @@
-use Rattle.partition.proofs.Filling.{number-none, number-some}
 use borrow.Author.Needs.{needs}
-use Rattle.partition.proofs.power_at.Statement.{statement}
-use Rattle.partition.proofs.power_at.Tie as tie
+use Rattle.methods.proofs.Columns.{number-base, number-made}
+use Rattle.methods.proofs.power_at.Statement.{statement}
+use Rattle.methods.proofs.power_at.Tie as tie
 
 add-result : tie.Need-add-result
 add-result c = search needs
@@ -10,7 +10,7 @@ cast-result : tie.Need-cast-result
 cast-result c = search needs
 
 returns : tie.Need-returns
-returns c = search number-none
+returns c = search number-base
 
 add-result-2 : tie.Need-add-result-2
 add-result-2 c = search needs
@@ -19,7 +19,7 @@ cast-result-2 : tie.Need-cast-result-2
 cast-result-2 c = search needs
 
 returns-2 : tie.Need-returns-2
-returns-2 c = search number-some
+returns-2 c = search number-made
 
 pub power-at-spec : {M : Type 1} → statement M
 power-at-spec =

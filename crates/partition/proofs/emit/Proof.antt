@@ -1,6 +1,6 @@
 use native.Mathlib.Omega.{arith}
 use Prim.Native.Nat.{ℕ, _^_, _<_}
-use lib.ListN.{length, getD}
+use lib.ListN.{getD}
 use Rattle.partition.proofs.Taking.{bits-few}
 use Rattle.partition.proofs.Whole.{measured-is, measured-long, bits-are, inputs-told, counts-few, inputs-are, inputs-long}
 use borrow.Author.Needs.{needs}

@@ -1,6 +1,6 @@
 use native.Mathlib.Omega.{arith}
 use Prim.Native.Nat.{ℕ, _^_, _<_}
-use lib.ListN.{length, getD}
+use lib.ListN.{getD}
 use Rattle.partition.proofs.Taking.{inputs-few}
 use Rattle.partition.proofs.Paying.{members-long}
 use Rattle.partition.proofs.Whole.{counts-long, squares-room, tables-few, tables-room, first-told, first-fits, payslips-room, chain-steps, chain-outputs}

@@ -1,11 +1,10 @@
 use mathlib.Core.Path.{_≡_}
-use Prim.Native.Nat.{_+_, _*_, _≤_, _-_}
+use Prim.Native.Nat.{_≤_, _-_}
 use native.Mathlib.Omega.{arith}
 use lib.ListN.{length}
-use Rattle.methods.specs.Emitted.{stepsIn, Stored, Emitted}
-use Rattle.methods.proofs.Emitted.{stored-own, emitted-own}
+use Rattle.methods.specs.Emitted.{stepsIn, Emitted}
+use Rattle.methods.proofs.Emitted.{emitted-own, length-stepsIn}
 use Rattle.partition.specs.Partition.{groupCount, parts}
-use Rattle.methods.proofs.Emitted.{length-stepsIn}
 use Rattle.partition.proofs.Counting.{group-inside}
 use Rattle.partition.proofs.Emitting.{part-room, part-on, parts-end, weigh-fits}
 use borrow.Author.Needs.{needs}

@@ -1,9 +1,9 @@
 use mathlib.Core.Path.{_≡_}
-use Prim.Native.Nat.{_+_, _*_, _≤_, _-_}
+use Prim.Native.Nat.{_≤_, _-_}
 use native.Mathlib.Omega.{arith}
 use lib.ListN.{length}
-use Rattle.methods.specs.Emitted.{stepsIn, Stored, Emitted}
-use Rattle.methods.proofs.Emitted.{stored-own, emitted-own}
+use Rattle.methods.specs.Emitted.{stepsIn, Stored}
+use Rattle.methods.proofs.Emitted.{stored-own}
 use Rattle.partition.specs.Partition.{groupCount, groupTables}
 use Rattle.partition.proofs.Counting.{group-inside}
 use Rattle.partition.proofs.Emitting.{part-is, table-room, table-on, table-small, table-numbers, tables-end}

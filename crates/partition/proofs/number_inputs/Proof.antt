@@ -1,6 +1,6 @@
-use borrow.Author.Needs.{fits-under}
+use borrow.Author.Needs.{fits-under, needs}
 use mathlib.Core.Path.{_≡_}
-use Prim.Native.Nat.{_+_, _*_, _≤_, _-_}
+use Prim.Native.Nat.{_+_, _≤_, _-_}
 use native.Mathlib.Omega.{arith}
 use lib.ListN.{length}
 use Rattle.chain.specs.Written.{over}
@@ -8,7 +8,6 @@ use Rattle.digits.specs.Range.{sumTo}
 use Rattle.methods.specs.Powers.{countsOf}
 use Rattle.methods.proofs.Paying.{over-none}
 use Rattle.partition.proofs.Filling.{inputsTo, column-room, column-number, column-on, first-number, first-on, number-room, inputs-on, inputs-end}
-use borrow.Author.Needs.{needs}
 use Rattle.partition.proofs.number_inputs.Statement.{statement}
 use Rattle.partition.proofs.number_inputs.Tie as tie
 

@@ -1,5 +1,5 @@
 use mathlib.Core.Path.{_≡_}
-use Prim.Native.Nat.{_+_, _*_, _≤_, _-_}
+use Prim.Native.Nat.{_*_, _≤_, _-_}
 use Rattle.partition.proofs.Taking.{joinsTo, payslips-on, payslips-end}
 use borrow.Author.Needs.{needs}
 use Rattle.partition.proofs.payslips_count.Statement.{statement}

@@ -1,14 +1,13 @@
 use native.Mathlib.Omega.{arith}
-use borrow.Author.Needs.{fits-under}
+use borrow.Author.Needs.{fits-under, needs}
 use mathlib.Core.Path.{_≡_}
-use Prim.Native.Nat.{_+_, _*_, _≤_, _-_}
+use Prim.Native.Nat.{_≤_, _-_}
 use lib.ListN.{length}
 use Rattle.chain.specs.Written.{over}
 use Rattle.digits.specs.Range.{sumTo}
 use Rattle.methods.specs.Powers.{countsOf}
 use Rattle.methods.proofs.Paying.{over-none}
 use Rattle.partition.proofs.Filling.{takenTo, column-room, column-number, column-on, taken-on, taken-end}
-use borrow.Author.Needs.{needs}
 use Rattle.partition.proofs.take_inputs.Statement.{statement}
 use Rattle.partition.proofs.take_inputs.Tie as tie
 

@@ -1,19 +1,18 @@
 -- Laws by which the functions of counts keep to their contracts.
-use mathlib.Core.Path.{_≡_, refl, sym, ap, ap₂, _∙_}
-use mathlib.Core.List.{List, [], _∷_, _++_}
-use Prim.Native.Nat.{ℕ, zero, suc, _+_, _-_, _*_, _/_, _%_, _^_, _≤_, _<_, min}
-use native.Mathlib.Nat.{mul-comm, mul-le-mul-right, mul-le-mul-left, div-add-mod', mod-lt, le-trans, suc-mul, pow-suc}
-use native.Mathlib.Numerals.{add-one}
+use mathlib.Core.Path.{_≡_, sym, ap, ap₂, _∙_}
+use mathlib.Core.List.{List, [], _∷_}
+use Prim.Native.Nat.{ℕ, zero, suc, _+_, _-_, _*_, _^_, _≤_, _<_}
+use native.Mathlib.Nat.{mul-comm, mul-le-mul-right, mul-le-mul-left, div-add-mod', suc-mul, pow-suc}
 use native.Mathlib.Omega.{arith}
-use lib.ListN.{length, getD, take, drop, set, length-append, length-drop}
+use lib.ListN.{length, getD, drop}
 use lib.Pow.{pow-mono}
 use lib.Seq.{drop-cons, drop-length}
-use Rattle.digits.specs.Digits.{bitLength, digitCount, digit}
+use Rattle.digits.specs.Digits.{bitLength, digitCount}
 use Rattle.digits.specs.Range.{sumTo, sign}
-use Rattle.digits.proofs.Range.{sum-on, sign-low, signs-low}
+use Rattle.digits.proofs.Range.{sum-on, sign-low}
 use Rattle.digits.proofs.Count.{low-bits}
 use Rattle.methods.specs.Powers.{largestIn}
-use Rattle.partition.specs.Partition.{columnBits, powersOf, group, groupCount, groupSize, weigh}
+use Rattle.partition.specs.Partition.{columnBits, group, groupCount, groupSize, weigh}
 use Rattle.partition.proofs.Groups.{length-group, getD-group}
 
 -- a column's bits less some, b being the bits of its largest amount x
@@ -56,12 +55,6 @@ group-inside c w g G some e h =
     let le : suc g ≤ groupCount c w = omega arith in
     let wide : suc g * c ≤ groupCount c w * c = mul-le-mul-right c le in
     omega (arith, suc-mul g c, mul-comm c (groupCount c w))
-
-pub size-rest : (c w g : ℕ) → w - g * c < c → w - g * c ≡ groupSize c w g
-size-rest c w g h = omega arith
-
-pub size-full : (c w g : ℕ) → c ≤ w - g * c → c ≡ groupSize c w g
-size-full c w g h = omega arith
 
 -- the steps of a table
 inputs-below : (n : ℕ) → n + 1 ≤ 2 ^ n

@@ -1,9 +1,9 @@
 -- Laws by which the emitters of the groups' tables and of a payslip's parts keep to their contracts.
-use mathlib.Core.Path.{_≡_, refl, sym, ap, ap₂, _∙_}
-use mathlib.Core.List.{List, [], _∷_, _++_}
+use mathlib.Core.Path.{_≡_, sym, ap, ap₂, _∙_}
+use mathlib.Core.List.{List, _++_}
 use Prim.Native.Nat.{ℕ, zero, suc, _+_, _-_, _*_, _^_, _≤_, _<_, min}
 use native.Mathlib.Decide.{decLe}
-use native.Mathlib.Nat.{one-mul, suc-mul, mul-one, mul-le-mul-left, mul-le-mul-right}
+use native.Mathlib.Nat.{one-mul, suc-mul, mul-le-mul-left, mul-le-mul-right}
 use native.Mathlib.Numerals.{add-one}
 use native.Mathlib.Omega.{arith}
 use lib.ListN.{length, take, drop, length-drop}
@@ -12,16 +12,15 @@ use lib.Seq.{take-all}
 use Rattle.chain.specs.declared.Step.{Step}
 use Rattle.digits.specs.Range.{sumTo}
 use Rattle.digits.proofs.Range.{sum-same}
-use Rattle.methods.specs.Product.{Made, made, times}
+use Rattle.methods.specs.Product.{made, times}
 use Rattle.methods.specs.Table.{entry, table}
 use Rattle.methods.specs.Emitted.{stepsIn, Room, Stored, Emitted}
 use Rattle.methods.proofs.Sound.{Begins, begins-more, begins-rise, begins-length}
 use Rattle.methods.proofs.Product.{times-begins}
-use Rattle.methods.proofs.Emitted.{length-stepsIn, stored-own, stored-is, stored-on, stored-room, emits-room, emits-on}
+use Rattle.methods.proofs.Emitted.{stored-is, stored-on, stored-room, emits-room, emits-on}
 use Rattle.partition.specs.Partition.{group, groupCount, groupSize, groupTables, weigh, parts}
 use Rattle.partition.proofs.Groups.{length-group}
-use Rattle.partition.proofs.Tables.{partOf, tables-count}
-use Rattle.partition.proofs.Counting.{group-inside}
+use Rattle.partition.proofs.Tables.{tables-count}
 
 -- a group is the part of the inputs from its first member on
 module _ (c : ℕ) (l : List ℕ) (g size : ℕ) (is : size ≡ groupSize c (length l) g) where

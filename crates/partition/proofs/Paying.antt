@@ -13,7 +13,7 @@ use Rattle.methods.specs.Powers.{squarings}
 use Rattle.methods.specs.Table.{entry}
 use Rattle.methods.proofs.Powers.{squarings-count}
 use Rattle.methods.proofs.Sound.{Begins}
-use Rattle.partition.specs.Partition.{columnSquarings, inputs, taken, inputCount, group, groupCount, groupSize, groupTables, weigh, parts, squaringCount}
+use Rattle.partition.specs.Partition.{columnSquarings, inputs, taken, inputCount, group, groupCount, groupSize, weigh, parts, squaringCount}
 use Rattle.partition.proofs.Tables.{tables-count}
 use Rattle.partition.proofs.Parts.{part-number}
 use Rattle.partition.proofs.Members.{members-count, taken-count, taken-two}

@@ -1,7 +1,7 @@
 -- Laws by which a payslip's functions keep to their contracts: the columns' bits in a slice, and which inputs a payslip takes.
 use mathlib.Core.Path.{_≡_, refl, sym, ap, _∙_}
 use mathlib.Core.List.{List, []}
-use Prim.Native.Nat.{ℕ, zero, suc, _+_, _-_, _*_, _^_, _≤_, _<_}
+use Prim.Native.Nat.{ℕ, _+_, _-_, _*_, _^_, _≤_, _<_}
 use native.Mathlib.Decide.{decLt}
 use native.Mathlib.Nat.{add-mul, mul-comm, one-mul, mul-le-mul-right, lt-of-lt-of-le}
 use native.Mathlib.Omega.{arith}
@@ -14,7 +14,7 @@ use Rattle.digits.specs.Range.{sumTo, sign}
 use Rattle.digits.proofs.Range.{sum-on, sum-same, sum-low}
 use Rattle.sheet.specs.Sheet.{amount}
 use Rattle.methods.specs.Powers.{countsOf}
-use Rattle.partition.specs.Partition.{columnBits, powersOf, overInputs, taken, inputCount, group, groupCount, weigh}
+use Rattle.partition.specs.Partition.{columnBits, powersOf, taken, inputCount, group, groupCount, weigh}
 use Rattle.partition.proofs.Inputs.{length-powers, getD-powers, length-over, over-same}
 use Rattle.partition.proofs.Groups.{length-group}
 use Rattle.partition.proofs.Parts.{part-number}

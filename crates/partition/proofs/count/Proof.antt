@@ -25,16 +25,26 @@ array-share-prefix-bits : tie.Need-array-share-prefix-bits
 array-share-prefix-bits c = search needs
 
 slice-aggregate-payslips-count : tie.Need-slice-aggregate-payslips-count
-slice-aggregate-payslips-count c = let told = c .before .before .before .before .before in let s = told .before .before .before .args in measured-long (s .p) (s .q) (s .amounts .now) _ _ 0 (told .measure-columns .ensures)
+slice-aggregate-payslips-count c =
+    let told = c .before .before .before .before .before in
+    let s = told .before .before .before .args in
+    measured-long (s .p) (s .q) (s .amounts .now) _ _ 0 (told .measure-columns .ensures)
 
 payslips-count-requires : tie.Need-payslips-count-requires
-payslips-count-requires c κs = let told = c .before .before .before .before .before in let s = told .before .before .before .args in (search needs, search needs, search needs, search needs, search needs, bits-are (s .p) (s .q) (s .amounts .now) _ _ (told .measure-columns .ensures), inputs-told (s .p) (s .q) (s .amounts .now) _ (c .before .before .before .column-sum .ensures .0))
+payslips-count-requires c κs =
+    let told = c .before .before .before .before .before in
+    let s = told .before .before .before .args in
+    (search needs, search needs, search needs, search needs, search needs, bits-are (s .p) (s .q) (s .amounts .now) _ _ (told .measure-columns .ensures), inputs-told (s .p) (s .q) (s .amounts .now) _ (c .before .before .before .column-sum .ensures .0))
 
 add-result : tie.Need-add-result
 add-result c = search needs
 
 returns : tie.Need-returns
-returns c = let tables = c .before .before in let told = tables .before .before .before .before in let s = told .before .before .before .args in count-all (s .p) (s .q) (s .amounts .now) (s .c) _ _ _ _ (tables .before .before .column-sum .ensures .0) (tables .before .column-sum2 .ensures .0) (tables .tables-count .ensures .0) (c .payslips-count .ensures .0)
+returns c =
+    let tables = c .before .before in
+    let told = tables .before .before .before .before in
+    let s = told .before .before .before .args in
+    count-all (s .p) (s .q) (s .amounts .now) (s .c) _ _ _ _ (tables .before .before .column-sum .ensures .0) (tables .before .column-sum2 .ensures .0) (tables .tables-count .ensures .0) (c .payslips-count .ensures .0)
 
 pub count-spec : {M : Type 1} → statement M
 count-spec =

@@ -1,6 +1,6 @@
 use native.Mathlib.Omega.{arith}
 use Prim.Native.Nat.{ℕ, _^_, _<_}
-use lib.ListN.{length, getD}
+use lib.ListN.{getD}
 use Rattle.partition.proofs.Taking.{bits-few}
 use Rattle.partition.proofs.Whole.{measured-is, measured-long, bits-are, inputs-told, counts-few, inputs-are, inputs-long}
 use borrow.Author.Needs.{needs}
@@ -27,19 +27,37 @@ array-share-prefix-bits : tie.Need-array-share-prefix-bits
 array-share-prefix-bits c = search needs
 
 slice-aggregate-number-inputs : tie.Need-slice-aggregate-number-inputs
-slice-aggregate-number-inputs c = let told2 = c .before .before in let told1 = told2 .before .before .before in let k = told1 .before .before .before .before in let s = k .before in let a = s .args in measured-long (a .p) (a .q) (a .amounts .now) _ _ 0 (told1 .measure-columns .ensures)
+slice-aggregate-number-inputs c =
+    let told2 = c .before .before in
+    let told1 = told2 .before .before .before in
+    let k = told1 .before .before .before .before in
+    let s = k .before in
+    let a = s .args in
+    measured-long (a .p) (a .q) (a .amounts .now) _ _ 0 (told1 .measure-columns .ensures)
 
 array-share-prefix-counts : tie.Need-array-share-prefix-counts
 array-share-prefix-counts c = search needs
 
 slice-aggregate-number-inputs-2 : tie.Need-slice-aggregate-number-inputs-2
-slice-aggregate-number-inputs-2 c = let told2 = c .before .before .before in let told1 = told2 .before .before .before in let k = told1 .before .before .before .before in let s = k .before in let a = s .args in measured-long (a .p) (a .q) (a .amounts .now) _ _ 1 (told2 .measure-columns2 .ensures)
+slice-aggregate-number-inputs-2 c =
+    let told2 = c .before .before .before in
+    let told1 = told2 .before .before .before in
+    let k = told1 .before .before .before .before in
+    let s = k .before in
+    let a = s .args in
+    measured-long (a .p) (a .q) (a .amounts .now) _ _ 1 (told2 .measure-columns2 .ensures)
 
 slice-aggregate-number-inputs-3 : tie.Need-slice-aggregate-number-inputs-3
 slice-aggregate-number-inputs-3 c = search needs
 
 number-inputs-requires : tie.Need-number-inputs-requires
-number-inputs-requires c κs = let told2 = c .before .before .before .before in let told1 = told2 .before .before .before in let k = told1 .before .before .before .before in let s = k .before in let a = s .args in (search needs, omega (arith, measured-long (a .p) (a .q) (a .amounts .now) _ _ 0 (told1 .measure-columns .ensures)), omega (arith, measured-long (a .p) (a .q) (a .amounts .now) _ _ 1 (told2 .measure-columns2 .ensures)), bits-few (a .p) (a .q) (a .amounts .now) _ (bits-are (a .p) (a .q) (a .amounts .now) _ _ (told1 .measure-columns .ensures)) (low k) (s .pre .0 .1), counts-few (a .p) (a .q) (a .amounts .now) _ (measured-is (a .p) (a .q) (a .amounts .now) _ _ 1 (told2 .measure-columns2 .ensures)) (low k) (s .pre .0 .1), search needs)
+number-inputs-requires c κs =
+    let told2 = c .before .before .before .before in
+    let told1 = told2 .before .before .before in
+    let k = told1 .before .before .before .before in
+    let s = k .before in
+    let a = s .args in
+    (search needs, omega (arith, measured-long (a .p) (a .q) (a .amounts .now) _ _ 0 (told1 .measure-columns .ensures)), omega (arith, measured-long (a .p) (a .q) (a .amounts .now) _ _ 1 (told2 .measure-columns2 .ensures)), bits-few (a .p) (a .q) (a .amounts .now) _ (bits-are (a .p) (a .q) (a .amounts .now) _ _ (told1 .measure-columns .ensures)) (low k) (s .pre .0 .1), counts-few (a .p) (a .q) (a .amounts .now) _ (measured-is (a .p) (a .q) (a .amounts .now) _ _ 1 (told2 .measure-columns2 .ensures)) (low k) (s .pre .0 .1), search needs)
 
 column-sum-requires : tie.Need-column-sum-requires
 column-sum-requires c κs = search needs
@@ -48,22 +66,54 @@ array-share-prefix-bits-2 : tie.Need-array-share-prefix-bits-2
 array-share-prefix-bits-2 c = search needs
 
 slice-aggregate-make-chain : tie.Need-slice-aggregate-make-chain
-slice-aggregate-make-chain c = let summed = c .before in let numbered = summed .before .before in let told2 = numbered .before .before .before .before .before in let told1 = told2 .before .before .before in let k = told1 .before .before .before .before in let s = k .before in let a = s .args in measured-long (a .p) (a .q) (a .amounts .now) _ _ 0 (told1 .measure-columns .ensures)
+slice-aggregate-make-chain c =
+    let summed = c .before in
+    let numbered = summed .before .before in
+    let told2 = numbered .before .before .before .before .before in
+    let told1 = told2 .before .before .before in
+    let k = told1 .before .before .before .before in
+    let s = k .before in
+    let a = s .args in
+    measured-long (a .p) (a .q) (a .amounts .now) _ _ 0 (told1 .measure-columns .ensures)
 
 array-share-prefix-counts-2 : tie.Need-array-share-prefix-counts-2
 array-share-prefix-counts-2 c = search needs
 
 slice-aggregate-make-chain-2 : tie.Need-slice-aggregate-make-chain-2
-slice-aggregate-make-chain-2 c = let summed = c .before .before in let numbered = summed .before .before in let told2 = numbered .before .before .before .before .before in let told1 = told2 .before .before .before in let k = told1 .before .before .before .before in let s = k .before in let a = s .args in measured-long (a .p) (a .q) (a .amounts .now) _ _ 1 (told2 .measure-columns2 .ensures)
+slice-aggregate-make-chain-2 c =
+    let summed = c .before .before in
+    let numbered = summed .before .before in
+    let told2 = numbered .before .before .before .before .before in
+    let told1 = told2 .before .before .before in
+    let k = told1 .before .before .before .before in
+    let s = k .before in
+    let a = s .args in
+    measured-long (a .p) (a .q) (a .amounts .now) _ _ 1 (told2 .measure-columns2 .ensures)
 
 array-share-prefix-cells : tie.Need-array-share-prefix-cells
 array-share-prefix-cells c = search needs
 
 slice-aggregate-make-chain-3 : tie.Need-slice-aggregate-make-chain-3
-slice-aggregate-make-chain-3 c = let summed = c .before .before .before in let numbered = summed .before .before in let told2 = numbered .before .before .before .before .before in let told1 = told2 .before .before .before in let k = told1 .before .before .before .before in let s = k .before in let a = s .args in inputs-long (a .p) (a .q) (a .amounts .now) _ (measured-is (a .p) (a .q) (a .amounts .now) _ _ 1 (told2 .measure-columns2 .ensures)) _ _ _ (bits-are (a .p) (a .q) (a .amounts .now) _ _ (told1 .measure-columns .ensures)) _ (inputs-told (a .p) (a .q) (a .amounts .now) _ (summed .column-sum .ensures .0)) (numbered .number-inputs .ensures)
+slice-aggregate-make-chain-3 c =
+    let summed = c .before .before .before in
+    let numbered = summed .before .before in
+    let told2 = numbered .before .before .before .before .before in
+    let told1 = told2 .before .before .before in
+    let k = told1 .before .before .before .before in
+    let s = k .before in
+    let a = s .args in
+    inputs-long (a .p) (a .q) (a .amounts .now) _ (measured-is (a .p) (a .q) (a .amounts .now) _ _ 1 (told2 .measure-columns2 .ensures)) _ _ _ (bits-are (a .p) (a .q) (a .amounts .now) _ _ (told1 .measure-columns .ensures)) _ (inputs-told (a .p) (a .q) (a .amounts .now) _ (summed .column-sum .ensures .0)) (numbered .number-inputs .ensures)
 
 make-chain-requires : tie.Need-make-chain-requires
-make-chain-requires c κs = let summed = c .before .before .before .before .before in let numbered = summed .before .before in let told2 = numbered .before .before .before .before .before in let told1 = told2 .before .before .before in let k = told1 .before .before .before .before in let s = k .before in let a = s .args in ((search needs, search needs, search needs, search needs, bits-are (a .p) (a .q) (a .amounts .now) _ _ (told1 .measure-columns .ensures), inputs-are (a .p) (a .q) (a .amounts .now) _ (measured-is (a .p) (a .q) (a .amounts .now) _ _ 1 (told2 .measure-columns2 .ensures)) _ _ _ (bits-are (a .p) (a .q) (a .amounts .now) _ _ (told1 .measure-columns .ensures)) _ (inputs-told (a .p) (a .q) (a .amounts .now) _ (summed .column-sum .ensures .0)) (numbered .number-inputs .ensures), measured-is (a .p) (a .q) (a .amounts .now) _ _ 1 (told2 .measure-columns2 .ensures)), search needs)
+make-chain-requires c κs =
+    let summed = c .before .before .before .before .before in
+    let numbered = summed .before .before in
+    let told2 = numbered .before .before .before .before .before in
+    let told1 = told2 .before .before .before in
+    let k = told1 .before .before .before .before in
+    let s = k .before in
+    let a = s .args in
+    ((search needs, search needs, search needs, search needs, bits-are (a .p) (a .q) (a .amounts .now) _ _ (told1 .measure-columns .ensures), inputs-are (a .p) (a .q) (a .amounts .now) _ (measured-is (a .p) (a .q) (a .amounts .now) _ _ 1 (told2 .measure-columns2 .ensures)) _ _ _ (bits-are (a .p) (a .q) (a .amounts .now) _ _ (told1 .measure-columns .ensures)) _ (inputs-told (a .p) (a .q) (a .amounts .now) _ (summed .column-sum .ensures .0)) (numbered .number-inputs .ensures), measured-is (a .p) (a .q) (a .amounts .now) _ _ 1 (told2 .measure-columns2 .ensures)), search needs)
 
 same-length : tie.Need-same-length
 same-length c = search needs

@@ -1,8 +1,7 @@
-use borrow.Author.Needs.{fits-under}
+use borrow.Author.Needs.{fits-under, needs}
 use mathlib.Core.Path.{_≡_}
-use Prim.Native.Nat.{_+_, _*_, _≤_, _-_}
+use Prim.Native.Nat.{_≤_, _-_}
 use Rattle.partition.proofs.Counting.{signsTo, group-inside, signs-on, sign-added, sign-fits, joins-none, joins-end}
-use borrow.Author.Needs.{needs}
 use Rattle.partition.proofs.joins.Statement.{statement}
 use Rattle.partition.proofs.joins.Tie as tie
 

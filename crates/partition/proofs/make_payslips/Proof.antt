@@ -1,5 +1,5 @@
 use mathlib.Core.Path.{_≡_}
-use Prim.Native.Nat.{_+_, _*_, _≤_, _-_}
+use Prim.Native.Nat.{_≤_, _-_}
 use native.Mathlib.Omega.{arith}
 use lib.ListN.{length, length-set}
 use Rattle.chain.specs.Written.{over}
@@ -21,7 +21,11 @@ loop-holds : tie.Need-loop-holds Inv-loop μ-loop
 loop-holds c = (search needs, search needs, search needs, search needs, search paid-none, search over-none)
 
 make-payslip-requires : tie.Need-make-payslip-requires Inv-loop μ-loop
-make-payslip-requires c κs = let start = c .before .before in let s = start .before .before .before .before .before .before in let a = s .args in ((search needs, search needs, search needs, search needs, search needs, search needs, search needs, omega (arith, start .loop .inv .1, s .pre .0 .7), search needs), pay-room (slip (a .p) (a .q) (a .amounts .now) (a .c)) (stepsIn (a .steps .now) (a .n)) (slip-begins (a .p) (a .q) (a .amounts .now) (a .c)) (a .steps .now) _ _ (start .loop .i) (start .loop .inv .4) (a .p) (a .n) (a .q) (s .pre .1) (c .before .loop-test .taken))
+make-payslip-requires c κs =
+    let start = c .before .before in
+    let s = start .before .before .before .before .before .before in
+    let a = s .args in
+    ((search needs, search needs, search needs, search needs, search needs, search needs, search needs, omega (arith, start .loop .inv .1, s .pre .0 .7), search needs), pay-room (slip (a .p) (a .q) (a .amounts .now) (a .c)) (stepsIn (a .steps .now) (a .n)) (slip-begins (a .p) (a .q) (a .amounts .now) (a .c)) (a .steps .now) _ _ (start .loop .i) (start .loop .inv .4) (a .p) (a .n) (a .q) (s .pre .1) (c .before .loop-test .taken))
 
 mul-outputs : tie.Need-mul-outputs Inv-loop μ-loop
 mul-outputs c = search needs
@@ -36,7 +40,12 @@ loop-less : tie.Need-loop-less Inv-loop μ-loop
 loop-less c = search needs
 
 loop-again : tie.Need-loop-again Inv-loop μ-loop
-loop-again c = let paid = c .before .before in let start = paid .before .before .before in let s = start .before .before .before .before .before .before in let a = s .args in (search needs, search needs, simp length-set (search needs), simp length-set (search needs), pay-steps (slip (a .p) (a .q) (a .amounts .now) (a .c)) (stepsIn (a .steps .now) (a .n)) (slip-begins (a .p) (a .q) (a .amounts .now) (a .c)) (a .steps .now) _ _ (start .loop .i) (start .loop .inv .4) _ _ _ (paid .make-payslip .ensures), pay-output (slip (a .p) (a .q) (a .amounts .now) (a .c)) (stepsIn (a .steps .now) (a .n)) (slip-begins (a .p) (a .q) (a .amounts .now) (a .c)) (a .steps .now) _ _ (start .loop .i) (start .loop .inv .4) _ _ _ (paid .make-payslip .ensures) (a .outputs .now) _ (omega (arith, start .loop .inv .2, start .loop .inv .3, paid .before .before .loop-test .taken)) (start .loop .inv .5))
+loop-again c =
+    let paid = c .before .before in
+    let start = paid .before .before .before in
+    let s = start .before .before .before .before .before .before in
+    let a = s .args in
+    (search needs, search needs, simp length-set (search needs), simp length-set (search needs), pay-steps (slip (a .p) (a .q) (a .amounts .now) (a .c)) (stepsIn (a .steps .now) (a .n)) (slip-begins (a .p) (a .q) (a .amounts .now) (a .c)) (a .steps .now) _ _ (start .loop .i) (start .loop .inv .4) _ _ _ (paid .make-payslip .ensures), pay-output (slip (a .p) (a .q) (a .amounts .now) (a .c)) (stepsIn (a .steps .now) (a .n)) (slip-begins (a .p) (a .q) (a .amounts .now) (a .c)) (a .steps .now) _ _ (start .loop .i) (start .loop .inv .4) _ _ _ (paid .make-payslip .ensures) (a .outputs .now) _ (omega (arith, start .loop .inv .2, start .loop .inv .3, paid .before .before .loop-test .taken)) (start .loop .inv .5))
 
 same-length : tie.Need-same-length Inv-loop μ-loop
 same-length c = search needs
@@ -45,7 +54,11 @@ same-length-2 : tie.Need-same-length-2 Inv-loop μ-loop
 same-length-2 c = search needs
 
 returns : tie.Need-returns Inv-loop μ-loop
-returns c = let start = c .before in let s = start .before .before .before .before .before .before in let a = s .args in (paid-steps (slip (a .p) (a .q) (a .amounts .now) (a .c)) (stepsIn (a .steps .now) (a .n)) (start .loop .i) (a .q) (start .loop .inv .0) (c .loop-test .left) (a .steps .now) _ _ (start .loop .inv .4), paid-outputs (slip (a .p) (a .q) (a .amounts .now) (a .c)) (stepsIn (a .steps .now) (a .n)) (start .loop .i) (a .q) (start .loop .inv .0) (c .loop-test .left) (a .outputs .now) _ (start .loop .inv .5))
+returns c =
+    let start = c .before in
+    let s = start .before .before .before .before .before .before in
+    let a = s .args in
+    (paid-steps (slip (a .p) (a .q) (a .amounts .now) (a .c)) (stepsIn (a .steps .now) (a .n)) (start .loop .i) (a .q) (start .loop .inv .0) (c .loop-test .left) (a .steps .now) _ _ (start .loop .inv .4), paid-outputs (slip (a .p) (a .q) (a .amounts .now) (a .c)) (stepsIn (a .steps .now) (a .n)) (start .loop .i) (a .q) (start .loop .inv .0) (c .loop-test .left) (a .outputs .now) _ (start .loop .inv .5))
 
 pub make-payslips-spec : {M : Type 1} → statement M
 make-payslips-spec =

@@ -1,5 +1,5 @@
 use mathlib.Core.Path.{_≡_}
-use Prim.Native.Nat.{_+_, _*_, _≤_, _-_}
+use Prim.Native.Nat.{_≤_, _-_}
 use lib.ListN.{length, length-set}
 use Rattle.chain.specs.Written.{over}
 use Rattle.methods.proofs.Paying.{over-none}
@@ -42,7 +42,10 @@ same-length : tie.Need-same-length Inv-loop μ-loop
 same-length c = search needs
 
 returns : tie.Need-returns Inv-loop μ-loop
-returns c = let start = c .before in let s = start .before .before .before .args in measure-end (s .p) (s .q) (s .amounts .now) (s .less) (s .cells .now) (start .loop .col) _ (start .loop .inv .2) (start .loop .inv .0) (c .loop-test .left)
+returns c =
+    let start = c .before in
+    let s = start .before .before .before .args in
+    measure-end (s .p) (s .q) (s .amounts .now) (s .less) (s .cells .now) (start .loop .col) _ (start .loop .inv .2) (start .loop .inv .0) (c .loop-test .left)
 
 pub measure-columns-spec : {M : Type 1} → statement M
 measure-columns-spec =

@@ -1,6 +1,6 @@
-use borrow.Author.Needs.{fits-under}
+use borrow.Author.Needs.{fits-under, needs}
 use mathlib.Core.Path.{_≡_}
-use Prim.Native.Nat.{_+_, _*_, _≤_, _-_}
+use Prim.Native.Nat.{_+_, _≤_, _-_}
 use native.Mathlib.Omega.{arith}
 use lib.ListN.{length}
 use Rattle.chain.specs.Written.{over}
@@ -8,7 +8,6 @@ use Rattle.digits.specs.Range.{sumTo}
 use Rattle.methods.specs.Powers.{countsOf}
 use Rattle.methods.proofs.Paying.{over-none}
 use Rattle.partition.proofs.Filling.{inputsTo, column-room, column-number, column-on, first-number, first-on, number-room, inputs-on, inputs-end}
-use borrow.Author.Needs.{needs}
 use Rattle.partition.proofs.number_inputs.Statement.{statement}
 use Rattle.partition.proofs.number_inputs.Tie as tie
 
@@ -55,13 +54,20 @@ loop-less : tie.Need-loop-less Inv-loop μ-loop
 loop-less c = search needs
 
 loop-again : tie.Need-loop-again Inv-loop μ-loop
-loop-again c = let numbered = c .before .before .before in let start = numbered .before .before .before .before in let a = start .before .before .before .before .args in (search needs, search needs, search column-on, search first-on, inputs-on (a .p) (a .bits .now) (a .counts .now) (a .cells .now) (start .loop .col) _ _ _ _ (start .loop .inv .2) (start .loop .inv .3) (start .loop .inv .4) (numbered .number-column .ensures))
+loop-again c =
+    let numbered = c .before .before .before in
+    let start = numbered .before .before .before .before in
+    let a = start .before .before .before .before .args in
+    (search needs, search needs, search column-on, search first-on, inputs-on (a .p) (a .bits .now) (a .counts .now) (a .cells .now) (start .loop .col) _ _ _ _ (start .loop .inv .2) (start .loop .inv .3) (start .loop .inv .4) (numbered .number-column .ensures))
 
 same-length : tie.Need-same-length Inv-loop μ-loop
 same-length c = search needs
 
 returns : tie.Need-returns Inv-loop μ-loop
-returns c = let start = c .before in let a = start .before .before .before .before .args in inputs-end (a .p) (a .bits .now) (a .counts .now) (a .cells .now) (start .loop .col) _ (start .loop .inv .4) (start .loop .inv .0) (c .loop-test .left)
+returns c =
+    let start = c .before in
+    let a = start .before .before .before .before .args in
+    inputs-end (a .p) (a .bits .now) (a .counts .now) (a .cells .now) (start .loop .col) _ (start .loop .inv .4) (start .loop .inv .0) (c .loop-test .left)
 
 pub number-inputs-spec : {M : Type 1} → statement M
 number-inputs-spec =

@@ -1,10 +1,9 @@
-use borrow.Author.Needs.{fits-under}
+use borrow.Author.Needs.{fits-under, needs}
 use mathlib.Core.Path.{_≡_}
-use Prim.Native.Nat.{_+_, _*_, _≤_, _-_}
+use Prim.Native.Nat.{_≤_, _-_}
 use lib.ListN.{drop}
 use Rattle.partition.specs.Partition.{group, weigh}
 use Rattle.partition.proofs.Counting.{part-start, part-on, part-fits, part-twice, part-cell, part-end}
-use borrow.Author.Needs.{needs}
 use Rattle.partition.proofs.part.Statement.{statement}
 use Rattle.partition.proofs.part.Tie as tie
 

@@ -1,7 +1,6 @@
-use borrow.Author.Needs.{fits-under}
+use borrow.Author.Needs.{fits-under, needs}
 use native.Mathlib.Omega.{arith}
 use Rattle.partition.proofs.Emitting.{product-fits, sum-fits, number-fits, entry-low, entry-number, entry-told}
-use borrow.Author.Needs.{needs}
 use Rattle.partition.proofs.part_value.Statement.{statement}
 use Rattle.partition.proofs.part_value.Tie as tie
 
@@ -21,13 +20,19 @@ table-count-requires : tie.Need-table-count-requires
 table-count-requires c κs = search needs
 
 mul-at : tie.Need-mul-at
-mul-at c = let s = c .before .before .before in fits-under _ _ 1000000 (product-fits (s .args .p) (s .args .c) (s .args .g) (s .args .first) _ (s .args .inputs .now) (s .pre .1) (s .pre .3) (s .pre .5) (c .table-count .ensures .1)) tt
+mul-at c =
+    let s = c .before .before .before in
+    fits-under _ _ 1000000 (product-fits (s .args .p) (s .args .c) (s .args .g) (s .args .first) _ (s .args .inputs .now) (s .pre .1) (s .pre .3) (s .pre .5) (c .table-count .ensures .1)) tt
 
 add-at-2 : tie.Need-add-at-2
-add-at-2 c = let s = c .before .before .before in fits-under _ _ 1000000 (sum-fits (s .args .p) (s .args .c) (s .args .g) (s .args .first) _ (s .args .inputs .now) (s .pre .1) (s .pre .3) (s .pre .5) (c .table-count .ensures .1) (s .pre .0) (s .pre .4)) tt
+add-at-2 c =
+    let s = c .before .before .before in
+    fits-under _ _ 1000000 (sum-fits (s .args .p) (s .args .c) (s .args .g) (s .args .first) _ (s .args .inputs .now) (s .pre .1) (s .pre .3) (s .pre .5) (c .table-count .ensures .1) (s .pre .0) (s .pre .4)) tt
 
 add-at-3 : tie.Need-add-at-3
-add-at-3 c = let s = c .before .before .before in fits-under _ _ 1000000 (number-fits (s .args .p) (s .args .c) (s .args .g) (s .args .first) _ (s .args .inputs .now) (s .pre .1) (s .pre .3) (s .pre .5) (c .table-count .ensures .1) (s .pre .0) (s .pre .4)) tt
+add-at-3 c =
+    let s = c .before .before .before in
+    fits-under _ _ 1000000 (number-fits (s .args .p) (s .args .c) (s .args .g) (s .args .first) _ (s .args .inputs .now) (s .pre .1) (s .pre .3) (s .pre .5) (c .table-count .ensures .1) (s .pre .0) (s .pre .4)) tt
 
 mul-entry : tie.Need-mul-entry
 mul-entry c = search needs
@@ -42,13 +47,23 @@ part-entry-end : tie.Need-part-entry-end
 part-entry-end c = search needs
 
 cast-entry : tie.Need-cast-entry
-cast-entry c = let k = c .before in let s = k .before .before .before in omega (arith, number-fits (s .args .p) (s .args .c) (s .args .g) (s .args .first) _ (s .args .inputs .now) (s .pre .1) (s .pre .3) (s .pre .5) (k .table-count .ensures .1) (s .pre .0) (s .pre .4))
+cast-entry c =
+    let k = c .before in
+    let s = k .before .before .before in
+    omega (arith, number-fits (s .args .p) (s .args .c) (s .args .g) (s .args .first) _ (s .args .inputs .now) (s .pre .1) (s .pre .3) (s .pre .5) (k .table-count .ensures .1) (s .pre .0) (s .pre .4))
 
 entry-requires : tie.Need-entry-requires
-entry-requires c κs = let k = c .before in let s = k .before .before .before in let is = k .before .group-size .ensures in (search needs, search needs, search needs, entry-number (s .args .p) (s .args .c) (s .args .g) (s .args .first) 0 (s .args .t) _ (s .args .inputs .now) is _ (number-fits (s .args .p) (s .args .c) (s .args .g) (s .args .first) _ (s .args .inputs .now) (s .pre .1) (s .pre .3) (s .pre .5) (k .table-count .ensures .1) (s .pre .0) (s .pre .4)) (s .pre .2) (s .pre .6), entry-low (s .args .p) (s .args .c) (s .args .g) (s .args .first) 0 (s .args .t) _ (s .args .inputs .now) is (s .pre .6))
+entry-requires c κs =
+    let k = c .before in
+    let s = k .before .before .before in
+    let is = k .before .group-size .ensures in
+    (search needs, search needs, search needs, entry-number (s .args .p) (s .args .c) (s .args .g) (s .args .first) 0 (s .args .t) _ (s .args .inputs .now) is _ (number-fits (s .args .p) (s .args .c) (s .args .g) (s .args .first) _ (s .args .inputs .now) (s .pre .1) (s .pre .3) (s .pre .5) (k .table-count .ensures .1) (s .pre .0) (s .pre .4)) (s .pre .2) (s .pre .6), entry-low (s .args .p) (s .args .c) (s .args .g) (s .args .first) 0 (s .args .t) _ (s .args .inputs .now) is (s .pre .6))
 
 returns : tie.Need-returns
-returns c = let k = c .before .before in let s = k .before .before .before in entry-told (s .args .p) (s .args .c) (s .args .g) (s .args .first) _ (s .args .t) _ (s .args .inputs .now) (k .before .group-size .ensures) _ (k .table-count .ensures .0) (c .entry .ensures)
+returns c =
+    let k = c .before .before in
+    let s = k .before .before .before in
+    entry-told (s .args .p) (s .args .c) (s .args .g) (s .args .first) _ (s .args .t) _ (s .args .inputs .now) (k .before .group-size .ensures) _ (k .table-count .ensures .0) (c .entry .ensures)
 
 pub part-value-spec : {M : Type 1} → statement M
 part-value-spec =

@@ -1,5 +1,5 @@
 use mathlib.Core.Path.{_≡_}
-use Prim.Native.Nat.{_+_, _*_, _≤_, _-_}
+use Prim.Native.Nat.{_*_, _≤_, _-_}
 use Rattle.partition.proofs.Counting.{tablesTo, group-inside, size-few, tables-on, tables-end}
 use borrow.Author.Needs.{needs}
 use Rattle.partition.proofs.tables_count.Statement.{statement}

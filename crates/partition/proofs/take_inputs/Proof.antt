@@ -1,14 +1,13 @@
 use native.Mathlib.Omega.{arith}
-use borrow.Author.Needs.{fits-under}
+use borrow.Author.Needs.{fits-under, needs}
 use mathlib.Core.Path.{_≡_}
-use Prim.Native.Nat.{_+_, _*_, _≤_, _-_}
+use Prim.Native.Nat.{_≤_, _-_}
 use lib.ListN.{length}
 use Rattle.chain.specs.Written.{over}
 use Rattle.digits.specs.Range.{sumTo}
 use Rattle.methods.specs.Powers.{countsOf}
 use Rattle.methods.proofs.Paying.{over-none}
 use Rattle.partition.proofs.Filling.{takenTo, column-room, column-number, column-on, taken-on, taken-end}
-use borrow.Author.Needs.{needs}
 use Rattle.partition.proofs.take_inputs.Statement.{statement}
 use Rattle.partition.proofs.take_inputs.Tie as tie
 
@@ -46,13 +45,21 @@ loop-less : tie.Need-loop-less Inv-loop μ-loop
 loop-less c = search needs
 
 loop-again : tie.Need-loop-again Inv-loop μ-loop
-loop-again c = let taking = c .before .before in let told = taking .before .before in let start = told .before .before .before in let s = start .before .before .before .before .args in (search needs, search needs, search column-on, taken-on (s .p) (s .amounts .now) (s .bits .now) (s .i) (s .cells .now) (start .loop .col) _ _ _ _ (start .loop .inv .2) (told .amount .ensures) (start .loop .inv .3) (taking .take-column .ensures))
+loop-again c =
+    let taking = c .before .before in
+    let told = taking .before .before in
+    let start = told .before .before .before in
+    let s = start .before .before .before .before .args in
+    (search needs, search needs, search column-on, taken-on (s .p) (s .amounts .now) (s .bits .now) (s .i) (s .cells .now) (start .loop .col) _ _ _ _ (start .loop .inv .2) (told .amount .ensures) (start .loop .inv .3) (taking .take-column .ensures))
 
 same-length : tie.Need-same-length Inv-loop μ-loop
 same-length c = search needs
 
 returns : tie.Need-returns Inv-loop μ-loop
-returns c = let start = c .before in let s = start .before .before .before .before .args in taken-end (s .p) (s .amounts .now) (s .bits .now) (s .i) (s .cells .now) (start .loop .col) _ (start .loop .inv .3) (start .loop .inv .0) (c .loop-test .left)
+returns c =
+    let start = c .before in
+    let s = start .before .before .before .before .args in
+    taken-end (s .p) (s .amounts .now) (s .bits .now) (s .i) (s .cells .now) (start .loop .col) _ (start .loop .inv .3) (start .loop .inv .0) (c .loop-test .left)
 
 pub take-inputs-spec : {M : Type 1} → statement M
 take-inputs-spec =

@@ -13,7 +13,7 @@ use Rattle.digits.proofs.Range.{sum-on, sign-low}
 use Rattle.digits.proofs.Count.{low-bits}
 use Rattle.methods.specs.Powers.{largestIn}
 use Rattle.partition.specs.Partition.{columnBits, group, groupCount, groupSize, weigh}
-use Rattle.partition.proofs.Groups.{length-group, getD-group}
+use Rattle.partition.proofs.Groups.{inputs-below, length-group, getD-group}
 
 -- a column's bits less some, b being the bits of its largest amount x
 module _ (p q : ℕ) (amounts : List ℕ) (less col x b : ℕ) (is : x ≡ largestIn p q amounts col) (e : b ≡ digitCount 1 x) where
@@ -57,10 +57,6 @@ group-inside c w g G some e h =
     omega (arith, suc-mul g c, mul-comm c (groupCount c w))
 
 -- the steps of a table
-inputs-below : (n : ℕ) → n + 1 ≤ 2 ^ n
-inputs-below zero = omega arith
-inputs-below (suc n) = rw (pow-suc 2 n) (omega (arith, inputs-below n))
-
 pub table-some : (n x : ℕ) → x ≡ 2 ^ n → n + 1 ≤ x
 table-some n x e = omega (arith, inputs-below n)
 

@@ -24,6 +24,11 @@ getD-group c g l j h =
 pub group-within : (c g w j : ℕ) → j < groupSize c w g → g * c + j < w
 group-within c g w j h = omega arith
 
+-- a table has an entry for each unit, and one for zero
+pub inputs-below : (n : ℕ) → n + 1 ≤ 2 ^ n
+inputs-below zero = omega arith
+inputs-below (suc n) = rw (pow-suc 2 n) (omega (arith, inputs-below n))
+
 -- how many inputs the first g groups hold
 abbrev pub reached : ℕ → ℕ → ℕ → ℕ
 reached c w g = min (g * c) w

@@ -21,7 +21,7 @@ use Rattle.methods.proofs.Product.{Result, result-like}
 use Rattle.methods.proofs.Powers.{Powers, powers, squarings-count}
 use Rattle.methods.proofs.Payslips.{Pays, pays-legal, payslips-make, payslips-count}
 use Rattle.partition.specs.Partition.{columnBits, columnSquarings, inputs, taken, inputCount, group, groupCount, groupSize, weigh, groupTables, parts, partition, squaringCount, partitionCount, groupCeiling, partitionCeiling}
-use Rattle.partition.proofs.Groups.{reached, reached-all}
+use Rattle.partition.proofs.Groups.{inputs-below, reached, reached-all}
 use Rattle.partition.proofs.Tables.{Grouped, tables-count, tables-make}
 use Rattle.partition.proofs.Parts.{parts-make, parts-count}
 use Rattle.partition.proofs.Members.{exponentIn, members-count, taken-count, taken-two, members-some, members-make, members-sum, column-bits, taken-sum}
@@ -31,12 +31,8 @@ table-more : (g c : ℕ) → g ≤ c → 2 ^ g - g - 1 ≤ 2 ^ c - c - 1
 table-more g zero h = let e : g ≡ 0 = omega arith in rw e (le-refl _)
 table-more g (suc c) h = by-size (table-more g c) (decLe g c)
   where
-    grows : (n : ℕ) → n + 1 ≤ 2 ^ n
-    grows zero = omega arith
-    grows (suc n) = rw (pow-suc 2 n) (omega (arith, grows n))
-
     by-size : (g ≤ c → 2 ^ g - g - 1 ≤ 2 ^ c - c - 1) → Dec (g ≤ c) → 2 ^ g - g - 1 ≤ 2 ^ suc c - suc c - 1
-    by-size ih (yes le) = rw (pow-suc 2 c) (omega (arith, ih le, grows c))
+    by-size ih (yes le) = rw (pow-suc 2 c) (omega (arith, ih le, inputs-below c))
     by-size ih (no gt) = let e : g ≡ suc c = omega arith in rw e (le-refl _)
 
 -- the count keeps to the ceiling

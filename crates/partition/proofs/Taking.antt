@@ -22,12 +22,6 @@ use Rattle.partition.proofs.Members.{taken-count, taken-two, column-bit
 use Rattle.partition.proofs.Counting.{signsTo}
 use Rattle.partition.proofs.Filling.{takenTo}
 
--- payslip i is on the sheet
-pub payslip-within : (p q i n : ℕ) → n ≡ p * q → i < q → i * p + p ≤ n
-payslip-within p q i n e h =
-    let le : i + 1 ≤ q = omega arith in
-    omega (arith, mul-le-mul-right p le, add-mul i 1 p, one-mul p, mul-comm p q)
-
 -- the inputs are few, for amounts of 32 bits
 module _ (p q : ℕ) (amounts : List ℕ) (low : (j : ℕ) → getD amounts j 0 < 2 ^ 32) where
   pub column-few : (col : ℕ) → columnBits p q amounts col ≤ 32

@@ -25,3 +25,7 @@ fit-amounts p q amounts e = sym (refuse-no _ 2 0 (ne-no _ _ e))
 -- payslip i's amount in column c is one of them
 pub amount-there : (p q i c n : ℕ) → i < q → c < p → n ≡ p * q → i * p + c < n
 amount-there p q i c n h k e = omega (arith, mul-le-mul-right {m = suc i} {n = q} p h, suc-mul i p, mul-comm p q)
+
+-- and so are all of payslip i's
+pub payslip-within : (p q i n : ℕ) → n ≡ p * q → i < q → i * p + p ≤ n
+payslip-within p q i n e h = omega (arith, mul-le-mul-right {m = suc i} {n = q} p h, suc-mul i p, mul-comm p q)

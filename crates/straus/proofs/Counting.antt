@@ -125,12 +125,6 @@ columns-below p k w e some =
     let grown : 2 ^ p ≤ 2 ^ (p * k) = pow-mono wide in
     omega (arith, below-power p)
 
--- payslip i is on the sheet
-pub payslip-within : (p q i n : ℕ) → n ≡ p * q → i < q → i * p + p ≤ n
-payslip-within p q i n e h =
-    let le : i + 1 ≤ q = omega arith in
-    omega (arith, mul-le-mul-right p le, add-mul i 1 p, one-mul p, mul-comm p q)
-
 pub costs-on : (p k : ℕ) (amounts : List ℕ) (n i r b : ℕ) → r ≡ payslipCost p k amounts i → n ≡ b + costsTo p k amounts i → n + r ≡ b + costsTo p k amounts (i + 1)
 costs-on p k amounts n i r b is e = omega (arith, sum-on (payslipCost p k amounts) i (costsTo p k amounts i) r is refl)
 

@@ -3,7 +3,8 @@ use Prim.Native.Nat.{ℕ, _^_, _<_}
 use lib.ListN.{length, getD}
 use Rattle.methods.specs.Emitted.{stepsIn}
 use Rattle.methods.proofs.Emitted.{length-stepsIn}
-use Rattle.partition.proofs.Taking.{payslip-within, inputs-few, bits-long, bits-low, bits-few, taken-is, taken-long}
+use Rattle.partition.proofs.Taking.{inputs-few, bits-long, bits-low, bits-few, taken-is, taken-long}
+use Rattle.sheet.proofs.Amounts.{payslip-within}
 use Rattle.partition.proofs.Paying.{members-long, first-few, slip-is, same-long, parts-number}
 use borrow.Author.Needs.{needs}
 use Rattle.partition.proofs.make_payslip.Statement.{statement}

@@ -2,7 +2,8 @@ use borrow.Author.Needs.{needs}
 use native.Mathlib.Omega.{arith}
 use Prim.Native.Nat.{ℕ, _^_, _<_}
 use lib.ListN.{getD}
-use Rattle.partition.proofs.Taking.{payslip-within, inputs-few, bits-long, bits-low, bits-few, taken-long, parts-low, joins-told}
+use Rattle.partition.proofs.Taking.{inputs-few, bits-long, bits-low, bits-few, taken-long, parts-low, joins-told}
+use Rattle.sheet.proofs.Amounts.{payslip-within}
 use Rattle.partition.proofs.payslip_count.Statement.{statement}
 use Rattle.partition.proofs.payslip_count.Tie as tie
 

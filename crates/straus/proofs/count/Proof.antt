@@ -3,7 +3,8 @@ use mathlib.Core.Path.{_≡_}
 use Prim.Native.Nat.{_+_, _*_, _≤_, _-_}
 use native.Mathlib.Nat.{mul-comm}
 use native.Mathlib.Omega.{arith}
-use Rattle.straus.proofs.Counting.{costsTo, columns-below, payslip-within, costs-on, count-all}
+use Rattle.straus.proofs.Counting.{costsTo, columns-below, costs-on, count-all}
+use Rattle.sheet.proofs.Amounts.{payslip-within}
 use Rattle.straus.proofs.count.Statement.{statement}
 use Rattle.straus.proofs.count.Tie as tie
 

@@ -6,7 +6,7 @@ use Rattle.chain.specs.Written.{over}
 use Rattle.methods.specs.Product.{payslips}
 use Rattle.methods.specs.Emitted.{stepsIn, Stored}
 use Rattle.straus.specs.Straus.{strausPayslip}
-use Rattle.straus.proofs.Counting.{payslip-within}
+use Rattle.sheet.proofs.Amounts.{payslip-within}
 use Rattle.straus.proofs.Emitting.{payslip-room, payslip-steps, payslip-output}
 use Rattle.methods.proofs.Paying.{paid-none, over-none, paid-steps, paid-outputs}
 use Rattle.straus.proofs.make_payslips.Statement.{statement}

@@ -23,7 +23,7 @@ use Rattle.file.proofs.Readable.{readable, columns-low, payslips-low}
 use Rattle.file.proofs.OneFile.{length-stepsOf, length-outputsOf}
 use Rattle.choose.specs.Choose.{mostScratch, fileRule}
 use Rattle.choose.proofs.Lent.{read-any, verify-any}
-use Rattle.choose.proofs.Told.{verdictIn, told, told-values}
+use Rattle.chain.proofs.Told.{verdictIn, told, told-values}
 
 -- a file that reads: its p, q and n, and its chain at the front of the two slices
 pub record Taken (bytes steps outputs : List ℕ) (p q n : ℕ) : Type 0 where

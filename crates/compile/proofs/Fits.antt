@@ -6,7 +6,7 @@ use native.Mathlib.Decide.{ℕ-discrete}
 use native.Mathlib.Omega.{arith}
 use lib.ListN.{length}
 use Rattle.chain.specs.Verdict.{fine, refused, _then_}
-use Rattle.chain.specs.Chain.{mostSteps}
+use Rattle.chain.specs.Chain.{mostColumns, mostPayslips, mostSteps}
 use Rattle.chain.proofs.Rules.{not-fine, then-fine, refuseIf-fine, refuse-yes, neither, not-lt}
 use Rattle.chain.proofs.Sizes.{Sizes, sizes-fit, length-fits}
 use Rattle.sheet.specs.Sheet.{sheetRule}
@@ -34,21 +34,34 @@ method-fits p method k e =
     by-number other (no two) (yes three) = ranged (omega arith) (omega arith)
     by-number other (no two) (no three) = absurd (not-fine (refuse-yes _ 3 0 refl ∙ sym (is-none p method k other two three) ∙ e))
 
-pub record Accepted (p q : ℕ) (amounts : List ℕ) (method k : ℕ) : Type 0 where
+-- the sheet and the parameter keep to their ranges
+pub record Fitting (p q : ℕ) (amounts : List ℕ) (method k : ℕ) : Type 0 where
   pub sizes : Sizes p q
   pub amounts-are : length amounts ≡ p * q
   pub fits : Fits p method k
+
+pub fitting : (p q : ℕ) (amounts : List ℕ) (method k : ℕ) → sheetRule p q amounts ≡ fine → methodRule p method k ≡ fine → Fitting p q amounts method k
+unfolding sheetRule
+fitting p q amounts method k e f =
+    let a = then-fine _ _ e in
+    record { sizes = sizes-fit p q (a .0); amounts-are = amounts-fit p q amounts (a .1); fits = method-fits p method k f }
+
+-- what the functions of the methods ask of their callers
+module _ {p q : ℕ} {amounts : List ℕ} {method k : ℕ} (f : Fitting p q amounts method k) where
+  pub first-asks : method ≡ 1
+      → (1 ≤ p) × (p ≤ mostColumns) × (q ≤ mostPayslips) × (length amounts ≡ p * q) × (1 ≤ k) × (k ≤ 5) × (p * k ≤ 10)
+  first-asks e = let g = f .fits .one e in (f .sizes .p-some, f .sizes .p-low, f .sizes .q-low, f .amounts-are, g .0, g .1, g .2)
+
+  pub other-asks : (method ≡ 1 → ⊥) → (1 ≤ p) × (p ≤ mostColumns) × (q ≤ mostPayslips) × (length amounts ≡ p * q) × (1 ≤ k) × (k ≤ 8)
+  other-asks e = let g = f .fits .more e in (f .sizes .p-some, f .sizes .p-low, f .sizes .q-low, f .amounts-are, g .2, g .3)
+
+pub record Accepted (p q : ℕ) (amounts : List ℕ) (method k : ℕ) : Type 0 where
+  pub fitting : Fitting p q amounts method k
   pub short : count p q amounts method k ≤ mostSteps
 
 pub accepted : (p q : ℕ) (amounts : List ℕ) (method k : ℕ) → acceptedRule p q amounts method k ≡ fine → Accepted p q amounts method k
-unfolding acceptedRule sheetRule
+unfolding acceptedRule
 accepted p q amounts method k e =
     let a = then-fine _ _ e in
-    let b = then-fine _ _ (a .0) in
-    let c = then-fine _ _ (a .1) in
-    record {
-      sizes = sizes-fit p q (b .0);
-      amounts-are = amounts-fit p q amounts (b .1);
-      fits = method-fits p method k (c .0);
-      short = length-fits mostSteps (count p q amounts method k) (c .1);
-    }
+    let b = then-fine _ _ (a .1) in
+    record { fitting = fitting p q amounts method k (a .0) (b .0); short = length-fits mostSteps (count p q amounts method k) (b .1) }

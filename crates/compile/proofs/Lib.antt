@@ -1,3 +1,5 @@
 pub mod Method
 pub mod Fits
-pub mod Compiled
+pub mod ByMethod
+pub mod Right
+pub mod Answers

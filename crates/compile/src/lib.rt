@@ -1,10 +1,22 @@
 // From a sheet to a chain by one of the methods.
 ghost use mathlib.Core.Path.{_≡_};
-ghost use Prim.Native.Nat.{_≤_};
-ghost use Rattle.chain.specs.Chain.{mostColumns};
+ghost use mathlib.Core.List.{[], _∷_};
+ghost use Prim.Native.Nat.{_*_, _/_, _≤_};
+ghost use lib.ListN.{length};
+ghost use Rattle.chain.specs.Chain.{mostColumns, flat};
 ghost use Rattle.chain.specs.Judgement.{verdictOf};
-ghost use Rattle.compile.specs.Compile.{methodRule};
+ghost use Rattle.chain.specs.Verdict.{fine, answer};
+ghost use Rattle.chain.specs.Written.{over};
+ghost use Rattle.sheet.specs.Sheet.{sheetRule};
+ghost use Rattle.compile.specs.Compile.{methodRule, chainOf, count, acceptedRule, compileAnswer, compileSteps, compileOutputs};
+ghost use Rattle.compile.specs.Compiled.{compiledOf};
 use chain::Judgement;
+
+// The steps of the chain compiled, or a refusal with its number and place.
+pub enum Compiled {
+    Steps(usize),
+    Refused(u32, usize),
+}
 
 // 3: the number of a method, and its own range of parameters.
 fn judge_method(p: usize, method: usize, k: usize) -> Judgement
@@ -26,5 +38,90 @@ fn judge_method(p: usize, method: usize, k: usize) -> Judgement
             _ => Judgement::Refused(3, 0),
         },
         _ => Judgement::Refused(3, 0),
+    }
+}
+
+// The number of steps of the chain, by its method.
+fn step_count(p: usize, q: usize, amounts: &[u32], method: usize, k: usize) -> usize
+    requires { ⌜ (sheetRule p q (now amounts) ≡ fine) × (methodRule p method k ≡ fine) ⌝ }
+    ensures { λ r. ⌜ r ≡ count p q (now (amounts .entry)) method k ⌝ }
+{
+    match method {
+        1 => straus::count(p, q, amounts, k),
+        2 => yao::count(p, q, amounts, k),
+        _ => partition::count(p, q, amounts, k),
+    }
+}
+
+// 1, 2, 3, 4: the number of steps where the sheet, the method and the parameter are accepted together.
+fn judge_accepted(p: usize, q: usize, amounts: &[u32], method: usize, k: usize) -> Compiled
+    ensures { λ r. ⌜ compiledOf r ≡ answer (acceptedRule p q (now (amounts .entry)) method k) (count p q (now (amounts .entry)) method k ∷ []) ⌝ }
+{
+    match sheet::judge_sheet(p, q, amounts) {
+        Judgement::Refused(number, place) => {
+            return Compiled::Refused(number, place);
+        }
+        Judgement::Fine => {}
+    }
+    match judge_method(p, method, k) {
+        Judgement::Refused(number, place) => {
+            return Compiled::Refused(number, place);
+        }
+        Judgement::Fine => {}
+    }
+    let n = step_count(p, q, amounts, method, k);
+    match chain::judge_length(chain::MOST_STEPS, n) {
+        Judgement::Refused(number, place) => Compiled::Refused(number, place),
+        Judgement::Fine => Compiled::Steps(n),
+    }
+}
+
+// The chain by its method: its steps, first and second in turn, and its outputs.
+fn emit(
+    p: usize,
+    q: usize,
+    amounts: &[u32],
+    method: usize,
+    k: usize,
+    steps: &mut [u32],
+    outputs: &mut [u32],
+)
+    requires { ⌜ (acceptedRule p q (now amounts) method k ≡ fine) × (2 * count p q (now amounts) method k ≤ length (now steps)) × (q ≤ length (now outputs)) ⌝ }
+    ensures { λ r. ⌜ now (steps .exit) ≡ over (flat (chainOf p q (now (amounts .entry)) method k .steps)) (now (steps .entry)) ⌝ }
+    ensures { λ r. ⌜ now (outputs .exit) ≡ over (chainOf p q (now (amounts .entry)) method k .outputs) (now (outputs .entry)) ⌝ }
+{
+    match method {
+        1 => straus::emit(p, q, amounts, k, steps, outputs),
+        2 => yao::emit(p, q, amounts, k, steps, outputs),
+        _ => partition::emit(p, q, amounts, k, steps, outputs),
+    }
+}
+
+// Compiles a sheet by the method of a number and its parameter.
+pub fn compile(
+    p: usize,
+    q: usize,
+    amounts: &[u32],
+    method: usize,
+    k: usize,
+    steps: &mut [u32],
+    outputs: &mut [u32],
+) -> Compiled
+    ensures { λ r. ⌜ compiledOf r ≡ compileAnswer p q (now (amounts .entry)) method k (length (now (steps .entry)) / 2) (length (now (outputs .entry))) ⌝ }
+    ensures { λ r. ⌜ now (steps .exit) ≡ compileSteps p q (now (amounts .entry)) method k (length (now (outputs .entry))) (now (steps .entry)) ⌝ }
+    ensures { λ r. ⌜ now (outputs .exit) ≡ compileOutputs p q (now (amounts .entry)) method k (length (now (steps .entry)) / 2) (now (outputs .entry)) ⌝ }
+{
+    match judge_accepted(p, q, amounts, method, k) {
+        Compiled::Refused(number, place) => Compiled::Refused(number, place),
+        Compiled::Steps(n) => {
+            if steps.len() / 2 < n {
+                return Compiled::Refused(5, 0);
+            }
+            if outputs.len() < q {
+                return Compiled::Refused(5, 0);
+            }
+            emit(p, q, amounts, method, k, steps, outputs);
+            Compiled::Steps(n)
+        }
     }
 }

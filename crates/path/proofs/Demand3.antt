@@ -21,7 +21,7 @@ use Rattle.file.specs.File.{byteCount, fileOf, writeRule, readRule}
 use Rattle.file.proofs.ReadingBack.{ReadBack, reading-gives, reading-back}
 use Rattle.compile.specs.Compile.{chainOf, count, ceiling, acceptedRule, compileRule}
 use Rattle.compile.proofs.Fits.{Accepted, accepted}
-use Rattle.compile.proofs.Compiled.{Right, compiled-right}
+use Rattle.compile.proofs.Right.{Right, compiled-right}
 
 -- what is promised of the chain c of an accepted sheet, with n its count and most its ceiling
 pub record Promised (p q : ℕ) (amounts : List ℕ) (method k : ℕ) (c : Chain) (n most : ℕ) : Type 0 where
@@ -50,10 +50,10 @@ module _ (p q : ℕ) (amounts : List ℕ) (method k : ℕ) (low : (j : ℕ) → 
   fits = accepted p q amounts method k ok
 
   right : Right p q amounts c (count p q amounts method k) (ceiling p q amounts method k)
-  right = compiled-right p q amounts method k low (fits .fits)
+  right = compiled-right p q amounts method k low (fits .fitting .fits)
 
   sizes : Sizes p (length (c .outputs))
-  sizes = subst (λ (n : ℕ). Sizes p n) (sym (right .outputs)) (fits .sizes)
+  sizes = subst (λ (n : ℕ). Sizes p n) (sym (right .outputs)) (fits .fitting .sizes)
 
   few : length (c .steps) ≤ mostSteps
   few = omega (arith, right .counted, fits .short)
@@ -67,7 +67,7 @@ module _ (p q : ℕ) (amounts : List ℕ) (method k : ℕ) (low : (j : ℕ) → 
   made =
       record {
         legal = legal;
-        amounts-fit = fits .amounts-are ∙ ap (λ (n : ℕ). p * n) (sym (right .outputs));
+        amounts-fit = fits .fitting .amounts-are ∙ ap (λ (n : ℕ). p * n) (sym (right .outputs));
         low = right .within;
         made = λ i h. right .makes i (omega (arith, right .outputs));
       }

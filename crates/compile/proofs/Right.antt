@@ -8,7 +8,6 @@ use native.Mathlib.Omega.{arith}
 use lib.ListN.{length, getD}
 use Rattle.chain.specs.Verdict.{fine}
 use Rattle.chain.specs.Chain.{Chain, mostAmount, stepsRule, outputsRule}
-use Rattle.chain.proofs.Rules.{eq-yes, eq-no}
 use Rattle.chain.proofs.Exponents.{Makes, Within}
 use Rattle.sheet.specs.Sheet.{amount}
 use Rattle.straus.specs.Straus.{straus, strausCount, strausCeiling}
@@ -17,8 +16,9 @@ use Rattle.yao.specs.Yao.{yao, yaoCount, yaoCeiling}
 use Rattle.yao.proofs.Yao.{yao-legal, yao-makes, yao-within, yao-outputs, yao-count, yao-ceiling}
 use Rattle.partition.specs.Partition.{partition, partitionCount, partitionCeiling}
 use Rattle.partition.proofs.Partition.{partition-legal, partition-makes, partition-within, partition-outputs, partition-count, partition-ceiling}
-use Rattle.compile.specs.Compile.{byMethod, chainOf, count, ceiling}
+use Rattle.compile.specs.Compile.{chainOf, count, ceiling}
 use Rattle.compile.proofs.Fits.{Fits}
+use Rattle.compile.proofs.ByMethod.{Is, is-straus, is-yao, is-partition}
 
 -- a chain c with n steps counted and at most most allowed makes the sheet
 pub record Right (p q : ℕ) (amounts : List ℕ) (c : Chain) (n most : ℕ) : Type 0 where
@@ -29,17 +29,6 @@ pub record Right (p q : ℕ) (amounts : List ℕ) (c : Chain) (n most : ℕ) : T
   pub outputs : length (c .outputs) ≡ q
   pub counted : length (c .steps) ≡ n
   pub limited : n ≤ most
-
--- what a method's number chooses
-module _ {A : Type 0} (method : ℕ) (a b c : A) where
-  pub by-first : method ≡ 1 → byMethod method a b c ≡ a
-  by-first e = rw (eq-yes method 1 e)
-
-  pub by-second : method ≡ 2 → byMethod method a b c ≡ b
-  by-second e = rw (eq-no method 1 (omega arith), eq-yes method 2 e)
-
-  pub by-third : method ≡ 3 → byMethod method a b c ≡ c
-  by-third e = rw (eq-no method 1 (omega arith), eq-no method 2 (omega arith))
 
 module _ (p q : ℕ) (amounts : List ℕ) (method k : ℕ) (low : (j : ℕ) → getD amounts j 0 ≤ mostAmount) where
   straus-right : 1 ≤ k → k ≤ 5 → Right p q amounts (straus p q amounts k) (strausCount p q amounts k) (strausCeiling p q amounts k)
@@ -83,10 +72,13 @@ module _ (p q : ℕ) (amounts : List ℕ) (method k : ℕ) (low : (j : ℕ) → 
 
   -- the chain of an accepted method and parameter
   pub compiled-right : Fits p method k → Right p q amounts (chainOf p q amounts method k) (count p q amounts method k) (ceiling p q amounts method k)
-  unfolding chainOf count ceiling
   compiled-right fits = by-number (ℕ-discrete method 1) (ℕ-discrete method 2)
     where
+      named : {c : Chain} {n most : ℕ} → Is p q amounts method k c n most → Right p q amounts c n most
+          → Right p q amounts (chainOf p q amounts method k) (count p q amounts method k) (ceiling p q amounts method k)
+      named is right = rw (is .chain, is .counted, is .limit) right
+
       by-number : Dec (method ≡ 1) → Dec (method ≡ 2) → Right p q amounts (chainOf p q amounts method k) (count p q amounts method k) (ceiling p q amounts method k)
-      by-number (yes e) two = let f = fits .one e in rw (eq-yes method 1 e) (straus-right (f .0) (f .1))
-      by-number (no e) (yes two) = let f = fits .more e in rw (eq-no method 1 e, eq-yes method 2 two) (yao-right (f .2))
-      by-number (no e) (no two) = let f = fits .more e in rw (eq-no method 1 e, eq-no method 2 two) (partition-right (f .2))
+      by-number (yes e) two = let f = fits .one e in named (is-straus p q amounts method k e) (straus-right (f .0) (f .1))
+      by-number (no e) (yes two) = let f = fits .more e in named (is-yao p q amounts method k two) (yao-right (f .2))
+      by-number (no e) (no two) = let f = fits .more e in named (is-partition p q amounts method k e two) (partition-right (f .2))

@@ -1,0 +1,85 @@
+-- What `judge_accepted` and `compile` answer.
+use mathlib.Core.Path.{_≡_, sym, ap, _∙_}
+use mathlib.Core.List.{List, [], _∷_}
+use Prim.Native.Nat.{ℕ, _/_, _≤_, _<_}
+use native.Mathlib.Omega.{arith}
+use lib.ListN.{length, getD}
+use Rattle.chain.specs.Verdict.{Verdict, fine, refused, Answer, done, refusal, answer}
+use Rattle.chain.specs.Judgement.{verdictOf}
+use Rattle.chain.specs.Written.{over}
+use Rattle.chain.specs.Chain.{mostSteps, flat, lengthRule}
+use Rattle.chain.specs.declared.Judgement.{Judgement}
+use Rattle.chain.specs.declared.Judgement.the-variants as judgement
+use Rattle.chain.proofs.Rules.{told-fine, told-refused, pass, stop, refuse-yes, refuse-no, lt-yes, lt-no, or-left, or-right, or-none, answer-refused, answer-done, kept, renewed}
+use Rattle.chain.proofs.Told.{verdictIn, told, told-values}
+use Rattle.sheet.specs.Sheet.{sheetRule}
+use Rattle.compile.specs.Compile.{methodRule, chainOf, count, acceptedRule, compileRule, compileAnswer, compileSteps, compileOutputs}
+use Rattle.compile.specs.Compiled.{compiledOf}
+use Rattle.compile.specs.declared.Compiled.{Compiled}
+use Rattle.compile.specs.declared.Compiled.the-variants.{Steps, Refused}
+
+module _ (p q : ℕ) (amounts : List ℕ) (method k : ℕ) where
+  abbrev count′ : ℕ
+  count′ = count p q amounts method k
+
+  abbrev accepted : Verdict
+  accepted = acceptedRule p q amounts method k
+
+  -- n steps are counted for a sheet, a method and a parameter that fit
+  module _ (sheet-fits : fine ≡ sheetRule p q amounts) (method-fits : fine ≡ methodRule p method k) (n : ℕ) (is : n ≡ count′) (j : Judgement)
+      (judged : verdictOf j ≡ lengthRule mostSteps n) where
+    length-judged : verdictOf j ≡ accepted
+    unfolding acceptedRule
+    length-judged = pass _ _ _ sheet-fits (pass _ _ _ method-fits (judged ∙ ap (lengthRule mostSteps) is))
+
+    pub too-long : (number place : ℕ) → j ≡ judgement.Refused number place → refusal number place ≡ answer accepted (count′ ∷ [])
+    too-long number place e = answer-refused _ _ number place (told-refused j _ number place length-judged e)
+
+    pub all-accepted : j ≡ judgement.Fine → done (n ∷ []) ≡ answer accepted (count′ ∷ [])
+    all-accepted e = ap (λ (m : ℕ). done (m ∷ [])) is ∙ answer-done _ _ (told-fine j _ length-judged e)
+
+  module _ (r : Compiled) (answered : compiledOf r ≡ answer accepted (count′ ∷ [])) (steps outputs : List ℕ) where
+    -- the answer of compile and what it leaves in the two slices
+    abbrev Leaves : Answer → List ℕ → List ℕ → Type 0
+    Leaves a steps′ outputs′ =
+        (a ≡ compileAnswer p q amounts method k (length steps / 2) (length outputs))
+        × ((steps′ ≡ compileSteps p q amounts method k (length outputs) steps)
+        × (outputs′ ≡ compileOutputs p q amounts method k (length steps / 2) outputs))
+
+    refusing : (number place : ℕ) → refused number place ≡ compileRule p q amounts method k (length steps / 2) (length outputs)
+        → Leaves (refusal number place) steps outputs
+    unfolding compileAnswer compileSteps compileOutputs
+    refusing number place e = (answer-refused _ _ number place e, (kept _ _ steps number place e, kept _ _ outputs number place e))
+
+    pub compile-refused : (number place : ℕ) → r ≡ Refused number place → Leaves (refusal number place) steps outputs
+    unfolding compileRule
+    compile-refused number place e =
+        refusing number place (stop _ _ number place (sym (ap (λ (x : Compiled). verdictIn (compiledOf x)) e) ∙ told _ _ _ answered))
+
+    module _ (n : ℕ) (is : r ≡ Steps n) where
+      pub was-accepted : fine ≡ accepted
+      was-accepted = sym (ap (λ (x : Compiled). verdictIn (compiledOf x)) is) ∙ told _ _ _ answered
+
+      pub was-counted : n ≡ count′
+      was-counted = ap (λ (l : List ℕ). getD l 0 0) (told-values _ _ _ (sym (ap compiledOf is) ∙ answered))
+
+      pub few-pairs : length steps / 2 < n → Leaves (refusal 5 0) steps outputs
+      unfolding compileRule
+      few-pairs h =
+          let e = was-counted in
+          refusing 5 0 (pass _ _ _ was-accepted (refuse-yes _ 5 0 (or-left _ _ (lt-yes _ _ (omega arith)))))
+
+      pub few-outputs : length outputs < q → Leaves (refusal 5 0) steps outputs
+      unfolding compileRule
+      few-outputs h = refusing 5 0 (pass _ _ _ was-accepted (refuse-yes _ 5 0 (or-right _ _ (lt-yes _ _ h))))
+
+      pub compiled : n ≤ length steps / 2 → q ≤ length outputs → (steps′ outputs′ : List ℕ)
+          → (steps′ ≡ over (flat (chainOf p q amounts method k .steps)) steps) × (outputs′ ≡ over (chainOf p q amounts method k .outputs) outputs)
+          → Leaves (done (n ∷ [])) steps′ outputs′
+      unfolding compileAnswer compileSteps compileOutputs compileRule
+      compiled h g steps′ outputs′ e =
+          let c = was-counted in
+          let v = pass accepted _ _ was-accepted (refuse-no _ 5 0 (or-none _ _ (lt-no (length steps / 2) count′ (omega arith)) (lt-no (length outputs) q g))) in (
+            ap (λ (m : ℕ). done (m ∷ [])) c ∙ answer-done _ _ v,
+            (renewed _ _ steps steps′ v (e .0), renewed _ _ outputs outputs′ v (e .1)),
+          )

@@ -1,0 +1,80 @@
+use borrow.Author.Needs.{needs}
+use mathlib.Core.Path.{sym}
+use mathlib.Core.List.{[]}
+use native.Mathlib.Omega.{arith}
+use denote.Ref.{now}
+use Rattle.compile.proofs.Answers.{compile-refused, was-accepted, was-counted, few-pairs, few-outputs, compiled}
+use Rattle.compile.proofs.compile.Statement.{statement}
+use Rattle.compile.proofs.compile.Tie as tie
+
+judge-accepted-requires : tie.Need-judge-accepted-requires
+judge-accepted-requires c κs = search needs
+
+enum-known-number : tie.Need-enum-known-number
+enum-known-number c = search needs
+
+enum-known-n : tie.Need-enum-known-n
+enum-known-n c = search needs
+
+returns : tie.Need-returns
+returns c =
+    let n = c .before .before in
+    let j = n .before .before in
+    let a = j .before .before .before .before .args in
+    few-pairs (a .p) (a .q) (now (a .amounts)) (a .method) (a .k) _ (j .judge-accepted .ensures) (now (a .steps)) (now (a .outputs)) _ (n .n .given .1) (c .if1 .taken)
+
+returns-2 : tie.Need-returns-2
+returns-2 c =
+    let n = c .before .before .before in
+    let j = n .before .before in
+    let a = j .before .before .before .before .args in
+    few-outputs (a .p) (a .q) (now (a .amounts)) (a .method) (a .k) _ (j .judge-accepted .ensures) (now (a .steps)) (now (a .outputs)) _ (n .n .given .1) (c .if2 .taken)
+
+emit-requires : tie.Need-emit-requires
+emit-requires c κs =
+    let e = c .before .before in
+    let n = e .before .before .before in
+    let j = n .before .before in
+    let counted = was-counted _ _ _ _ _ _ (j .judge-accepted .ensures) [] [] _ (n .n .given .1) in (
+      sym (was-accepted _ _ _ _ _ _ (j .judge-accepted .ensures) [] [] _ (n .n .given .1)),
+      omega (arith, counted, e .before .if1 .left),
+      e .if2 .left,
+    )
+
+returns-3 : tie.Need-returns-3
+returns-3 c =
+    let n = c .before in
+    let j = n .before .before in
+    let a = j .before .before .before .before .args in
+    compile-refused (a .p) (a .q) (now (a .amounts)) (a .method) (a .k) _ (j .judge-accepted .ensures) (now (a .steps)) (now (a .outputs)) _ _ (n .number .given .1)
+
+same-length : tie.Need-same-length
+same-length c = search needs
+
+same-length-2 : tie.Need-same-length-2
+same-length-2 c = search needs
+
+returns-4 : tie.Need-returns-4
+returns-4 c =
+    let w = c .before .before .before .before in
+    let e = w .before .before .before in
+    let n = e .before .before .before in
+    let j = n .before .before in
+    let a = j .before .before .before .before .args in
+    compiled (a .p) (a .q) (now (a .amounts)) (a .method) (a .k) _ (j .judge-accepted .ensures) (now (a .steps)) (now (a .outputs)) _ (n .n .given .1)
+    (e .before .if1 .left) (e .if2 .left) _ _ (w .emit .ensures)
+
+pub compile-spec : {M : Type 1} → statement M
+compile-spec =
+    tie.close
+    (tie.spec
+    judge-accepted-requires
+    enum-known-number
+    enum-known-n
+    returns
+    returns-2
+    emit-requires
+    returns-3
+    same-length
+    same-length-2
+    returns-4)

@@ -8,3 +8,4 @@ pub mod Judging
 pub mod OneFile
 pub mod Taking
 pub mod ReadAnswers
+pub mod Taken

@@ -3,7 +3,7 @@ use mathlib.Core.Path.{sym}
 use native.Mathlib.Omega.{arith}
 use lib.Seq.{length-take-le}
 use denote.Ref.{now}
-use Rattle.choose.proofs.Files.{Taken, refusal-says, read-bad, read-good, other-columns, other-payslips, not-held, all-held}
+use Rattle.choose.proofs.Files.{Good, refusal-says, read-bad, read-good, other-columns, other-payslips, not-held, all-held}
 use Rattle.choose.proofs.judge_file.Statement.{statement}
 use Rattle.choose.proofs.judge_file.Tie as tie
 
@@ -19,7 +19,7 @@ enum-known-columns c = search needs
 -- what the file that was read tells
 taken : (c : tie.After-columns)
     → let r = c .before .before .before .before .before .before in
-    Taken (now (r .before .before .before .before .before .before .before .before .args .bytes)) (r .read .last .1 .0) (r .read .last .1 .1 .0) (c .columns .given .0 .0) (c .columns .given .0 .1 .0) (c .columns .given .0 .1 .1 .0)
+    Good (now (r .before .before .before .before .before .before .before .before .args .bytes)) (r .read .last .1 .0) (r .read .last .1 .1 .0) (c .columns .given .0 .0) (c .columns .given .0 .1 .0) (c .columns .given .0 .1 .1 .0)
 taken c =
     let r = c .before .before .before .before .before .before in
     let s = r .before .before .before .before .before .before .before .before in
@@ -50,23 +50,23 @@ returns-2 c =
     refusal-says _ _ _ _ (other-payslips _ _ _ _ _ _ _ _ _ t (c .if2 .taken))
 
 mul-verify : tie.Need-mul-verify
-mul-verify c = omega (arith, taken (c .before .before .before) .few)
+mul-verify c = omega (arith, taken (c .before .before .before) .taken .few)
 
 slice-reshare-prefix-verify : tie.Need-slice-reshare-prefix-verify
-slice-reshare-prefix-verify c = taken (c .before .before .before) .steps-room
+slice-reshare-prefix-verify c = taken (c .before .before .before) .taken .steps-room
 
 slice-aggregate-verify : tie.Need-slice-aggregate-verify
-slice-aggregate-verify c = sym (length-take-le _ _ (taken (c .before .before .before .before) .steps-room))
+slice-aggregate-verify c = sym (length-take-le _ _ (taken (c .before .before .before .before) .taken .steps-room))
 
 slice-reshare-prefix-verify-2 : tie.Need-slice-reshare-prefix-verify-2
 slice-reshare-prefix-verify-2 c =
     let e = c .before .if2 .left in
-    omega (arith, taken (c .before .before .before .before) .outputs-room)
+    omega (arith, taken (c .before .before .before .before) .taken .outputs-room)
 
 slice-aggregate-verify-2 : tie.Need-slice-aggregate-verify-2
 slice-aggregate-verify-2 c =
     let e = c .before .before .if2 .left in
-    sym (length-take-le _ _ (omega (arith, taken (c .before .before .before .before .before) .outputs-room)))
+    sym (length-take-le _ _ (omega (arith, taken (c .before .before .before .before .before) .taken .outputs-room)))
 
 verify-requires : tie.Need-verify-requires
 verify-requires c κs = search needs
@@ -126,7 +126,7 @@ returns-5 c =
     let k = e .before .before .before in
     let s = k .before .before .before .before .before .before .before .before .before .before .before .before .before .before in (
       all-held _ _ _ _ _ _ _ _ _ (taken k) (e .before .if1 .left) (e .if2 .left) _ (s .pre .2) _ (v .verify .ensures .0) (c .enum-told .given .1),
-      λ f. taken k .long,
+      λ f. taken k .taken .long,
     )
 
 pub judge-file-spec : {M : Type 1} → statement M

@@ -1,0 +1,43 @@
+-- Demand 3, in its own words and document 01's.
+use mathlib.Core.Path.{_≡_}
+use mathlib.Core.List.{List, [], _∷_}
+use Prim.Native.Nat.{ℕ, _/_, _≤_, _<_}
+use lib.ListN.{length, getD}
+use Rattle.chain.specs.Verdict.{fine, _then_, Answer, done}
+use Rattle.residue.specs.Residue.{figure}
+use Rattle.verify.specs.Verify.{scratchSize}
+use Rattle.file.specs.File.{byteCount}
+use Rattle.compile.specs.Compile.{count, ceiling, acceptedRule}
+use Rattle.path.specs.Path.{Lent, compiles, writes, reads, passes}
+
+-- "a slice for results is long enough exactly if it has a cell for each pair, output, byte, value, figure or other item that the call would put
+-- there if nothing were refused; scratch, if it has the size named for it", for p columns, q payslips and n steps
+pub record LongEnough (p q n : ℕ) (l : Lent) : Type 0 where
+  pub steps : n ≤ length (l .steps) / 2
+  pub outputs : q ≤ length (l .outputs)
+  pub bytes : byteCount p q n ≤ length (l .bytes)
+  pub stepsRead : n ≤ length (l .stepsRead) / 2
+  pub outputsRead : q ≤ length (l .outputsRead)
+  pub scratch : scratchSize p n ≤ length (l .scratch)
+  pub values : p + n < length (l .values)
+  pub figures : q ≤ length (l .figures)
+
+-- "every modulus from 1 to 4,294,967,295 and every list of bases below it, one for each pay element"
+pub record Receivable (p m : ℕ) (bases : List ℕ) : Type 0 where
+  pub modulus : 1 ≤ m
+  pub one-each : length bases ≡ p
+  pub below : (c : ℕ) → c < p → getD bases c 0 < m
+
+-- what is asked of the five calls: they answered a, and left the slices as in after, which were as in l before, whatever they held
+pub record Demand3 (p q : ℕ) (amounts : List ℕ) (method k m : ℕ) (bases : List ℕ) (l : Lent) (a : Answer) (after : Lent) : Type 0 where
+  -- "compile, write and read succeed and the check passes"
+  pub checked : acceptedRule p q amounts method k ≡ fine → LongEnough p q (count p q amounts method k) l
+      → (compiles p q amounts method k m bases l then writes p q amounts method k m bases l then reads p q amounts method k m bases l then passes p q amounts method k m bases l) ≡ fine
+  -- "The multiplications made, which the run returns, equal the number of steps that compile and read return. They equal the method's count"
+  pub counted : acceptedRule p q amounts method k ≡ fine → LongEnough p q (count p q amounts method k) l → Receivable p m bases
+      → a ≡ done (count p q amounts method k ∷ count p q amounts method k ∷ count p q amounts method k ∷ [])
+  -- "and never exceed its ceiling"
+  pub limited : acceptedRule p q amounts method k ≡ fine → count p q amounts method k ≤ ceiling p q amounts method k
+  -- "the run gives for each payslip, in the sheet's order, exactly the product of the bases raised to its amounts, reduced by that modulus"
+  pub figured : acceptedRule p q amounts method k ≡ fine → LongEnough p q (count p q amounts method k) l → Receivable p m bases
+      → (i : ℕ) → i < q → getD (after .figures) i 0 ≡ figure p m bases amounts i

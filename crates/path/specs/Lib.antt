@@ -1,0 +1,3 @@
+pub mod Path
+pub mod Demand3
+pub mod Figured

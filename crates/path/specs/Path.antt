@@ -1,0 +1,80 @@
+-- The whole path from sheet to figures (document 01, "Run"): "five calls, compile, write, read, check and run".
+use mathlib.Core.List.{List, [], _∷_}
+use Prim.Native.Nat.{ℕ, _/_}
+use lib.ListN.{length}
+use Rattle.chain.specs.Verdict.{Verdict, _then_, Answer, answer, onFine}
+use Rattle.chain.specs.Chain.{Chain}
+use Rattle.verify.specs.Verify.{verifyRule, verifyScratch}
+use Rattle.run.specs.Run.{runRule, runValues, runFigures}
+use Rattle.file.specs.File.{columnsOf, lengthOf, stepsOf, outputsOf, fileOf, writeRule, writeBytes, readRule, readSteps, readOutputs}
+use Rattle.compile.specs.Compile.{chainOf, count, compileRule, compileSteps, compileOutputs}
+
+-- the slices lent for results and scratch, steps in turn: those of compile, write, read, check and run
+pub record Lent : Type 0 where
+  pub steps : List ℕ
+  pub outputs : List ℕ
+  pub bytes : List ℕ
+  pub stepsRead : List ℕ
+  pub outputsRead : List ℕ
+  pub scratch : List ℕ
+  pub values : List ℕ
+  pub figures : List ℕ
+
+-- a sheet, a method and a parameter, then a modulus and bases
+module _ (p q : ℕ) (amounts : List ℕ) (method k m : ℕ) (bases : List ℕ) where
+  -- "exactly the n pairs and q outputs that compile filled"
+  abbrev pub compiled : Chain
+  compiled = chainOf p q amounts method k
+
+  -- "exactly the bytes that write counted"
+  abbrev pub written : List ℕ
+  written = fileOf p (compiled .steps) (compiled .outputs)
+
+  -- what each call finds, given what the calls before it left
+  module _ (l : Lent) where
+    abbrev pub compiles : Verdict
+    compiles = compileRule p q amounts method k (length (l .steps) / 2) (length (l .outputs))
+
+    abbrev pub writes : Verdict
+    writes = writeRule p (compiled .steps) (compiled .outputs) (length (l .bytes))
+
+    abbrev pub reads : Verdict
+    reads = readRule written (length (l .stepsRead) / 2) (length (l .outputsRead))
+
+    -- "Check and run get the p that read returned and exactly the n pairs and q outputs that read filled; check also gets the same sheet."
+    abbrev pub passes : Verdict
+    passes = verifyRule (columnsOf written) (stepsOf written) (outputsOf written) amounts (length (l .scratch))
+
+    abbrev pub runs : Verdict
+    runs = runRule (columnsOf written) (stepsOf written) (outputsOf written) m bases (length (l .values)) (length (l .figures))
+
+    -- the first refusal of the five
+    unfoldable pub pathRule : Verdict
+    pathRule = compiles then writes then reads then passes then runs
+
+    -- the numbers of steps that compile and read return, and the multiplications made
+    unfoldable pub pathAnswer : Answer
+    pathAnswer = answer pathRule (count p q amounts method k ∷ lengthOf written ∷ length (stepsOf written) ∷ [])
+
+    -- what the slices are afterwards: those of a call that is not made stay as they were
+    unfoldable pub pathLeaves : Lent
+    pathLeaves =
+        record {
+          steps = compileSteps p q amounts method k (length (l .outputs)) (l .steps);
+          outputs = compileOutputs p q amounts method k (length (l .steps) / 2) (l .outputs);
+          bytes = onFine compiles (writeBytes p (compiled .steps) (compiled .outputs) (l .bytes)) (l .bytes);
+          stepsRead = onFine (compiles then writes) (readSteps written (length (l .outputsRead)) (l .stepsRead)) (l .stepsRead);
+          outputsRead = onFine (compiles then writes) (readOutputs written (length (l .stepsRead) / 2) (l .outputsRead)) (l .outputsRead);
+          scratch =
+              onFine (compiles then writes then reads)
+              (verifyScratch (columnsOf written) (stepsOf written) (outputsOf written) amounts (l .scratch))
+              (l .scratch);
+          values =
+              onFine (compiles then writes then reads then passes)
+              (runValues (columnsOf written) (stepsOf written) (outputsOf written) m bases (length (l .figures)) (l .values))
+              (l .values);
+          figures =
+              onFine (compiles then writes then reads then passes)
+              (runFigures (columnsOf written) (stepsOf written) (outputsOf written) m bases (length (l .values)) (l .figures))
+              (l .figures);
+        }

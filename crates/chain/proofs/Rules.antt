@@ -137,6 +137,11 @@ module _ (a b : Verdict) where
       by-first fine e = (refl, e)
       by-first (refused n s) e = absurd (not-fine e)
 
+pub then-assoc : (a b c : Verdict) → ((a then b) then c) ≡ (a then b then c)
+unfolding _then_
+then-assoc fine b c = refl
+then-assoc (refused n s) b c = refl
+
 -- the verdict that a callee's judgement tells
 module _ (j : Judgement) (v : Verdict) where
   pub told-refused : (n s : ℕ) → verdictOf j ≡ v → j ≡ Refused n s → refused n s ≡ v

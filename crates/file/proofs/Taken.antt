@@ -8,7 +8,7 @@ use Rattle.chain.specs.Verdict.{fine, refused}
 use Rattle.chain.specs.Written.{over}
 use Rattle.chain.specs.Chain.{mostSteps, flat}
 use Rattle.chain.specs.declared.Step.{Step}
-use Rattle.chain.proofs.Rules.{renewed}
+use Rattle.chain.proofs.Rules.{renewed, then-fine, refuseIf-fine, not-lt}
 use Rattle.chain.proofs.Told.{verdictIn, told, told-values}
 use Rattle.chain.proofs.Pairs.{length-flat}
 use Rattle.chain.proofs.Written.{take-over, over-length}
@@ -44,6 +44,15 @@ module _ (p : ℕ) (steps : List Step) (outputs bytes : List ℕ) (w : Written) 
     write-front bytes′ e =
         let f : bytes′ ≡ over (fileOf p steps outputs) bytes = e ∙ sym (renewed _ _ bytes _ write-passes refl) in
         ap (take n) f ∙ take-over n (fileOf p steps outputs) bytes (omega (arith, write-counts, length-file p steps outputs))
+
+    -- and have room
+    pub write-room : (bytes′ : List ℕ) → bytes′ ≡ writeBytes p steps outputs bytes → n ≤ length bytes′
+    unfolding writeBytes writeRule
+    write-room bytes′ e =
+        let f : bytes′ ≡ over (fileOf p steps outputs) bytes = e ∙ sym (renewed _ _ bytes _ write-passes refl) in
+        let room = not-lt _ _ (refuseIf-fine _ 5 0 (then-fine _ _ (sym write-passes) .1)) in
+        let l = length-file p steps outputs in
+        omega (arith, ap length f, write-counts, over-length (fileOf p steps outputs) bytes (omega arith))
 
 -- bytes that were read: their p, q and n, and their chain at the front of the two slices
 pub record Taken (bytes steps outputs : List ℕ) (p q n : ℕ) : Type 0 where

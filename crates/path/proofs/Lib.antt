@@ -1,2 +1,3 @@
 pub mod Figures
 pub mod Demand3
+pub mod Parts

@@ -1,14 +1,14 @@
 -- Demand 3, in its own words and document 01's.
 use mathlib.Core.Path.{_≡_}
 use mathlib.Core.List.{List, [], _∷_}
-use Prim.Native.Nat.{ℕ, _/_, _≤_, _<_}
+use Prim.Native.Nat.{ℕ, _+_, _/_, _≤_, _<_}
 use lib.ListN.{length, getD}
-use Rattle.chain.specs.Verdict.{fine, _then_, Answer, done}
+use Rattle.chain.specs.Verdict.{fine, Answer, done}
 use Rattle.residue.specs.Residue.{figure}
 use Rattle.verify.specs.Verify.{scratchSize}
 use Rattle.file.specs.File.{byteCount}
 use Rattle.compile.specs.Compile.{count, ceiling, acceptedRule}
-use Rattle.path.specs.Path.{Lent, compiles, writes, reads, passes}
+use Rattle.path.specs.Path.{Lent, beforeRun}
 
 -- "a slice for results is long enough exactly if it has a cell for each pair, output, byte, value, figure or other item that the call would put
 -- there if nothing were refused; scratch, if it has the size named for it", for p columns, q payslips and n steps
@@ -32,7 +32,7 @@ pub record Receivable (p m : ℕ) (bases : List ℕ) : Type 0 where
 pub record Demand3 (p q : ℕ) (amounts : List ℕ) (method k m : ℕ) (bases : List ℕ) (l : Lent) (a : Answer) (after : Lent) : Type 0 where
   -- "compile, write and read succeed and the check passes"
   pub checked : acceptedRule p q amounts method k ≡ fine → LongEnough p q (count p q amounts method k) l
-      → (compiles p q amounts method k m bases l then writes p q amounts method k m bases l then reads p q amounts method k m bases l then passes p q amounts method k m bases l) ≡ fine
+      → beforeRun p q amounts method k l ≡ fine
   -- "The multiplications made, which the run returns, equal the number of steps that compile and read return. They equal the method's count"
   pub counted : acceptedRule p q amounts method k ≡ fine → LongEnough p q (count p q amounts method k) l → Receivable p m bases
       → a ≡ done (count p q amounts method k ∷ count p q amounts method k ∷ count p q amounts method k ∷ [])

@@ -1,3 +1,4 @@
 pub mod Path
 pub mod Demand3
+pub mod Parts
 pub mod Figured

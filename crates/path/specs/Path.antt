@@ -20,8 +20,8 @@ pub record Lent : Type 0 where
   pub values : List ℕ
   pub figures : List ℕ
 
--- a sheet, a method and a parameter, then a modulus and bases
-module _ (p q : ℕ) (amounts : List ℕ) (method k m : ℕ) (bases : List ℕ) where
+-- a sheet, a method and a parameter
+module _ (p q : ℕ) (amounts : List ℕ) (method k : ℕ) where
   -- "exactly the n pairs and q outputs that compile filled"
   abbrev pub compiled : Chain
   compiled = chainOf p q amounts method k
@@ -42,39 +42,43 @@ module _ (p q : ℕ) (amounts : List ℕ) (method k m : ℕ) (bases : List ℕ) 
     reads = readRule written (length (l .stepsRead) / 2) (length (l .outputsRead))
 
     -- "Check and run get the p that read returned and exactly the n pairs and q outputs that read filled; check also gets the same sheet."
-    abbrev pub passes : Verdict
-    passes = verifyRule (columnsOf written) (stepsOf written) (outputsOf written) amounts (length (l .scratch))
+    abbrev pub checks : Verdict
+    checks = verifyRule (columnsOf written) (stepsOf written) (outputsOf written) amounts (length (l .scratch))
 
-    abbrev pub runs : Verdict
-    runs = runRule (columnsOf written) (stepsOf written) (outputsOf written) m bases (length (l .values)) (length (l .figures))
+    -- the calls before the run
+    abbrev pub beforeRun : Verdict
+    beforeRun = compiles then writes then reads then checks
 
-    -- the first refusal of the five
-    unfoldable pub pathRule : Verdict
-    pathRule = compiles then writes then reads then passes then runs
+    -- a modulus and bases
+    module _ (m : ℕ) (bases : List ℕ) where
+      abbrev pub runs : Verdict
+      runs = runRule (columnsOf written) (stepsOf written) (outputsOf written) m bases (length (l .values)) (length (l .figures))
 
-    -- the numbers of steps that compile and read return, and the multiplications made
-    unfoldable pub pathAnswer : Answer
-    pathAnswer = answer pathRule (count p q amounts method k ∷ lengthOf written ∷ length (stepsOf written) ∷ [])
+      -- the first refusal of the five; or the numbers of steps that compile and read return, and the multiplications made
+      unfoldable pub pathAnswer : Answer
+      pathAnswer =
+          answer (compiles then writes then reads then checks then runs)
+          (count p q amounts method k ∷ lengthOf written ∷ length (stepsOf written) ∷ [])
 
-    -- what the slices are afterwards: those of a call that is not made stay as they were
-    unfoldable pub pathLeaves : Lent
-    pathLeaves =
-        record {
-          steps = compileSteps p q amounts method k (length (l .outputs)) (l .steps);
-          outputs = compileOutputs p q amounts method k (length (l .steps) / 2) (l .outputs);
-          bytes = onFine compiles (writeBytes p (compiled .steps) (compiled .outputs) (l .bytes)) (l .bytes);
-          stepsRead = onFine (compiles then writes) (readSteps written (length (l .outputsRead)) (l .stepsRead)) (l .stepsRead);
-          outputsRead = onFine (compiles then writes) (readOutputs written (length (l .stepsRead) / 2) (l .outputsRead)) (l .outputsRead);
-          scratch =
-              onFine (compiles then writes then reads)
-              (verifyScratch (columnsOf written) (stepsOf written) (outputsOf written) amounts (l .scratch))
-              (l .scratch);
-          values =
-              onFine (compiles then writes then reads then passes)
-              (runValues (columnsOf written) (stepsOf written) (outputsOf written) m bases (length (l .figures)) (l .values))
-              (l .values);
-          figures =
-              onFine (compiles then writes then reads then passes)
-              (runFigures (columnsOf written) (stepsOf written) (outputsOf written) m bases (length (l .values)) (l .figures))
-              (l .figures);
-        }
+      -- what the slices are afterwards: those of a call that is not made stay as they were
+      unfoldable pub pathLeaves : Lent
+      pathLeaves =
+          record {
+            steps = compileSteps p q amounts method k (length (l .outputs)) (l .steps);
+            outputs = compileOutputs p q amounts method k (length (l .steps) / 2) (l .outputs);
+            bytes = onFine compiles (writeBytes p (compiled .steps) (compiled .outputs) (l .bytes)) (l .bytes);
+            stepsRead = onFine (compiles then writes) (readSteps written (length (l .outputsRead)) (l .stepsRead)) (l .stepsRead);
+            outputsRead = onFine (compiles then writes) (readOutputs written (length (l .stepsRead) / 2) (l .outputsRead)) (l .outputsRead);
+            scratch =
+                onFine (compiles then writes then reads)
+                (verifyScratch (columnsOf written) (stepsOf written) (outputsOf written) amounts (l .scratch))
+                (l .scratch);
+            values =
+                onFine beforeRun
+                (runValues (columnsOf written) (stepsOf written) (outputsOf written) m bases (length (l .figures)) (l .values))
+                (l .values);
+            figures =
+                onFine beforeRun
+                (runFigures (columnsOf written) (stepsOf written) (outputsOf written) m bases (length (l .values)) (l .figures))
+                (l .figures);
+          }

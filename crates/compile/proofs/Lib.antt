@@ -3,3 +3,4 @@ pub mod Fits
 pub mod ByMethod
 pub mod Right
 pub mod Answers
+pub mod Filled

@@ -1,104 +1,87 @@
--- Demand 3 over the definitions alone: a sheet, a method and a parameter that are accepted together, the whole path from sheet to figure.
-use mathlib.Core.Path.{_≡_, refl, sym, ap, subst, _∙_}
-use mathlib.Core.List.{List}
-use Prim.Native.Nat.{ℕ, _+_, _*_, _≤_, _<_}
+-- Demand 3 over the definitions alone: what the five calls answer and leave is what it asks for.
+use mathlib.Core.Path.{_≡_, refl, sym, ap, _∙_}
+use mathlib.Core.List.{List, [], _∷_}
+use Prim.Native.Nat.{ℕ, _≤_, _<_}
 use native.Mathlib.Omega.{arith}
 use lib.ListN.{length, getD}
-use Rattle.chain.specs.Verdict.{fine}
-use Rattle.chain.specs.Chain.{Chain, mostAmount, mostSteps, Legal}
+use Rattle.chain.specs.Verdict.{Verdict, fine, _then_, done}
+use Rattle.chain.specs.Written.{over}
+use Rattle.chain.specs.Chain.{mostAmount}
 use Rattle.chain.specs.declared.Step.{Step}
-use Rattle.chain.proofs.Rules.{pass, refuse-no, or-none, lt-no}
-use Rattle.chain.proofs.Sizes.{Sizes}
-use Rattle.chain.proofs.Outputs.{outputs-low}
-use Rattle.chain.proofs.Legal.{LegalChain, parts-legal, parts-chain}
+use Rattle.chain.proofs.Rules.{pass, answer-done, renewed}
+use Rattle.chain.proofs.Written.{over-getD}
 use Rattle.residue.specs.Residue.{figure}
-use Rattle.verify.specs.Verify.{scratchSize, verifyRule}
-use Rattle.verify.proofs.Passing.{Passing, passes-verify}
-use Rattle.run.specs.Run.{residues, pick, runRule}
-use Rattle.run.proofs.Accepted.{accepting}
-use Rattle.run.proofs.Residues.{figure-law}
-use Rattle.file.specs.File.{byteCount, fileOf, writeRule, readRule}
-use Rattle.file.proofs.ReadingBack.{ReadBack, reading-gives, reading-back}
-use Rattle.compile.specs.Compile.{chainOf, count, ceiling, acceptedRule, compileRule}
-use Rattle.compile.proofs.Fits.{Accepted, accepted}
-use Rattle.compile.proofs.Right.{Right, compiled-right}
+use Rattle.verify.specs.Verify.{verifyRule}
+use Rattle.run.specs.Run.{residues, pick, runRule, runFigures}
+use Rattle.run.proofs.Figures.{length-pick}
+use Rattle.file.specs.File.{lengthOf, stepsOf, columnsOf, outputsOf}
+use Rattle.compile.specs.Compile.{count, ceiling, acceptedRule}
+use Rattle.path.specs.Path.{Lent, compiled, written, compiles, writes, reads, checks, beforeRun, runs, pathAnswer, pathLeaves}
+use Rattle.path.specs.Demand3.{LongEnough, Receivable, Demand3}
+use Rattle.path.proofs.Promised.{Promised, promised}
 
--- what is promised of the chain c of an accepted sheet, with n its count and most its ceiling
-pub record Promised (p q : ℕ) (amounts : List ℕ) (method k : ℕ) (c : Chain) (n most : ℕ) : Type 0 where
-  -- compile, write and read succeed where the lent slices are long enough, and reading gives the chain
-  pub compiles : (pairsLent outputsLent : ℕ) → n ≤ pairsLent → q ≤ outputsLent → compileRule p q amounts method k pairsLent outputsLent ≡ fine
-  pub writes : (bytesLent : ℕ) → byteCount p q n ≤ bytesLent → writeRule p (c .steps) (c .outputs) bytesLent ≡ fine
-  pub reads : (pairsLent outputsLent : ℕ) → n ≤ pairsLent → q ≤ outputsLent → readRule (fileOf p (c .steps) (c .outputs)) pairsLent outputsLent ≡ fine
-  pub read-back : ReadBack p (c .steps) (c .outputs) (fileOf p (c .steps) (c .outputs))
-  -- the check passes
-  pub passes : (scratch : ℕ) → scratchSize p n ≤ scratch → verifyRule p (c .steps) (c .outputs) amounts scratch ≡ fine
-  -- the run succeeds for every modulus from 1 on and every list of bases below it, and its figures are the products of powers
-  pub runs : (m : ℕ) (bases : List ℕ) → 0 < m → length bases ≡ p → ((d : ℕ) → d < p → getD bases d 0 < m) → (room places : ℕ) → p + n < room → q ≤ places
-      → runRule p (c .steps) (c .outputs) m bases room places ≡ fine
-  pub figures : (m : ℕ) (bases : List ℕ) → 0 < m → length bases ≡ p → ((d : ℕ) → d < p → getD bases d 0 < m)
-      → (i : ℕ) → i < q → getD (pick (residues m bases (c .steps)) (c .outputs)) i 0 ≡ figure p m bases amounts i
-  -- the multiplications are the steps, which are as many as the count, and that keeps to the ceiling
-  pub multiplications : length (c .steps) ≡ n
-  pub payslips : length (c .outputs) ≡ q
-  pub limited : n ≤ most
+module _ (p q : ℕ) (amounts : List ℕ) (method k : ℕ) (low : (j : ℕ) → getD amounts j 0 ≤ mostAmount) (l : Lent) where
+  abbrev n : ℕ
+  n = count p q amounts method k
 
-module _ (p q : ℕ) (amounts : List ℕ) (method k : ℕ) (low : (j : ℕ) → getD amounts j 0 ≤ mostAmount) (ok : acceptedRule p q amounts method k ≡ fine) where
-  abbrev c : Chain
-  c = chainOf p q amounts method k
+  -- a chain as it was read, where the chain compiled was meant
+  as-compiled : Promised p q amounts method k (compiled p q amounts method k) n (ceiling p q amounts method k) → (v : Verdict) (f : ℕ → List Step → List ℕ → Verdict)
+      → f p (compiled p q amounts method k .steps) (compiled p q amounts method k .outputs) ≡ v
+      → f (columnsOf (written p q amounts method k)) (stepsOf (written p q amounts method k)) (outputsOf (written p q amounts method k)) ≡ v
+  as-compiled ok v f e = rw (ok .read-back .columns, ok .read-back .steps-same, ok .read-back .outputs-same) e
 
-  fits : Accepted p q amounts method k
-  fits = accepted p q amounts method k ok
+  module _ (accepted : acceptedRule p q amounts method k ≡ fine) (long : LongEnough p q n l) where
+    ok : Promised p q amounts method k (compiled p q amounts method k) n (ceiling p q amounts method k)
+    ok = promised p q amounts method k low accepted
 
-  right : Right p q amounts c (count p q amounts method k) (ceiling p q amounts method k)
-  right = compiled-right p q amounts method k low (fits .fitting .fits)
+    checks-too : fine ≡ checks p q amounts method k l
+    checks-too = sym (as-compiled ok fine (λ a b c. verifyRule a b c amounts (length (l .scratch))) (ok .passes _ (long .scratch)))
 
-  sizes : Sizes p (length (c .outputs))
-  sizes = subst (λ (n : ℕ). Sizes p n) (sym (right .outputs)) (fits .fitting .sizes)
+    -- whatever comes after three calls that find nothing
+    three-calls : (r last : Verdict) → r ≡ last → r ≡ (compiles p q amounts method k l then writes p q amounts method k l then reads p q amounts method k l then last)
+    three-calls r last e =
+        pass _ _ r (sym (ok .compiles _ _ (long .steps) (long .outputs)))
+        (pass _ _ r (sym (ok .writes _ (long .bytes))) (pass _ _ r (sym (ok .reads _ _ (long .stepsRead) (long .outputsRead))) e))
 
-  few : length (c .steps) ≤ mostSteps
-  few = omega (arith, right .counted, fits .short)
+    all-checked : fine ≡ beforeRun p q amounts method k l
+    all-checked = three-calls fine _ checks-too
 
-  legal : Legal p (c .steps) (c .outputs)
-  legal =
-      parts-legal p (c .steps) (c .outputs)
-      (record { sizes = sizes; few = few; chain = parts-chain p (c .steps) (c .outputs) (right .steps-legal) (right .outputs-legal) })
+    module _ (m : ℕ) (bases : List ℕ) (receivable : Receivable p m bases) where
+      runs-too : fine ≡ runs p q amounts method k l m bases
+      runs-too =
+          sym
+          (as-compiled ok fine (λ a b c. runRule a b c m bases (length (l .values)) (length (l .figures)))
+          (ok .runs m bases (receivable .modulus) (receivable .one-each) (receivable .below) _ _ (long .values) (long .figures)))
 
-  made : Passing p (c .steps) (c .outputs) amounts
-  made =
+      all-counted : pathAnswer p q amounts method k l m bases ≡ done (n ∷ n ∷ n ∷ [])
+      unfolding pathAnswer
+      all-counted =
+          sym
+          (answer-done _ (n ∷ lengthOf (written p q amounts method k) ∷ length (stepsOf (written p q amounts method k)) ∷ [])
+          (three-calls fine _ (pass _ _ fine checks-too runs-too)))
+          ∙ ap (λ (x : ℕ). done (n ∷ x ∷ length (stepsOf (written p q amounts method k)) ∷ [])) (ok .read-back .long ∙ ok .multiplications)
+          ∙ ap (λ (x : ℕ). done (n ∷ n ∷ x ∷ [])) (ap length (ok .read-back .steps-same) ∙ ok .multiplications)
+
+      all-figured : (i : ℕ) → i < q → getD (pathLeaves p q amounts method k l m bases .figures) i 0 ≡ figure p m bases amounts i
+      unfolding pathLeaves runFigures
+      all-figured i h =
+          let f = written p q amounts method k in
+          let c = compiled p q amounts method k in
+          let vs : List ℕ = pick (residues m bases (stepsOf f)) (outputsOf f) in
+          let same : vs ≡ pick (residues m bases (c .steps)) (c .outputs) = rw (ok .read-back .steps-same, ok .read-back .outputs-same) in
+          let count-same : length vs ≡ q = ap length same ∙ length-pick (residues m bases (c .steps)) (c .outputs) ∙ ok .payslips in
+          let left = sym (renewed _ _ (l .figures) (over vs (l .figures)) all-checked (renewed _ _ (l .figures) (over vs (l .figures)) runs-too refl)) in
+          ap (λ (x : List ℕ). getD x i 0) left
+          ∙ over-getD vs (l .figures) i (omega arith)
+          ∙ ap (λ (x : List ℕ). getD x i 0) same
+          ∙ ok .figures m bases (receivable .modulus) (receivable .one-each) (receivable .below) i h
+
+  pub demand-3 : (m : ℕ) (bases : List ℕ)
+      → Demand3 p q amounts method k m bases l (pathAnswer p q amounts method k l m bases) (pathLeaves p q amounts method k l m bases)
+  demand-3 m bases =
       record {
-        legal = legal;
-        amounts-fit = fits .fitting .amounts-are ∙ ap (λ (n : ℕ). p * n) (sym (right .outputs));
-        low = right .within;
-        made = λ i h. right .makes i (omega (arith, right .outputs));
-      }
-
-  pub demand-3 : Promised p q amounts method k c (count p q amounts method k) (ceiling p q amounts method k)
-  unfolding compileRule writeRule
-  demand-3 =
-      record {
-        compiles = λ x y h g. sym (pass _ _ fine (sym ok) (refuse-no _ 5 0 (or-none _ _ (lt-no _ _ h) (lt-no _ _ g))));
-        writes = λ x h. sym (pass _ _ fine (sym legal) (refuse-no _ 5 0 (lt-no _ _ (rw (right .outputs, right .counted) h))));
-        reads = λ x y h g. reading-back p (c .steps) (c .outputs) legal x y (omega (arith, right .counted)) (omega (arith, right .outputs));
-        read-back = reading-gives p (c .steps) (c .outputs) legal;
-        passes = λ x h. passes-verify p (c .steps) (c .outputs) amounts x made (omega (arith, right .counted));
-        runs =
-            λ m bases some len under room places h g.
-            accepting p (c .steps) (c .outputs) m bases room places
-            (record {
-              sizes = sizes;
-              modulus = some;
-              bases-are-p = len;
-              bases-low = under;
-              steps-fine = right .steps-legal;
-              outputs-within = outputs-low (p + length (c .steps)) 1 (c .outputs) (right .outputs-legal);
-              values-fit = omega (arith, right .counted);
-              figures-fit = omega (arith, right .outputs);
-            })
-            few;
-        figures =
-            λ m bases some len under i h.
-            figure-law p m bases (c .steps) len under (right .steps-legal) (c .outputs) amounts i (omega (arith, right .outputs)) (right .makes i h);
-        multiplications = right .counted;
-        payslips = right .outputs;
-        limited = right .limited;
+        checked = λ accepted long. sym (all-checked accepted long);
+        counted = λ accepted long receivable. all-counted accepted long m bases receivable;
+        limited = λ accepted. promised p q amounts method k low accepted .limited;
+        figured = λ accepted long receivable. all-figured accepted long m bases receivable;
       }

@@ -1,3 +1,5 @@
 pub mod Figures
+pub mod Promised
 pub mod Demand3
 pub mod Parts
+pub mod Whole

@@ -20,7 +20,7 @@ use Rattle.file.proofs.Taken.{write-stops, write-passes, write-front}
 use Rattle.path.specs.Parts.{dispatchAnswer, dispatchSteps, dispatchOutputs, receiveAnswer, receiveValues, receiveFigures}
 
 -- the answer of a call after one that found nothing
-after-answer : (a b : Verdict) (vs : List ℕ) → fine ≡ a → answer b vs ≡ answer (a then b) vs
+pub after-answer : (a b : Verdict) (vs : List ℕ) → fine ≡ a → answer b vs ≡ answer (a then b) vs
 after-answer a b vs e = ap (λ (v : Verdict). answer v vs) (pass a b b e refl)
 
 module _ (p : ℕ) (steps : List Step) (outputs bytes received results : List ℕ) (w : Written)

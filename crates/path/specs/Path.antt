@@ -20,6 +20,19 @@ pub record Lent : Type 0 where
   pub values : List ℕ
   pub figures : List ℕ
 
+abbrev pub lent : List ℕ → List ℕ → List ℕ → List ℕ → List ℕ → List ℕ → List ℕ → List ℕ → Lent
+lent steps outputs bytes stepsRead outputsRead scratch values figures =
+    record {
+      steps = steps;
+      outputs = outputs;
+      bytes = bytes;
+      stepsRead = stepsRead;
+      outputsRead = outputsRead;
+      scratch = scratch;
+      values = values;
+      figures = figures;
+    }
+
 -- a sheet, a method and a parameter
 module _ (p q : ℕ) (amounts : List ℕ) (method k : ℕ) where
   -- "exactly the n pairs and q outputs that compile filled"

@@ -7,7 +7,7 @@ ghost use Rattle.verify.specs.Verify.{verifyScratch};
 ghost use Rattle.run.specs.Ran.{ranOf};
 ghost use Rattle.file.specs.File.{writeBytes};
 ghost use Rattle.file.specs.Answers.{readOf};
-ghost use Rattle.path.specs.Path.{Lent, pathAnswer, pathLeaves};
+ghost use Rattle.path.specs.Path.{lent, pathAnswer, pathLeaves};
 ghost use Rattle.path.specs.Parts.{dispatchAnswer, dispatchSteps, dispatchOutputs, receiveAnswer, receiveValues, receiveFigures};
 ghost use Rattle.path.specs.Demand3.{Demand3};
 ghost use Rattle.path.specs.Figured.{figuredOf};

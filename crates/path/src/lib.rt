@@ -19,7 +19,11 @@ use verify::Verified;
 
 // The steps that compile and read return and the multiplications made, or the refusal of the first call that refuses.
 pub enum Figured {
-    Counts { compiled: usize, read: usize, made: usize },
+    Counts {
+        compiled: usize,
+        read: usize,
+        made: usize,
+    },
     Refused(u32, usize),
 }
 
@@ -63,5 +67,68 @@ fn receive(
     match verify::verify(p, steps, outputs, amounts, scratch) {
         Verified::Refused(number, place) => Ran::Refused(number, place),
         Verified::Passed => run::run(p, steps, outputs, m, bases, values, figures),
+    }
+}
+
+// Demand 3's path: compile, write, read, check and run, each from exactly what the call before it filled. What is read stands in `received` and `results`.
+pub fn sheet_to_figures(
+    p: usize,
+    q: usize,
+    amounts: &[u32],
+    method: usize,
+    k: usize,
+    m: u32,
+    bases: &[u32],
+    steps: &mut [u32],
+    outputs: &mut [u32],
+    bytes: &mut [u8],
+    received: &mut [u32],
+    results: &mut [u32],
+    scratch: &mut [u32],
+    values: &mut [u32],
+    figures: &mut [u32],
+) -> Figured
+    ensures { λ r. ⌜ figuredOf r ≡ pathAnswer p q (now (amounts .entry)) method k (lent (now (steps .entry)) (now (outputs .entry)) (now (bytes .entry)) (now (received .entry)) (now (results .entry)) (now (scratch .entry)) (now (values .entry)) (now (figures .entry))) m (now (bases .entry)) ⌝ }
+    ensures { λ r. ⌜ lent (now (steps .exit)) (now (outputs .exit)) (now (bytes .exit)) (now (received .exit)) (now (results .exit)) (now (scratch .exit)) (now (values .exit)) (now (figures .exit)) ≡ pathLeaves p q (now (amounts .entry)) method k (lent (now (steps .entry)) (now (outputs .entry)) (now (bytes .entry)) (now (received .entry)) (now (results .entry)) (now (scratch .entry)) (now (values .entry)) (now (figures .entry))) m (now (bases .entry)) ⌝ }
+    ensures { λ r. ⌜ Demand3 p q (now (amounts .entry)) method k m (now (bases .entry)) (lent (now (steps .entry)) (now (outputs .entry)) (now (bytes .entry)) (now (received .entry)) (now (results .entry)) (now (scratch .entry)) (now (values .entry)) (now (figures .entry))) (figuredOf r) (lent (now (steps .exit)) (now (outputs .exit)) (now (bytes .exit)) (now (received .exit)) (now (results .exit)) (now (scratch .exit)) (now (values .exit)) (now (figures .exit))) ⌝ }
+{
+    match compile::compile(p, q, amounts, method, k, steps, outputs) {
+        Compiled::Refused(number, place) => Figured::Refused(number, place),
+        Compiled::Steps(compiled) => {
+            match dispatch(
+                p,
+                &steps[..2 * compiled],
+                &outputs[..q],
+                bytes,
+                received,
+                results,
+            ) {
+                Reading::Refused(number, place) => Figured::Refused(number, place),
+                Reading::Chain {
+                    p: columns,
+                    q: payslips,
+                    n: read,
+                } => {
+                    match receive(
+                        columns,
+                        &received[..2 * read],
+                        &results[..payslips],
+                        amounts,
+                        m,
+                        bases,
+                        scratch,
+                        values,
+                        figures,
+                    ) {
+                        Ran::Refused(number, place) => Figured::Refused(number, place),
+                        Ran::Multiplications(made) => Figured::Counts {
+                            compiled: compiled,
+                            read: read,
+                            made: made,
+                        },
+                    }
+                }
+            }
+        }
     }
 }

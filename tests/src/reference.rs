@@ -294,16 +294,14 @@ pub fn path(job: &Job, m: u32, bases: &[u32], lent: &mut Lent) -> Answer {
     Ok(vec![compiled, read[2], made])
 }
 
-/// The file chosen (1 or 2), or the refusal.
+/// The file chosen (1 or 2), or the refusal. Of the scratch it sees how many pairs, outputs and numbers are lent.
 pub fn choose(
     p: usize,
     q: usize,
     amounts: &[u32],
     a: &[u8],
     b: &[u8],
-    pairs_lent: usize,
-    outputs_lent: usize,
-    numbers_lent: usize,
+    (pairs_lent, outputs_lent, numbers_lent): (usize, usize, usize),
 ) -> Answer {
     sizes(p, q)?;
     if amounts.len() != p * q {

@@ -5,38 +5,52 @@ use spoutbasket_tests::random::{job_counting, sheet, Random};
 use spoutbasket_tests::reference::{self, Answer, Job};
 
 /// What compile answers and leaves in its two slices.
-#[derive(Debug, PartialEq)]
 struct Compiled {
     answer: Answer,
     steps: Vec<u32>,
     outputs: Vec<u32>,
 }
 
-/// Compile by the library and by the reference into equal slices: the same answer and the same cells.
+/// Compile by the library and by the reference into equal slices: the same answer and the same cells, untouched by a refusal.
 fn same_compile(job: &Job, steps: &[u32], outputs: &[u32]) -> Compiled {
-    let by = |compile: fn(usize, usize, &[u32], usize, usize, &mut [u32], &mut [u32]) -> Answer| {
-        let (mut steps, mut outputs) = (steps.to_vec(), outputs.to_vec());
-        let answer = compile(
-            job.p,
-            job.q,
-            &job.amounts,
-            job.method,
-            job.parameter,
-            &mut steps,
-            &mut outputs,
-        );
-        Compiled {
-            answer,
-            steps,
-            outputs,
-        }
-    };
-    let got = by(ffi::compile);
-    assert_eq!(got, by(reference::compile), "{job:?}");
-    if got.answer.is_err() {
-        assert_eq!((&got.steps[..], &got.outputs[..]), (steps, outputs));
+    let Job {
+        p,
+        q,
+        ref amounts,
+        method,
+        parameter,
+    } = *job;
+    let (mut ours, mut theirs) = (steps.to_vec(), steps.to_vec());
+    let (mut our_outputs, mut their_outputs) = (outputs.to_vec(), outputs.to_vec());
+    let got = ffi::compile(
+        p,
+        q,
+        amounts,
+        method,
+        parameter,
+        &mut ours,
+        &mut our_outputs,
+    );
+    let want = reference::compile(
+        p,
+        q,
+        amounts,
+        method,
+        parameter,
+        &mut theirs,
+        &mut their_outputs,
+    );
+    assert_eq!(got, want, "{job:?}");
+    assert_eq!(ours, theirs, "{job:?}");
+    assert_eq!(our_outputs, their_outputs, "{job:?}");
+    if got.is_err() {
+        assert_eq!((&ours[..], &our_outputs[..]), (steps, outputs), "{job:?}");
     }
-    got
+    Compiled {
+        answer: got,
+        steps: ours,
+        outputs: our_outputs,
+    }
 }
 
 /// An accepted job: n is the count and keeps to the ceiling.

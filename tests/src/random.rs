@@ -134,13 +134,7 @@ pub fn job(r: &mut Random, most_columns: usize, most_payslips: usize) -> Job {
     let bits = r.below(33);
     let amounts = sheet(r, p, q, bits);
     let (method, parameter) = r.pick(&methods(p));
-    Job {
-        p,
-        q,
-        amounts,
-        method,
-        parameter,
-    }
+    Job::new(p, q, &amounts, method, parameter)
 }
 
 /// A job of 16 columns and 64 payslips whose count is just n: amounts are raised one by one as long as the count stays within n.

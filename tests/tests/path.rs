@@ -38,7 +38,7 @@ fn figures(job: &Job, m: u32, bases: &[u32]) -> Vec<u32> {
         .collect()
 }
 
-/// An accepted job: the path succeeds, n is three times the count, which keeps to the ceiling, and the figures are the power loop's.
+/// An accepted job: the path succeeds, each n that it answers is the count, which keeps to the ceiling, and the figures are the power loop's.
 fn walk(r: &mut Random, job: &Job, m: u32, bases: &[u32], spare: usize) -> Lent {
     let lent = lent(r, job, spare);
     let (answer, after) = same_path(job, m, bases, &lent);
@@ -49,6 +49,7 @@ fn walk(r: &mut Random, job: &Job, m: u32, bases: &[u32], spare: usize) -> Lent 
     after
 }
 
+/// 1, 2 and the largest modulus in turn, and others.
 fn some_modulus(r: &mut Random, round: usize) -> u32 {
     match round % 5 {
         0 => 1,

@@ -1,24 +1,30 @@
 //! The library beside plain Rust, on the same input and machine, in one run. A ratio is plain Rust's time over the library's:
 //! 1.0 or more means that the library is at least as fast. Nothing is asserted of times.
+mod methods;
 mod plain;
+mod sheet;
 
 use spoutbasket_tests::ffi;
 use spoutbasket_tests::random::{legal_chain, Chain, Random};
 use std::hint::black_box;
 use std::time::Instant;
 
-/// The least time of some rounds, in nanoseconds, the two jobs taking turns.
-fn least(rounds: usize, mut ours: impl FnMut(), mut theirs: impl FnMut()) -> (f64, f64) {
-    let mut best = (f64::MAX, f64::MAX);
+/// The median times of an odd number of rounds, in nanoseconds, the two jobs taking turns.
+fn medians(rounds: usize, mut ours: impl FnMut(), mut theirs: impl FnMut()) -> (f64, f64) {
+    let (mut our_times, mut their_times) = (vec![], vec![]);
     for _ in 0..rounds {
         let start = Instant::now();
         ours();
-        best.0 = best.0.min(start.elapsed().as_nanos() as f64);
+        our_times.push(start.elapsed().as_nanos());
         let start = Instant::now();
         theirs();
-        best.1 = best.1.min(start.elapsed().as_nanos() as f64);
+        their_times.push(start.elapsed().as_nanos());
     }
-    best
+    let median = |mut times: Vec<u128>| {
+        times.sort();
+        times[rounds / 2] as f64
+    };
+    (median(our_times), median(their_times))
 }
 
 fn report(job: &str, (ours, theirs): (f64, f64)) {
@@ -58,8 +64,8 @@ fn main() {
     let (mut scratch, mut other) = (vec![0; 16_017], vec![0; 16_017]);
     report(
         "check, 16,000 steps, p = 16, q = 64",
-        least(
-            300,
+        medians(
+            301,
             || {
                 assert!(
                     ffi::verify(c.p, &c.steps, &c.outputs, black_box(&amounts), &mut scratch)
@@ -85,8 +91,8 @@ fn main() {
         let (mut figures, mut other_figures) = (vec![0; 64], vec![0; 64]);
         report(
             name,
-            least(
-                1000,
+            medians(
+                1001,
                 || {
                     assert!(ffi::run(
                         16,
@@ -118,8 +124,8 @@ fn main() {
     let (mut bytes, mut other) = (vec![0; 56_116], vec![0; 56_116]);
     report(
         "write, a file of 56,116 bytes",
-        least(
-            1000,
+        medians(
+            1001,
             || {
                 assert!(ffi::write(
                     16,
@@ -145,8 +151,8 @@ fn main() {
     let (mut outputs, mut other_outputs) = (vec![0; 64], vec![0; 64]);
     report(
         "read, a file of 56,116 bytes",
-        least(
-            1000,
+        medians(
+            1001,
             || assert!(ffi::read(black_box(&bytes), &mut steps, &mut outputs).is_ok()),
             || {
                 assert!(
@@ -157,4 +163,5 @@ fn main() {
     );
     assert_eq!((&steps, &outputs), (&other_steps, &other_outputs));
     assert_eq!(steps, scattered.steps);
+    sheet::measure();
 }

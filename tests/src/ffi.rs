@@ -1,10 +1,51 @@
 //! The C interface of the static library, and a safe function over each entry point.
 //! A slice crosses as a pointer and a length. Nothing checks these declarations against the Rattle source but the tests.
 
-use crate::reference::Answer;
+use crate::reference::{Answer, Job, Lent};
 
 mod raw {
     extern "C" {
+        pub fn spoutbasket_compile(
+            p: usize,
+            q: usize,
+            amounts: *const u32,
+            amounts_len: usize,
+            method: usize,
+            parameter: usize,
+            steps: *mut u32,
+            steps_len: usize,
+            outputs: *mut u32,
+            outputs_len: usize,
+            answer: *mut u64,
+        ) -> u32;
+        pub fn spoutbasket_path(
+            p: usize,
+            q: usize,
+            amounts: *const u32,
+            amounts_len: usize,
+            method: usize,
+            parameter: usize,
+            m: u32,
+            bases: *const u32,
+            bases_len: usize,
+            steps: *mut u32,
+            steps_len: usize,
+            outputs: *mut u32,
+            outputs_len: usize,
+            bytes: *mut u8,
+            bytes_len: usize,
+            read_steps: *mut u32,
+            read_steps_len: usize,
+            read_outputs: *mut u32,
+            read_outputs_len: usize,
+            scratch: *mut u32,
+            scratch_len: usize,
+            values: *mut u32,
+            values_len: usize,
+            figures: *mut u32,
+            figures_len: usize,
+            answer: *mut u64,
+        ) -> u32;
         pub fn spoutbasket_write(
             p: usize,
             steps: *const u32,
@@ -212,4 +253,68 @@ pub fn choose(
         )
     };
     answer(number, words, 1)
+}
+
+pub fn compile(
+    p: usize,
+    q: usize,
+    amounts: &[u32],
+    method: usize,
+    parameter: usize,
+    steps: &mut [u32],
+    outputs: &mut [u32],
+) -> Answer {
+    let mut words = [7u64; 4];
+    let number = unsafe {
+        raw::spoutbasket_compile(
+            p,
+            q,
+            amounts.as_ptr(),
+            amounts.len(),
+            method,
+            parameter,
+            steps.as_mut_ptr(),
+            steps.len(),
+            outputs.as_mut_ptr(),
+            outputs.len(),
+            words.as_mut_ptr(),
+        )
+    };
+    answer(number, words, 1)
+}
+
+/// Compile, write, read, check and run in a row.
+pub fn path(job: &Job, m: u32, bases: &[u32], lent: &mut Lent) -> Answer {
+    let mut words = [7u64; 4];
+    let number = unsafe {
+        raw::spoutbasket_path(
+            job.p,
+            job.q,
+            job.amounts.as_ptr(),
+            job.amounts.len(),
+            job.method,
+            job.parameter,
+            m,
+            bases.as_ptr(),
+            bases.len(),
+            lent.steps.as_mut_ptr(),
+            lent.steps.len(),
+            lent.outputs.as_mut_ptr(),
+            lent.outputs.len(),
+            lent.bytes.as_mut_ptr(),
+            lent.bytes.len(),
+            lent.read_steps.as_mut_ptr(),
+            lent.read_steps.len(),
+            lent.read_outputs.as_mut_ptr(),
+            lent.read_outputs.len(),
+            lent.scratch.as_mut_ptr(),
+            lent.scratch.len(),
+            lent.values.as_mut_ptr(),
+            lent.values.len(),
+            lent.figures.as_mut_ptr(),
+            lent.figures.len(),
+            words.as_mut_ptr(),
+        )
+    };
+    answer(number, words, 3)
 }

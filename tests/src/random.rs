@@ -1,4 +1,6 @@
-//! Random numbers from a fixed seed, and random chains.
+//! Random numbers from a fixed seed, random chains, sheets, moduli and bases.
+
+use crate::compiler::{methods, Job};
 
 /// splitmix64.
 pub struct Random(pub u64);
@@ -68,4 +70,89 @@ pub fn legal_chain(r: &mut Random, p: usize, q: usize, n: usize, slow: bool) -> 
         })
         .collect();
     Chain { p, steps, outputs }
+}
+
+/// A modulus, often one at an edge.
+pub fn modulus(r: &mut Random) -> u32 {
+    let any = r.word() as u32 | 1;
+    r.pick(&[
+        1,
+        2,
+        3,
+        7,
+        1000,
+        10_000,
+        65_537,
+        2_147_483_648,
+        u32::MAX - 1,
+        u32::MAX,
+        any,
+        any >> 9,
+    ])
+}
+
+/// Bases below the modulus, often 0 or the largest.
+pub fn bases(r: &mut Random, p: usize, m: u32) -> Vec<u32> {
+    (0..p)
+        .map(|_| {
+            if r.one_in(5) {
+                0
+            } else if r.one_in(5) {
+                m - 1
+            } else {
+                r.below(m as usize) as u32
+            }
+        })
+        .collect()
+}
+
+/// The amounts of a sheet: up to `bits` bits, zeros, whole zero payslips and columns, powers of two and numbers just below them.
+pub fn sheet(r: &mut Random, p: usize, q: usize, bits: usize) -> Vec<u32> {
+    let empty: Vec<bool> = (0..p).map(|_| r.one_in(8)).collect();
+    let mut amounts = vec![];
+    for _ in 0..q {
+        let none = r.one_in(8);
+        for &empty in &empty {
+            let any = r.word() & ((1 << bits) - 1);
+            let power = 1 << r.within(0, bits.saturating_sub(1));
+            let amount = match r.below(8) {
+                _ if none || empty || bits == 0 => 0,
+                0 => 0,
+                1 => power,
+                2 => power - 1,
+                _ => any,
+            };
+            amounts.push(amount as u32);
+        }
+    }
+    amounts
+}
+
+/// A sheet with a method and a parameter that go with it; its chain may be too long.
+pub fn job(r: &mut Random, most_columns: usize, most_payslips: usize) -> Job {
+    let (p, q) = (r.within(1, most_columns), r.within(1, most_payslips));
+    let bits = r.below(33);
+    let amounts = sheet(r, p, q, bits);
+    let (method, parameter) = r.pick(&methods(p));
+    Job::new(p, q, &amounts, method, parameter)
+}
+
+/// A job of 16 columns and 64 payslips whose count is just n: amounts are raised one by one as long as the count stays within n.
+pub fn job_counting(n: usize, method: usize, parameter: usize) -> Job {
+    let mut r = Random(n as u64);
+    let mut job = Job::new(16, 64, &[0; 16 * 64], method, parameter);
+    let mut count = job.count();
+    while count != n {
+        let at = r.below(job.amounts.len());
+        let before = job.amounts[at];
+        let (bit, any) = (1 << r.below(32), r.word() as u32);
+        job.amounts[at] |= r.pick(&[bit, any, u32::MAX]);
+        let raised = job.count();
+        if raised <= n {
+            count = raised;
+        } else {
+            job.amounts[at] = before;
+        }
+    }
+    job
 }

@@ -1,5 +1,7 @@
 //! Document 01 in plain Rust, written from the document alone: what each call answers and what it leaves in each lent slice.
-//! It is slow and simple on purpose.
+//! It is slow and simple on purpose. The methods stand in `compiler`.
+
+pub use crate::compiler::{ceiling, compile, count, make, Job};
 
 /// The values of a call that is done, or a refusal's number and place.
 pub type Answer = Result<Vec<u64>, (u32, u64)>;
@@ -17,14 +19,14 @@ pub fn pairs(steps: &[u32]) -> Vec<(u32, u32)> {
         .collect()
 }
 
-fn sizes(p: usize, q: usize) -> Result<(), (u32, u64)> {
+pub(crate) fn sizes(p: usize, q: usize) -> Result<(), (u32, u64)> {
     if p == 0 || p > MOST_COLUMNS || q == 0 || q > MOST_PAYSLIPS {
         return Err((1, 0));
     }
     Ok(())
 }
 
-fn length(n: usize) -> Result<(), (u32, u64)> {
+pub(crate) fn length(n: usize) -> Result<(), (u32, u64)> {
     if n > MOST_STEPS {
         return Err((4, 0));
     }
@@ -165,7 +167,8 @@ fn bit_length(x: usize) -> usize {
     (usize::BITS - x.leading_zeros()) as usize
 }
 
-fn file_length(p: usize, q: usize, n: usize) -> usize {
+/// The bytes of the file of a chain with n steps.
+pub fn file_length(p: usize, q: usize, n: usize) -> usize {
     (28 + bit_length(p + n) * (2 * n + q)).div_ceil(8)
 }
 
@@ -241,239 +244,64 @@ pub fn read(bytes: &[u8], steps: &mut [u32], outputs: &mut [u32]) -> Answer {
     Ok(vec![p as u64, q as u64, n as u64])
 }
 
-/// A chain in the making: values are vectors of exponents, and a product with the empty value 0 is a copy.
-struct Maker {
-    p: usize,
-    steps: Vec<(u32, u32)>,
+/// The slices lent to the whole path.
+#[derive(Clone, Debug, PartialEq)]
+pub struct Lent {
+    pub steps: Vec<u32>,
+    pub outputs: Vec<u32>,
+    pub bytes: Vec<u8>,
+    pub read_steps: Vec<u32>,
+    pub read_outputs: Vec<u32>,
+    pub scratch: Vec<u32>,
+    pub values: Vec<u32>,
+    pub figures: Vec<u32>,
 }
 
-impl Maker {
-    fn times(&mut self, a: u32, b: u32) -> u32 {
-        if a == 0 || b == 0 {
-            return a + b;
-        }
-        self.steps.push((a.max(b), a.min(b)));
-        (self.p + self.steps.len()) as u32
-    }
-
-    /// The products of all subsets (digits below `base`) of the inputs, in rising number, by their digits.
-    fn table(&mut self, base: usize, inputs: &[u32]) -> std::collections::HashMap<Vec<usize>, u32> {
-        let mut made = std::collections::HashMap::new();
-        for t in 0..base.pow(inputs.len() as u32) {
-            let digits: Vec<usize> = (0..inputs.len())
-                .map(|c| t / base.pow(c as u32) % base)
-                .collect();
-            let value = match digits.iter().sum() {
-                0 => 0,
-                1 => inputs[digits.iter().position(|&d| d == 1).unwrap()],
-                _ => {
-                    let lowest = digits.iter().position(|&d| d != 0).unwrap();
-                    let mut rest = digits.clone();
-                    rest[lowest] -= 1;
-                    self.times(made[&rest], inputs[lowest])
-                }
-            };
-            made.insert(digits, value);
-        }
-        made
-    }
+/// The five calls in a row, each on exactly what the one before filled; the first refusal ends them.
+pub fn path(job: &Job, m: u32, bases: &[u32], lent: &mut Lent) -> Answer {
+    let compiled = compile(
+        job.p,
+        job.q,
+        &job.amounts,
+        job.method,
+        job.parameter,
+        &mut lent.steps,
+        &mut lent.outputs,
+    )?[0];
+    let written = write(
+        job.p,
+        &lent.steps[..2 * compiled as usize],
+        &lent.outputs[..job.q],
+        &mut lent.bytes,
+    )?[0];
+    let read = read(
+        &lent.bytes[..written as usize],
+        &mut lent.read_steps,
+        &mut lent.read_outputs,
+    )?;
+    let (p, q, n) = (read[0] as usize, read[1] as usize, read[2] as usize);
+    let (steps, outputs) = (&lent.read_steps[..2 * n], &lent.read_outputs[..q]);
+    verify(p, steps, outputs, &job.amounts, &mut lent.scratch)?;
+    let made = run(
+        p,
+        steps,
+        outputs,
+        m,
+        bases,
+        &mut lent.values,
+        &mut lent.figures,
+    )?[0];
+    Ok(vec![compiled, read[2], made])
 }
 
-fn digits_of(k: usize, mut x: u64) -> usize {
-    let mut count = 0;
-    while x > 0 {
-        x >>= k;
-        count += 1;
-    }
-    count
-}
-
-fn digit(k: usize, x: u32, j: usize) -> usize {
-    ((x as u64 >> (k * j)) & ((1 << k) - 1)) as usize
-}
-
-/// Steps and outputs by a method and its parameter, whose range is not tested here.
-pub fn make(
-    p: usize,
-    q: usize,
-    amounts: &[u32],
-    method: usize,
-    k: usize,
-) -> (Vec<(u32, u32)>, Vec<u32>) {
-    let payslip = |i: usize| &amounts[i * p..(i + 1) * p];
-    let column_most = |c: usize| (0..q).map(|i| amounts[i * p + c]).max().unwrap();
-    let mut m = Maker { p, steps: vec![] };
-    let mut outputs = vec![];
-    match method {
-        1 => {
-            let bases: Vec<u32> = (1..=p as u32).collect();
-            let table = m.table(1 << k, &bases);
-            for i in 0..q {
-                let most = *payslip(i).iter().max().unwrap();
-                let mut value = 0;
-                for j in (0..digits_of(k, most as u64)).rev() {
-                    for _ in 0..k {
-                        value = m.times(value, value);
-                    }
-                    let digits: Vec<usize> = payslip(i).iter().map(|&x| digit(k, x, j)).collect();
-                    value = m.times(value, table[&digits]);
-                }
-                outputs.push(value);
-            }
-        }
-        2 => {
-            let mut powers: Vec<Vec<u32>> = vec![];
-            for c in 0..p {
-                let mut column = vec![];
-                let mut value = c as u32 + 1;
-                for i in 0..digits_of(k, column_most(c) as u64) {
-                    if i > 0 {
-                        for _ in 0..k {
-                            value = m.times(value, value);
-                        }
-                    }
-                    column.push(value);
-                }
-                powers.push(column);
-            }
-            for i in 0..q {
-                let mut product = 0;
-                for c in 0..p {
-                    let (mut a, mut b) = (0, 0);
-                    for d in (1..1usize << k).rev() {
-                        for (j, &power) in powers[c].iter().enumerate() {
-                            if digit(k, payslip(i)[c], j) == d {
-                                b = m.times(b, power);
-                            }
-                        }
-                        a = m.times(a, b);
-                    }
-                    product = m.times(product, a);
-                }
-                outputs.push(product);
-            }
-        }
-        _ => {
-            let mut inputs: Vec<(u32, usize, usize)> = vec![];
-            for c in 0..p {
-                let mut value = c as u32 + 1;
-                for j in 0..digits_of(1, column_most(c) as u64) {
-                    if j > 0 {
-                        value = m.times(value, value);
-                    }
-                    inputs.push((value, c, j));
-                }
-            }
-            let groups: Vec<_> = inputs.chunks(k).collect();
-            let tables: Vec<_> = groups
-                .iter()
-                .map(|group| m.table(2, &group.iter().map(|g| g.0).collect::<Vec<_>>()))
-                .collect();
-            for i in 0..q {
-                let mut product = 0;
-                for (group, table) in groups.iter().zip(&tables) {
-                    let part: Vec<usize> = group
-                        .iter()
-                        .map(|&(_, c, j)| digit(1, payslip(i)[c], j))
-                        .collect();
-                    product = m.times(product, table[&part]);
-                }
-                outputs.push(product);
-            }
-        }
-    }
-    (m.steps, outputs)
-}
-
-fn parameter(p: usize, method: usize, k: usize) -> Result<(), (u32, u64)> {
-    let fits = match method {
-        1 => (1..=5).contains(&k) && p * k <= 10,
-        2 | 3 => (1..=8).contains(&k),
-        _ => false,
-    };
-    if fits {
-        Ok(())
-    } else {
-        Err((3, 0))
-    }
-}
-
-pub fn compile(
-    p: usize,
-    q: usize,
-    amounts: &[u32],
-    method: usize,
-    k: usize,
-    steps: &mut [u32],
-    outputs: &mut [u32],
-) -> Answer {
-    sizes(p, q)?;
-    if amounts.len() != p * q {
-        return Err((2, 0));
-    }
-    parameter(p, method, k)?;
-    let (made, outs) = make(p, q, amounts, method, k);
-    length(made.len())?;
-    if steps.len() / 2 < made.len() || outputs.len() < q {
-        return Err((5, 0));
-    }
-    for (i, &(first, second)) in made.iter().enumerate() {
-        steps[2 * i] = first;
-        steps[2 * i + 1] = second;
-    }
-    outputs[..q].copy_from_slice(&outs);
-    Ok(vec![made.len() as u64])
-}
-
-/// The ceiling of a method, from the document's formulas.
-pub fn ceiling(p: usize, q: usize, amounts: &[u32], method: usize, k: usize) -> usize {
-    let amount = |i: usize, c: usize| amounts[i * p + c];
-    let column_most = |c: usize| (0..q).map(|i| amount(i, c)).max().unwrap() as u64;
-    match method {
-        1 => {
-            let slips: usize = (0..q)
-                .map(|i| (0..p).map(|c| amount(i, c)).max().unwrap() as u64)
-                .filter(|&most| most > 0)
-                .map(|most| (digits_of(k, most) - 1) * (k + 1))
-                .sum();
-            (1 << (p * k)) - p - 1 + slips
-        }
-        2 => {
-            let js: Vec<usize> = (0..p).map(|c| digits_of(k, column_most(c))).collect();
-            let squarings: usize = js.iter().filter(|&&j| j > 0).map(|j| (j - 1) * k).sum();
-            let slips: usize = (0..q)
-                .map(|i| {
-                    let some: Vec<usize> = (0..p).filter(|&c| amount(i, c) > 0).collect();
-                    some.iter().map(|&c| js[c] + (1 << k) - 3).sum::<usize>()
-                        + some.len().saturating_sub(1)
-                })
-                .sum();
-            squarings + slips
-        }
-        _ => {
-            let bits: Vec<usize> = (0..p).map(|c| digits_of(1, column_most(c))).collect();
-            let w: usize = bits.iter().sum();
-            if w == 0 {
-                return 0;
-            }
-            let groups = w.div_ceil(k);
-            w - bits.iter().filter(|&&b| b > 0).count()
-                + groups * ((1 << k) - k - 1)
-                + q * (groups - 1)
-        }
-    }
-}
-
-/// The file chosen (1 or 2), or the refusal.
+/// The file chosen (1 or 2), or the refusal. Of the scratch it sees how many pairs, outputs and numbers are lent.
 pub fn choose(
     p: usize,
     q: usize,
     amounts: &[u32],
     a: &[u8],
     b: &[u8],
-    pairs_lent: usize,
-    outputs_lent: usize,
-    numbers_lent: usize,
+    (pairs_lent, outputs_lent, numbers_lent): (usize, usize, usize),
 ) -> Answer {
     sizes(p, q)?;
     if amounts.len() != p * q {

@@ -1,5 +1,5 @@
 //! The check and the run against the reference, every lent cell included.
-use spoutbasket_tests::random::{legal_chain, Chain, Random};
+use spoutbasket_tests::random::{bases, legal_chain, modulus, Chain, Random};
 use spoutbasket_tests::{ffi, reference};
 
 /// The check by the library and by the reference, on equal scratch: the same answer and the same cells.
@@ -58,38 +58,6 @@ fn sheet_of(c: &Chain) -> Option<Vec<u32>> {
             .flat_map(|&o| all[o as usize].iter().map(|&e| e as u32))
             .collect(),
     )
-}
-
-fn modulus(r: &mut Random) -> u32 {
-    let any = r.word() as u32 | 1;
-    r.pick(&[
-        1,
-        2,
-        3,
-        7,
-        1000,
-        10_000,
-        65_537,
-        2_147_483_648,
-        u32::MAX - 1,
-        u32::MAX,
-        any,
-        any >> 9,
-    ])
-}
-
-fn bases(r: &mut Random, p: usize, m: u32) -> Vec<u32> {
-    (0..p)
-        .map(|_| {
-            if r.one_in(5) {
-                0
-            } else if r.one_in(5) {
-                m - 1
-            } else {
-                r.below(m as usize) as u32
-            }
-        })
-        .collect()
 }
 
 #[test]

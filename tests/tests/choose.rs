@@ -58,7 +58,7 @@ fn pairs_of_files() {
         let got = ffi::choose(p, q, &amounts, &a, &b, &mut scratch);
         assert_eq!(
             got,
-            reference::choose(p, q, &amounts, &a, &b, 16_000, 64, 16_017),
+            reference::choose(p, q, &amounts, &a, &b, (16_000, 64, 16_017)),
             "{p} {q} {amounts:?} {a:02x?} {b:02x?}"
         );
         *seen

@@ -197,7 +197,7 @@ fn files_of_five_bytes() {
                 | if states_five {
                     rest
                 } else {
-                    header * 0x9e37 & 0xfff
+                    (header * 0x9e37) & 0xfff
                 };
             let bytes = &all.to_be_bytes()[3..];
             if states_five {

@@ -1,9 +1,10 @@
 //! The reference itself against document 01's trials, so that an agreement with it means something.
-use spoutbasket_tests::random::Random;
+use spoutbasket_tests::compiler::methods;
+use spoutbasket_tests::random::{sheet, Random};
 use spoutbasket_tests::reference::*;
 
 #[test]
-fn trials_a_to_e() {
+fn trials_a_to_f_and_i() {
     assert_eq!(
         make(2, 1, &[3, 2], 1, 1),
         (vec![(2, 1), (3, 3), (4, 1)], vec![5])
@@ -17,15 +18,88 @@ fn trials_a_to_e() {
         (vec![(1, 1), (2, 2), (3, 1), (4, 2), (5, 4)], vec![7])
     );
     assert_eq!(
-        make(1, 1, &[11], 1, 2).0,
-        [(1, 1), (2, 1), (2, 2), (4, 4), (5, 3)]
+        make(1, 1, &[11], 1, 2),
+        (vec![(1, 1), (2, 1), (2, 2), (4, 4), (5, 3)], vec![6])
     );
     assert_eq!(
-        make(1, 1, &[11], 2, 2).0,
-        [(1, 1), (2, 2), (3, 1), (4, 1), (5, 4)]
+        make(1, 1, &[11], 2, 2),
+        (vec![(1, 1), (2, 2), (3, 1), (4, 1), (5, 4)], vec![6])
     );
     assert_eq!(make(1, 1, &[0], 1, 1), (vec![], vec![0]));
     assert_eq!(make(1, 1, &[u32::MAX], 1, 1).0.len(), 62);
+}
+
+/// Trials G and H: chains that no method here makes, held against their amounts.
+#[test]
+fn trials_g_and_h() {
+    let g = [1, 1, 2, 1, 3, 2, 4, 2, 5, 5, 6, 6, 7, 7, 8, 5];
+    assert_eq!(verify(1, &g, &[9], &[63], &mut [7; 10]), Ok(vec![]));
+    assert_eq!(verify(1, &g, &[9], &[62], &mut [7; 10]), Err((14, 1)));
+    let squarings: Vec<u32> = (1..=32).flat_map(|v| [v, v]).collect();
+    assert_eq!(
+        verify(1, &squarings[..62], &[32], &[1 << 31], &mut [7; 33]),
+        Ok(vec![])
+    );
+    assert_eq!(
+        verify(1, &squarings, &[32], &[1 << 31], &mut [7; 34]),
+        Err((13, 32))
+    );
+}
+
+/// Trial J: example 2 of source document 000, by every method and parameter, run over the bases 3, 5 and 7.
+#[test]
+fn trial_j() {
+    let amounts = [3, 0, 2, 1, 2, 0, 0, 0, 2, 3, 2, 1];
+    let want = [1323, 75, 49, 4725];
+    for (i, figure_wanted) in want.into_iter().enumerate() {
+        assert_eq!(
+            figure(10_000, &[3, 5, 7], &amounts[3 * i..3 * i + 3]),
+            figure_wanted
+        );
+    }
+    for (method, k) in methods(3) {
+        let (steps, outputs) = make(3, 4, &amounts, method, k);
+        let flat: Vec<u32> = steps.iter().flat_map(|&(a, b)| [a, b]).collect();
+        let (mut values, mut figures) = (vec![0; 4 + steps.len()], [0; 4]);
+        assert_eq!(
+            run(
+                3,
+                &flat,
+                &outputs,
+                10_000,
+                &[3, 5, 7],
+                &mut values,
+                &mut figures
+            ),
+            Ok(vec![steps.len() as u64])
+        );
+        assert_eq!(figures, want);
+    }
+}
+
+/// What document 01 leaves to a reading: tables are made for a sheet of zeros too, and for subsets that nobody uses; the larger number stands first.
+#[test]
+fn readings() {
+    assert_eq!(
+        make(2, 1, &[0, 0], 1, 1),
+        (vec![(2, 1)], vec![0]),
+        "Straus on a sheet of zeros"
+    );
+    assert_eq!(make(2, 1, &[0, 0], 2, 1), (vec![], vec![0]));
+    assert_eq!(make(2, 1, &[0, 0], 3, 1), (vec![], vec![0]));
+    // 4 takes one input of the group of three; the four subsets of two or more are made all the same
+    assert_eq!(
+        make(1, 1, &[4], 3, 3),
+        (
+            vec![(1, 1), (2, 2), (2, 1), (3, 1), (3, 2), (6, 1)],
+            vec![3]
+        )
+    );
+    // 5 takes values 1 and 3: the running product is value 1, and the larger number stands first all the same
+    assert_eq!(
+        make(1, 1, &[5], 3, 2),
+        (vec![(1, 1), (2, 2), (2, 1), (3, 1)], vec![5])
+    );
 }
 
 #[test]
@@ -37,38 +111,60 @@ fn file_of_trial_a() {
     assert_eq!(listing(&[]), "refused 6\n");
 }
 
-/// A compiled chain passes the check, and its steps keep to the ceiling.
+/// Counts and ceilings worked out by hand from the document's formulas.
+#[test]
+fn counts_and_ceilings() {
+    for (p, q, amounts, method, k, counted, most) in [
+        // trials A to F and I
+        (2, 1, &[3, 2][..], 1, 1, 3, 3),
+        (2, 1, &[3, 2], 2, 1, 4, 5),
+        (2, 1, &[3, 2], 3, 2, 5, 5),
+        (1, 1, &[11], 1, 2, 5, 5),
+        (1, 1, &[11], 2, 2, 5, 5),
+        (1, 1, &[0], 1, 1, 0, 0),
+        (1, 1, &[u32::MAX], 1, 1, 62, 62),
+        // 16 = 4^2 has three digits in base 4: 2 for the table, 2·2 squarings, no lower digit; the ceiling has 2·3
+        (1, 1, &[16], 1, 2, 6, 8),
+        // squarings 4; 16 has one digit: 0; the ceiling has 3 + 4 − 3
+        (1, 1, &[16], 2, 2, 4, 8),
+        // w = 5, squarings 4; groups of 2, 2 and 1: 1 + 1 + 0; one part each: 0; ceiling 4 + 3·1 + 1·2
+        (1, 1, &[16], 3, 2, 6, 9),
+        // the second column and the second payslip are zero
+        (2, 2, &[7, 0, 0, 0], 1, 1, 5, 5),
+        (2, 2, &[7, 0, 0, 0], 2, 1, 4, 4),
+        (2, 2, &[7, 0, 0, 0], 3, 1, 4, 6),
+    ] {
+        let case = format!("{p} {q} {amounts:?} method {method} parameter {k}");
+        assert_eq!(count(p, q, amounts, method, k), counted, "{case}");
+        assert_eq!(ceiling(p, q, amounts, method, k), most, "{case}");
+        assert_eq!(make(p, q, amounts, method, k).0.len(), counted, "{case}");
+    }
+}
+
+/// A compiled chain passes the check, and its steps are as many as counted and keep to the ceiling.
 #[test]
 fn compiled_chains_pass() {
     let mut r = Random(5);
     for _ in 0..400 {
         let (p, q) = (r.within(1, 5), r.within(1, 5));
         let bits = r.below(33);
-        let amounts: Vec<u32> = (0..p * q)
-            .map(|_| {
-                if r.one_in(4) {
-                    0
-                } else {
-                    (r.word() & ((1 << bits) - 1)) as u32
-                }
-            })
-            .collect();
-        for (method, k) in (1..=3).flat_map(|m| (1..=8).map(move |k| (m, k))) {
+        let amounts = sheet(&mut r, p, q, bits);
+        for (method, k) in methods(p) {
             let (mut steps, mut outputs) = (vec![0; 32_000], vec![0; q]);
-            if let Ok(n) = compile(p, q, &amounts, method, k, &mut steps, &mut outputs) {
-                let n = n[0] as usize;
-                assert_eq!(
-                    verify(
-                        p,
-                        &steps[..2 * n],
-                        &outputs,
-                        &amounts,
-                        &mut vec![0; p + n + 1]
-                    ),
-                    Ok(vec![])
-                );
-                assert!(n <= ceiling(p, q, &amounts, method, k));
-            }
+            let n = compile(p, q, &amounts, method, k, &mut steps, &mut outputs).unwrap()[0];
+            let n = n as usize;
+            assert_eq!(
+                verify(
+                    p,
+                    &steps[..2 * n],
+                    &outputs,
+                    &amounts,
+                    &mut vec![0; p + n + 1]
+                ),
+                Ok(vec![])
+            );
+            assert_eq!(n, count(p, q, &amounts, method, k));
+            assert!(n <= ceiling(p, q, &amounts, method, k));
         }
     }
 }

@@ -1,0 +1,178 @@
+//! A month's sheet, 9 pay elements by 48 payslips, amounts of pence up to 20 bits: what the chain spares a receiver, and what compile and the whole
+//! path cost beside plain Rust.
+use crate::{medians, methods, plain, report};
+use spoutbasket_tests::ffi;
+use spoutbasket_tests::random::Random;
+use spoutbasket_tests::reference::{Job, Lent};
+use std::hint::black_box;
+
+const P: usize = 9;
+const Q: usize = 48;
+
+/// The job with the fewest steps among those of a method, or of all.
+fn fewest(amounts: &[u32], of: impl Fn(usize) -> bool) -> Job {
+    spoutbasket_tests::compiler::methods(P)
+        .into_iter()
+        .filter(|&(method, _)| of(method))
+        .map(|(method, k)| Job::new(P, Q, amounts, method, k))
+        .min_by_key(Job::count)
+        .unwrap()
+}
+
+/// The figures the plain way, one modular power for each amount, and the multiplications made.
+fn powers(m: u32, bases: &[u32], amounts: &[u32], figures: &mut [u32]) -> usize {
+    let m = m as u64;
+    let mut made = 0;
+    for (slip, figure) in amounts.chunks_exact(P).zip(figures) {
+        let mut product = None;
+        for (&base, &amount) in bases.iter().zip(slip) {
+            if amount == 0 {
+                continue;
+            }
+            let mut power = base as u64;
+            for bit in (0..amount.ilog2()).rev() {
+                power = power * power % m;
+                made += 1;
+                if amount >> bit & 1 == 1 {
+                    power = power * base as u64 % m;
+                    made += 1;
+                }
+            }
+            product = match product {
+                None => Some(power),
+                Some(product) => {
+                    made += 1;
+                    Some(product * power % m)
+                }
+            };
+        }
+        *figure = product.unwrap_or(1 % m) as u32;
+    }
+    made
+}
+
+/// Slices long enough for every chain.
+fn lent() -> Lent {
+    Lent {
+        steps: vec![0; 32_000],
+        outputs: vec![0; 64],
+        bytes: vec![0; 56_116],
+        read_steps: vec![0; 32_000],
+        read_outputs: vec![0; 64],
+        scratch: vec![0; 16_017],
+        values: vec![0; 16_017],
+        figures: vec![0; 64],
+    }
+}
+
+fn library_compile(job: &Job, lent: &mut Lent) -> usize {
+    let Job {
+        p,
+        q,
+        amounts,
+        method,
+        parameter,
+    } = job;
+    let (steps, outputs) = (&mut lent.steps, &mut lent.outputs);
+    let answer = ffi::compile(*p, *q, amounts, *method, *parameter, steps, outputs);
+    answer.unwrap()[0] as usize
+}
+
+fn plain_compile(job: &Job, lent: &mut Lent) -> usize {
+    methods::compile(
+        job.p,
+        job.q,
+        &job.amounts,
+        job.method,
+        job.parameter,
+        &mut lent.steps,
+        &mut lent.outputs,
+    )
+    .unwrap()
+}
+
+/// The five calls in plain Rust.
+fn plain_path(job: &Job, m: u32, bases: &[u32], lent: &mut Lent) -> Result<usize, (u32, usize)> {
+    let n = plain_compile(job, lent);
+    let length = plain::write(
+        job.p,
+        &lent.steps[..2 * n],
+        &lent.outputs[..job.q],
+        &mut lent.bytes,
+    )?;
+    let (p, q, n) = plain::read(
+        &lent.bytes[..length],
+        &mut lent.read_steps,
+        &mut lent.read_outputs,
+    )?;
+    let (steps, outputs) = (&lent.read_steps[..2 * n], &lent.read_outputs[..q]);
+    plain::verify(p, steps, outputs, &job.amounts, &mut lent.scratch)?;
+    plain::run(
+        p,
+        steps,
+        outputs,
+        m,
+        bases,
+        &mut lent.values,
+        &mut lent.figures,
+    )
+}
+
+pub fn measure() {
+    let mut r = Random(13);
+    let amounts: Vec<u32> = (0..P * Q).map(|_| r.below(1 << 20) as u32).collect();
+    // the compiler must not know the modulus, for which it would do without divisions
+    let m = black_box(4_294_967_291);
+    let bases: Vec<u32> = (0..P).map(|_| r.below(m as usize) as u32).collect();
+    let (mut ours, mut theirs) = (lent(), lent());
+
+    let best = fewest(&amounts, |_| true);
+    let n = library_compile(&best, &mut ours);
+    let (steps, outputs) = (ours.steps[..2 * n].to_vec(), ours.outputs[..Q].to_vec());
+    let plain_way = powers(m, &bases, &amounts, &mut theirs.figures);
+    println!(
+        "a sheet of {P} by {Q}: method {} with {}, {n} multiplications; one power for each amount, {plain_way}",
+        best.method, best.parameter
+    );
+    report(
+        "run of that chain, plain Rust: powers",
+        medians(
+            501,
+            || {
+                let (values, figures) = (&mut ours.values, &mut ours.figures);
+                let run = ffi::run(P, &steps, &outputs, m, black_box(&bases), values, figures);
+                assert!(run.is_ok())
+            },
+            || {
+                powers(m, black_box(&bases), &amounts, &mut theirs.figures);
+            },
+        ),
+    );
+    assert_eq!(ours.figures[..Q], theirs.figures[..Q]);
+
+    for (method, name) in [(1, "Straus"), (2, "Yao"), (3, "partition")] {
+        let job = fewest(&amounts, |m| m == method);
+        report(
+            &format!("compile, {name} {}, {} steps", job.parameter, job.count()),
+            medians(
+                501,
+                || assert!(library_compile(black_box(&job), &mut ours) > 0),
+                || assert!(plain_compile(black_box(&job), &mut theirs) > 0),
+            ),
+        );
+        assert_eq!(
+            (&ours.steps, &ours.outputs),
+            (&theirs.steps, &theirs.outputs)
+        );
+    }
+
+    report(
+        "the whole path of the best chain",
+        medians(
+            501,
+            || assert!(ffi::path(black_box(&best), m, &bases, &mut ours).is_ok()),
+            || assert!(plain_path(black_box(&best), m, &bases, &mut theirs).is_ok()),
+        ),
+    );
+    assert_eq!(ours, theirs);
+}

@@ -1,0 +1,294 @@
+//! Compile against the plain compiler of document 01, step for step, every lent cell included.
+use spoutbasket_tests::compiler::methods;
+use spoutbasket_tests::ffi;
+use spoutbasket_tests::random::{job_counting, sheet, Random};
+use spoutbasket_tests::reference::{self, Answer, Job};
+
+/// What compile answers and leaves in its two slices.
+struct Compiled {
+    answer: Answer,
+    steps: Vec<u32>,
+    outputs: Vec<u32>,
+}
+
+/// Compile by the library and by the reference into equal slices: the same answer and the same cells, untouched by a refusal.
+fn same_compile(job: &Job, steps: &[u32], outputs: &[u32]) -> Compiled {
+    let Job {
+        p,
+        q,
+        ref amounts,
+        method,
+        parameter,
+    } = *job;
+    let (mut ours, mut theirs) = (steps.to_vec(), steps.to_vec());
+    let (mut our_outputs, mut their_outputs) = (outputs.to_vec(), outputs.to_vec());
+    let got = ffi::compile(
+        p,
+        q,
+        amounts,
+        method,
+        parameter,
+        &mut ours,
+        &mut our_outputs,
+    );
+    let want = reference::compile(
+        p,
+        q,
+        amounts,
+        method,
+        parameter,
+        &mut theirs,
+        &mut their_outputs,
+    );
+    assert_eq!(got, want, "{job:?}");
+    assert_eq!(ours, theirs, "{job:?}");
+    assert_eq!(our_outputs, their_outputs, "{job:?}");
+    if got.is_err() {
+        assert_eq!((&ours[..], &our_outputs[..]), (steps, outputs), "{job:?}");
+    }
+    Compiled {
+        answer: got,
+        steps: ours,
+        outputs: our_outputs,
+    }
+}
+
+/// An accepted job: n is the count and keeps to the ceiling.
+fn accepted(job: &Job, steps: &[u32], outputs: &[u32]) -> Compiled {
+    let got = same_compile(job, steps, outputs);
+    assert_eq!(got.answer, Ok(vec![job.count() as u64]), "{job:?}");
+    assert!(job.count() <= job.ceiling(), "{job:?}");
+    got
+}
+
+/// Every method and parameter on each of some sheets, into slices with and without cells to spare.
+#[test]
+fn random_sheets() {
+    let mut r = Random(41);
+    let (mut compiled, mut too_long) = (0, 0);
+    for round in 0..400 {
+        let (p, q) = if round % 4 == 0 {
+            (r.within(1, 16), r.within(1, 64))
+        } else {
+            (r.within(1, 10), r.within(1, 12))
+        };
+        let bits = r.below(33);
+        let amounts = sheet(&mut r, p, q, bits);
+        for (method, k) in methods(p) {
+            let job = Job::new(p, q, &amounts, method, k);
+            let n = job.count();
+            // cells to spare, an odd one among them
+            let spare = r.pick(&[0, 0, 1, 2, 3]);
+            let (steps, outputs) = (r.words(2 * n + spare), r.words(q + round % 3));
+            if n <= reference::MOST_STEPS {
+                accepted(&job, &steps, &outputs);
+                compiled += 1;
+            } else {
+                let answer = same_compile(&job, &steps, &outputs).answer;
+                assert_eq!(answer, Err((4, 0)));
+                too_long += 1;
+            }
+        }
+    }
+    assert!(compiled > 5000, "only {compiled} sheets compiled");
+    assert!(too_long > 50, "only {too_long} chains were too long");
+}
+
+/// All sheets of up to two columns and two payslips with amounts up to 7, by every legal method and parameter.
+#[test]
+fn every_small_sheet() {
+    let (steps, outputs) = (vec![9; 2100], [9; 3]);
+    let mut compiled = 0;
+    for (p, q) in [(1, 1), (1, 2), (2, 1), (2, 2)] {
+        for number in 0..1u32 << (3 * p * q) {
+            let amounts: Vec<u32> = (0..p * q).map(|i| number >> (3 * i) & 7).collect();
+            let mut job = Job::new(p, q, &amounts, 1, 1);
+            for (method, k) in methods(p) {
+                (job.method, job.parameter) = (method, k);
+                accepted(&job, &steps, &outputs);
+                compiled += 1;
+            }
+            // just outside each range
+            for (method, k) in [
+                (0, 1),
+                (1, 0),
+                (1, 6),
+                (2, 0),
+                (2, 9),
+                (3, 0),
+                (3, 9),
+                (4, 1),
+            ] {
+                (job.method, job.parameter) = (method, k);
+                assert_eq!(
+                    same_compile(&job, &steps, &outputs).answer,
+                    Err((3, 0)),
+                    "{job:?}"
+                );
+            }
+        }
+    }
+    assert_eq!(compiled, (8 + 64 + 64 + 4096) * 21);
+}
+
+/// Jobs with one or two things wrong: the first in the order 1, 2, 3, 4, 5 is told, and no lent cell changes.
+#[test]
+fn damaged_jobs_and_short_slices() {
+    let mut r = Random(42);
+    let mut seen = [0usize; 6];
+    // a chain too long by every method that can be
+    let long = job_counting(16_001, 3, 1).amounts;
+    for _ in 0..30_000 {
+        let mut job = if r.one_in(60) {
+            let (method, k) = r.pick(&[(2, 1), (2, 8), (3, 1)]);
+            Job::new(16, 64, &long, method, k)
+        } else {
+            spoutbasket_tests::random::job(&mut r, 6, 6)
+        };
+        let n = job.count().min(reference::MOST_STEPS);
+        let (mut cells, mut outputs) = (2 * n, job.q);
+        for _ in 0..r.below(3) {
+            match r.below(9) {
+                0 => job.p = r.pick(&[0, 17, usize::MAX, 1 << 63, 3]),
+                1 => job.q = r.pick(&[0, 65, usize::MAX, 1 << 63, 3]),
+                2 => {
+                    job.amounts.pop();
+                }
+                3 => job.amounts.push(0),
+                4 => job.method = r.pick(&[0, 4, usize::MAX, (1 << 32) + 1]),
+                5 => job.parameter = r.pick(&[0, 6, 9, usize::MAX, 1 << 63, (1 << 32) + 1]),
+                6 => cells = r.pick(&[0, cells.saturating_sub(1), cells.saturating_sub(2)]),
+                7 => outputs = r.pick(&[0, job.q.min(64).saturating_sub(1)]),
+                _ => cells += 1,
+            }
+        }
+        let (steps, outputs) = (r.words(cells), r.words(outputs));
+        let answer = same_compile(&job, &steps, &outputs).answer;
+        seen[answer.map_or_else(|(number, _)| number as usize, |_| 0)] += 1;
+    }
+    for (number, times) in seen.into_iter().enumerate() {
+        assert!(times > 100, "answer {number} came only {times} times");
+    }
+}
+
+/// Chains of exactly 16,000 steps are compiled, and of 16,001 refused, by every method and parameter that can get there: Straus stays below 5,000,
+/// partition with 3 to 7 below 14,000.
+#[test]
+fn longest_chains() {
+    let reaching = (1..=8).map(|k| (2, k)).chain([1, 2, 8].map(|c| (3, c)));
+    for (method, k) in reaching {
+        let job = job_counting(16_000, method, k);
+        accepted(&job, &[9; 32_000], &[9; 64]);
+        let short = same_compile(&job, &[9; 31_999], &[9; 64]).answer;
+        assert_eq!(short, Err((5, 0)));
+        let job = job_counting(16_001, method, k);
+        assert_eq!(job.count(), 16_001);
+        for cells in [0, 32_000, 32_002] {
+            let answer = same_compile(&job, &vec![9; cells], &[9; 64]).answer;
+            assert_eq!(answer, Err((4, 0)));
+        }
+    }
+}
+
+/// Each refusal beside a neighbour that is accepted.
+#[test]
+fn refusals_and_their_neighbours() {
+    let answer = |p, q, amounts: usize, method, k| {
+        let job = Job::new(p, q, &vec![1; amounts], method, k);
+        same_compile(&job, &[9; 2500], &[9; 64])
+            .answer
+            .map_or_else(|refused| refused, |_| (0, 0))
+    };
+    for (p, q, number) in [
+        (0, 1, 1),
+        (1, 1, 0),
+        (16, 1, 0),
+        (17, 1, 1),
+        (1, 0, 1),
+        (1, 64, 0),
+        (1, 65, 1),
+        (16, 64, 0),
+    ] {
+        assert_eq!(answer(p, q, p * q, 2, 1), (number, 0), "{p} {q}");
+    }
+    for (amounts, number) in [(0, 2), (5, 2), (6, 0), (7, 2), (12, 2)] {
+        assert_eq!(answer(2, 3, amounts, 1, 1), (number, 0), "{amounts}");
+    }
+    for (p, method, k, number) in [
+        (1, 0, 1, 3),
+        (1, 4, 1, 3),
+        (10, 1, 1, 0),
+        (11, 1, 1, 3),
+        (5, 1, 2, 0),
+        (6, 1, 2, 3),
+        (5, 1, 3, 3),
+        (3, 1, 3, 0),
+        (4, 1, 3, 3),
+        (2, 1, 4, 0),
+        (3, 1, 4, 3),
+        (2, 1, 5, 0),
+        (3, 1, 5, 3),
+        (1, 1, 0, 3),
+        (1, 1, 5, 0),
+        (1, 1, 6, 3),
+        (2, 1, 1 << 63, 3),
+        (16, 2, 0, 3),
+        (16, 2, 1, 0),
+        (16, 2, 8, 0),
+        (16, 2, 9, 3),
+        (16, 3, 0, 3),
+        (16, 3, 1, 0),
+        (16, 3, 8, 0),
+        (16, 3, 9, 3),
+    ] {
+        assert_eq!(
+            answer(p, 2, 2 * p, method, k),
+            (number, 0),
+            "{p} {method} {k}"
+        );
+    }
+    // case A has three pairs and one output; an odd cell is no pair
+    for (cells, outputs, number) in [(6, 1, 0), (7, 2, 0), (5, 1, 5), (4, 1, 5), (6, 0, 5)] {
+        let a = Job::new(2, 1, &[3, 2], 1, 1);
+        let got = same_compile(&a, &vec![9; cells], &vec![9; outputs]);
+        let told = got.answer.map_or_else(|refused| refused, |_| (0, 0));
+        assert_eq!(told, (number, 0), "{cells} {outputs}");
+    }
+    // the earlier number is told where two are due
+    assert_eq!(answer(0, 1, 1, 2, 1), (1, 0));
+    assert_eq!(answer(2, 1, 3, 0, 1), (2, 0));
+    let long = job_counting(16_001, 2, 8);
+    let wrong = Job {
+        parameter: 9,
+        ..long.clone()
+    };
+    assert_eq!(same_compile(&wrong, &[], &[]).answer, Err((3, 0)));
+    assert_eq!(same_compile(&long, &[], &[]).answer, Err((4, 0)));
+}
+
+/// Trials A to F, I and J as the document lists them.
+#[test]
+fn trials() {
+    let compiled = |p, q, amounts: &[u32], method, k| {
+        let job = Job::new(p, q, amounts, method, k);
+        let got = accepted(&job, &[9; 140], &[9; 5]);
+        let n = job.count();
+        (got.steps[..2 * n].to_vec(), got.outputs[..q].to_vec())
+    };
+    for (p, amounts, method, k, steps, output) in [
+        (2, &[3, 2][..], 1, 1, &[2, 1, 3, 3, 4, 1][..], 5),
+        (2, &[3, 2], 2, 1, &[1, 1, 2, 2, 3, 1, 5, 4], 6),
+        (2, &[3, 2], 3, 2, &[1, 1, 2, 2, 3, 1, 4, 2, 5, 4], 7),
+        (1, &[11], 1, 2, &[1, 1, 2, 1, 2, 2, 4, 4, 5, 3], 6),
+        (1, &[11], 2, 2, &[1, 1, 2, 2, 3, 1, 4, 1, 5, 4], 6),
+        (1, &[0], 1, 1, &[], 0),
+    ] {
+        let got = compiled(p, 1, amounts, method, k);
+        assert_eq!(got, (steps.to_vec(), vec![output]), "{amounts:?}");
+    }
+    let (steps, outputs) = compiled(1, 1, &[u32::MAX], 1, 1);
+    assert_eq!((steps.len(), outputs), (2 * 62, vec![63]));
+    // Straus p = 5, k = 2
+    let job = Job::new(5, 1, &[1; 5], 1, 2);
+    assert_eq!(accepted(&job, &[9; 2036], &[9]).answer, Ok(vec![1018]));
+}

@@ -6,14 +6,18 @@ ghost use Prim.Native.Nat.{_/_};
 ghost use lib.ListN.{length};
 ghost use Rattle.chain.specs.Verdict.{Answer, done, refusal};
 ghost use Rattle.chain.specs.Chain.{pairs};
+ghost use Rattle.compile.specs.Compile.{compileAnswer, compileSteps, compileOutputs};
 ghost use Rattle.file.specs.File.{writeAnswer, writeBytes, readAnswer, readSteps, readOutputs};
 ghost use Rattle.verify.specs.Verify.{verifyAnswer, verifyScratch};
 ghost use Rattle.run.specs.Run.{runAnswer, runValues, runFigures};
 ghost use Rattle.choose.specs.Choose.{choice};
+ghost use Rattle.path.specs.Path.{lent, pathAnswer, pathLeaves};
 ghost use Rattle.spoutbasket.specs.Told.{numberOf, wordsOf, chosen};
 use choose::Chosen;
+use compile::Compiled;
 use file::Reading;
 use file::Written;
+use path::Figured;
 use run::Ran;
 use verify::Verified;
 
@@ -23,6 +27,29 @@ fn tell(number: u32, a: usize, b: usize, c: usize, answer: &mut [u64; 4]) -> u32
 {
     *answer = [a as u64, b as u64, c as u64, 0];
     number
+}
+
+// A sheet compiled by the method of a number and its parameter.
+#[no_mangle]
+pub extern "C" fn spoutbasket_compile(
+    p: usize,
+    q: usize,
+    amounts: &[u32],
+    method: usize,
+    k: usize,
+    steps: &mut [u32],
+    outputs: &mut [u32],
+    answer: &mut [u64; 4],
+) -> u32
+    ensures { λ r. ⌜ r ≡ numberOf (compileAnswer p q (now (amounts .entry)) method k (length (now (steps .entry)) / 2) (length (now (outputs .entry)))) ⌝ }
+    ensures { λ r. ⌜ now (answer .exit) ≡ wordsOf (compileAnswer p q (now (amounts .entry)) method k (length (now (steps .entry)) / 2) (length (now (outputs .entry)))) ⌝ }
+    ensures { λ r. ⌜ now (steps .exit) ≡ compileSteps p q (now (amounts .entry)) method k (length (now (outputs .entry))) (now (steps .entry)) ⌝ }
+    ensures { λ r. ⌜ now (outputs .exit) ≡ compileOutputs p q (now (amounts .entry)) method k (length (now (steps .entry)) / 2) (now (outputs .entry)) ⌝ }
+{
+    match compile::compile(p, q, amounts, method, k, steps, outputs) {
+        Compiled::Refused(number, place) => tell(number, place, 0, 0, answer),
+        Compiled::Steps(n) => tell(0, n, 0, 0, answer),
+    }
 }
 
 // The file of a chain, written.
@@ -126,5 +153,55 @@ pub extern "C" fn spoutbasket_choose(
         Chosen::First => tell(0, 1, 0, 0, answer),
         Chosen::Second => tell(0, 2, 0, 0, answer),
         Chosen::Neither(number, place) => tell(number, place, 0, 0, answer),
+    }
+}
+
+// The whole path from a sheet to its figures: compile, write, read, check and run. The chain read stands in `received` and `results`.
+#[no_mangle]
+pub extern "C" fn spoutbasket_path(
+    p: usize,
+    q: usize,
+    amounts: &[u32],
+    method: usize,
+    k: usize,
+    m: u32,
+    bases: &[u32],
+    steps: &mut [u32],
+    outputs: &mut [u32],
+    bytes: &mut [u8],
+    received: &mut [u32],
+    results: &mut [u32],
+    scratch: &mut [u32],
+    values: &mut [u32],
+    figures: &mut [u32],
+    answer: &mut [u64; 4],
+) -> u32
+    ensures { λ r. ⌜ r ≡ numberOf (pathAnswer p q (now (amounts .entry)) method k (lent (now (steps .entry)) (now (outputs .entry)) (now (bytes .entry)) (now (received .entry)) (now (results .entry)) (now (scratch .entry)) (now (values .entry)) (now (figures .entry))) m (now (bases .entry))) ⌝ }
+    ensures { λ r. ⌜ now (answer .exit) ≡ wordsOf (pathAnswer p q (now (amounts .entry)) method k (lent (now (steps .entry)) (now (outputs .entry)) (now (bytes .entry)) (now (received .entry)) (now (results .entry)) (now (scratch .entry)) (now (values .entry)) (now (figures .entry))) m (now (bases .entry))) ⌝ }
+    ensures { λ r. ⌜ lent (now (steps .exit)) (now (outputs .exit)) (now (bytes .exit)) (now (received .exit)) (now (results .exit)) (now (scratch .exit)) (now (values .exit)) (now (figures .exit)) ≡ pathLeaves p q (now (amounts .entry)) method k (lent (now (steps .entry)) (now (outputs .entry)) (now (bytes .entry)) (now (received .entry)) (now (results .entry)) (now (scratch .entry)) (now (values .entry)) (now (figures .entry))) m (now (bases .entry)) ⌝ }
+{
+    match path::sheet_to_figures(
+        p,
+        q,
+        amounts,
+        method,
+        k,
+        m,
+        bases,
+        steps,
+        outputs,
+        bytes,
+        received,
+        results,
+        scratch,
+        values,
+        figures,
+    ) {
+        Figured::Refused(number, place) => tell(number, place, 0, 0, answer),
+        Figured::Counts {
+            compiled,
+            read,
+            made,
+        } => tell(0, compiled, read, made, answer),
     }
 }

@@ -10,6 +10,7 @@ ghost use Rattle.bits.specs.Bits.{fieldsAt};
 ghost use Rattle.bits.specs.Cursor.{Stored};
 ghost use Rattle.file.specs.File.{headerBits, headerSize, width, bitCount, byteCount, longestFile, fileOf, writeRule, writeAnswer, writeBytes, editionOf, columnsOf, payslipsOf, lengthOf, stepsOf, outputsOf, readRule, readAnswer, readSteps, readOutputs};
 ghost use Rattle.file.specs.Answers.{writtenOf, readOf};
+use bits::BitReader;
 use bits::Cursor;
 use chain::Judgement;
 
@@ -111,14 +112,14 @@ fn take_header(bytes: &[u8]) -> Header
     requires { ⌜ 4 ≤ length (now bytes) ⌝ }
     ensures { λ r. ⌜ (r .edition ≡ editionOf (now (bytes .entry))) × (r .p ≡ columnsOf (now (bytes .entry))) × (r .q ≡ payslipsOf (now (bytes .entry))) × (r .n ≡ lengthOf (now (bytes .entry))) ⌝ }
 {
-    let start = Cursor { at: 0 };
-    let edition = start.take(bytes, 4);
-    let c = edition.next;
-    let columns = c.take(bytes, 4);
-    let d = columns.next;
-    let payslips = d.take(bytes, 6);
-    let e = payslips.next;
-    let steps = e.take(bytes, 14);
+    let start = BitReader {
+        bytes: bytes,
+        cursor: Cursor { at: 0 },
+    };
+    let edition = start.take(4);
+    let columns = edition.next.take(4);
+    let payslips = columns.next.take(6);
+    let steps = payslips.next.take(14);
     Header {
         edition: edition.value,
         p: columns.value + 1,

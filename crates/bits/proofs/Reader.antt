@@ -1,5 +1,5 @@
 -- A reader in a walk by hand: what it owns, and one call of `bits::BitReader::take`.
---     reader-own     what the bytes own is what a reader of them owns, at any position
+--     reader-own, reader-bytes     what the bytes own is what a reader of them owns, at any position, and back
 --     takes          the call, as a step: the machine value handed back is that of the field and of the reader past it, and the lifetime's token and what the bytes own are still there
 -- Assumes nothing.
 use mathlib.Core.Path.{_≡_, refl, sym, ap, ap₂, subst, _∙_}
@@ -19,7 +19,7 @@ use prog.Routine.{Routine}
 use prog.Wp.{Heap, Env, Calls, Loops}
 use ghost.Atoms.{Atoms, sem}
 use contract.Monad.{Fun, fact}
-use types.Kit.{Given, Item, Post, runs, lands, Seq, Step, step, ‵, raw, _⊛_, ⋆, some, later, _$_, _∵_, !, qed, by, move, drop, use1, use2, split, pick, fjoin, frame, await, done}
+use types.Kit.{Given, Item, mean, Post, Goal, runs, lands, Seq, Step, step, ‵, raw, _⊛_, given, ⋆, some, later, _$_, _∵_, !, qed, by, move, keep, drop, use1, use2, split, learn, pick, fjoin, frame, await, done}
 use types.Run.{Opds}
 use sound.WpLaws.{FmC}
 use denote.Laws.{Is, shows}
@@ -29,8 +29,10 @@ use denote.Ref.{RefT, NamedLft, now}
 use denote.Signature.{namedLft}
 use denote.Slice.{sliceVal, ShrSlice, shr-slice-copy}
 use denote.Steps.{only, owned, peeks, heard, nothing}
+use denote.Struct.Declared.{Declared}
 use denote.Struct.Laws as LL
-use denote.Struct.Rest.{own-shut}
+use denote.Struct.Rest.{all-own, ownAt, rest, own-open, own-out, own-shut}
+use denote.Struct.Values.{Values}
 use denote.Triple.Statement.{Contract, Triple}
 use denote.Triple.Call.{calls-at}
 use denote.Triple.Entry.{Args}
@@ -80,6 +82,11 @@ module _ (s : RefT (List ℕ)) (at w : ℕ) (wt : WT (bytesVal s)) (room : Room 
   pub read-typed : WT (R′.lowered (readAt s at w))
   read-typed = (record { fits = lt-of-lt-of-le (field-lt (now s) at w) (pow-mono {j = 64} (omega (arith, room .narrow))) }, (next-typed, tt))
 
+-- what a cursor owns is had for nothing
+module _ {M : Type 1} {𝓤 : URA M} {H : Heap 𝓤} {A : Atoms 𝓤} {K : Type 0} {W : Given 𝓤 H A} {Γ : List (Item 𝓤)} {G : Goal 𝓤 H} where
+  pub has-cursor : K → (at : ℕ) → at < 2 ^ 64 → Step K W (‵ (C.the-row .own (record { at = at }) (C′.lowered (record { at = at }) ∷ [])) ∷ Γ) G Γ G
+  has-cursor t at fits = owned t C.the-row (Is C.the-row) (LL.makes C.the-type C′.the-plain 𝓤 H A) (record { at = at }) _ (LL.owes C.the-type C′.the-laws (record { at = at }) ((refl, fits), tt))
+
 -- the contract of `take`
 abbrev pub Take : {M : Type 1} (𝓤 : URA M) (H : Heap 𝓤) (A : Atoms 𝓤) (mem : Memory → SProp 𝓤) (run : Routine → Fun 𝓤) → Contract 𝓤
 Take 𝓤 H A mem run = tripleOf 𝓤 H A take.signature (take.spec 𝓤 H A mem run)
@@ -88,11 +95,22 @@ module _ {M : Type 1} (𝓤 : URA M) (H : Heap 𝓤) (A : Atoms 𝓤) (κ : Lft)
   abbrev pub Reader : Fml
   Reader = B.the-row (lifetime κ) .own (readerAt s at) (B′.lowered (readerAt s at) ∷ [])
 
+  -- what the bytes own is what a reader of them owns, at any position
   pub reader-own : Given 𝓤 H A → at < 2 ^ 64 → ent 𝓤 (sem 𝓤 H A (Bytes κ s)) (sem 𝓤 H A Reader)
   reader-own W fits =
-      qed W (‵ (Bytes κ s) ∷ []) ∵ nothing ! $
-      owned ! C.the-row (Is C.the-row) (LL.makes C.the-type C′.the-plain 𝓤 H A) (record { at = at }) _ (LL.owes C.the-type C′.the-laws (record { at = at }) ((refl, fits), tt)) $ fjoin ! $ move ! (1 ∷ 0 ∷ []) $ fjoin ! $
+      qed W (‵ (Bytes κ s) ∷ []) ∵ nothing ! $ has-cursor ! at fits $ fjoin ! $ move ! (1 ∷ 0 ∷ []) $ fjoin ! $
       by ! (own-shut 𝓤 H A W (B.the-type (lifetime κ)) (B′.the-laws (lifetime κ)) (s, (record { at = at }, tt)))
+
+  -- and it can be had twice
+  pub reader-bytes : Given 𝓤 H A → ent 𝓤 (sem 𝓤 H A Reader) (mean 𝓤 H A (‵ (Bytes κ s) ⊛ ‵ (Bytes κ s)))
+  reader-bytes W =
+      let D : Declared = B.the-type (lifetime κ) in
+      let L : LL.Laws D = B′.the-laws (lifetime κ) in
+      let fields : Values (D .parts) = (s, (record { at = at }, tt)) in
+      let mach : Val = B′.lowered (readerAt s at) in
+      qed W (‵ Reader ∷ []) ∵ use1 W (given (mach ∷ [] ≡ mach ∷ []) (‵ (all-own (D .parts) L fields))) (own-open 𝓤 H A W D L fields mach) $ learn ! (λ _.
+      use1 W (‵ (ownAt (D .parts) L 0 s) ⊛ ‵ (rest (D .parts) L 0 fields)) (own-out 𝓤 H A W (D .parts) L 0 fields) $ split ! $
+      use1 W (‵ (Bytes κ s) ⊛ ‵ (Bytes κ s)) (shr-slice-copy 𝓤 H A W (named 0) κ u8 .twice s (bytesVal s ∷ [])) $ keep ! (0 ∷ []) $ done !)
 
   module _ (q : Share) (mem : Memory → SProp 𝓤) (run : Routine → Fun 𝓤) (w : ℕ) where
     -- what `take` is passed, what it asks, and what is known of its result

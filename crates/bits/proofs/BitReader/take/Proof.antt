@@ -1,7 +1,7 @@
 -- `bits::BitReader::take` meets its contract: a walk of its MIR, by hand. The reader is taken apart, `Cursor::take` is called on its bytes and its cursor, and the reader past the field is made of the same bytes and the cursor handed back.
 -- All that the proof knows of `Cursor::take` is that it meets its contract. A `&[u8]` is Copy: what the bytes own goes to the callee once, and into the result once.
 -- Assumes nothing.
-use mathlib.Core.Path.{_≡_, refl, ap}
+use mathlib.Core.Path.{refl, ap}
 use mathlib.Core.List.{List, [], _∷_}
 use Prim.Native.Nat.{ℕ, _<_, _^_}
 use lib.Dec.{T as Holds}
@@ -17,22 +17,19 @@ use prog.Wp.{Heap, Calls, Loops, WpFn, Tables}
 use ghost.Atoms.{Atoms, sem}
 use contract.Monad.{Fun, fact}
 use contract.Running.{givenOf, tables, tablesOf}
-use types.Kit.{Given, mean, ‵, raw, _⊛_, given, ⋆, some, later, _$_, _∵_, !, qed, by, move, keep, drop, use1, use2, split, learn, pick, rewrite, fsplit, fjoin, suffices, frame, await, done}
+use types.Kit.{Given, mean, ‵, raw, _⊛_, ⋆, some, later, _$_, _∵_, !, qed, by, move, keep, drop, use1, use2, split, pick, rewrite, fsplit, fjoin, suffices, frame, await, done}
 use types.Part.{agg, whole, sub, look-in}
 use types.Run.{look, init, forget, stop, fld, from, load, of-opd, and-then, no-more, assigns, land, returns, enter, alloc1, alloc0, params1, pass1, pass0, free1, free0}
 use sound.WpLaws.{FmC, fmOf, WpFn-mono}
 use denote.RattleType.{owns}
 use denote.Laws.{Is, shows}
 use denote.Plain.{uint-makes, uint-vals, uint-tells}
-use denote.Builtin.{u8, usize}
+use denote.Builtin.{usize}
 use denote.Ref.{RefT, now}
 use denote.Signature.{plain}
-use denote.Slice.{shr-slice-copy}
 use denote.Steps.{only, owned, peeks, heard, nothing}
-use denote.Struct.Declared.{Declared}
 use denote.Struct.Laws as LL
-use denote.Struct.Rest.{all-own, ownAt, rest, own-open, own-out, own-shut}
-use denote.Struct.Values.{Values}
+use denote.Struct.Rest.{own-shut}
 use denote.Triple.Statement.{Contract, Triple}
 use denote.Triple.Call.{calls-at}
 use denote.Triple.Entry.{Args, Vals, onEntry}
@@ -44,8 +41,7 @@ use denote.Exit.{yes}
 use Rattle.bits.specs.Cursor.{Room, Taken}
 use Rattle.bits.specs.declared.Field.{Field}
 use Rattle.bits.specs.declared.ReadField.{ReadField}
-use Rattle.bits.proofs.Reader.{lifetime, Token, bytesVal, Bytes, readerAt, Reader, reader-own}
-use Rattle.bits.proofs.Cursor as C
+use Rattle.bits.proofs.Reader.{lifetime, Token, bytesVal, Bytes, readerAt, has-cursor, Reader, reader-own, reader-bytes}
 use Rattle.bits.proofs.Cursor.Laws as C′
 use Rattle.bits.proofs.Field as F
 use Rattle.bits.proofs.Field.Laws as F′
@@ -90,22 +86,10 @@ module _ {M : Type 1} (𝓤 : URA M) (H : Heap 𝓤) (A : Atoms 𝓤) (W : Given
   abbrev Post : Val → SProp 𝓤
   Post = walkOf 𝓤 H A this.ended stayed (this.clauses 𝓤 H A mem run) .post (((κ, tt), (q, tt), tt, a, vs), tt)
 
-  -- the reader's type and laws, and its fields' values
-  abbrev D : Declared
-  D = B.the-type (lifetime κ)
-
-  abbrev L : LL.Laws D
-  L = B′.the-laws (lifetime κ)
-
-  abbrev fields : Values (D .parts)
-  fields = (s, (record { at = at }, tt))
-
   apart : ent 𝓤 (onEntry 𝓤 H A this.signature (κ, tt) (q, tt) a vs) (mean 𝓤 H A (Token κ q ⊛ ‵ (Bytes κ s) ⊛ ‵ (Bytes κ s)))
   apart =
       qed W (Token κ q ∷ ‵ (owns (B.the-row (lifetime κ) ∷ usize ∷ []) a vs) ∷ []) ∵ frame ! $ fsplit ! $
-      use1 W (given (mach ∷ [] ≡ mach ∷ []) (‵ (all-own (D .parts) L fields))) (own-open 𝓤 H A W D L fields mach) $ learn ! (λ _.
-      use1 W (‵ (ownAt (D .parts) L 0 s) ⊛ ‵ (rest (D .parts) L 0 fields)) (own-out 𝓤 H A W (D .parts) L 0 fields) $ split ! $
-      use1 W (‵ (Bytes κ s) ⊛ ‵ (Bytes κ s)) (shr-slice-copy 𝓤 H A W (named 0) κ u8 .twice s (bytesVal s ∷ [])) $ keep ! (0 ∷ []) $ done !)
+      use1 W (‵ (Bytes κ s) ⊛ ‵ (Bytes κ s)) (reader-bytes 𝓤 H A κ s at W) $ keep ! (0 ∷ []) $ done !
 
   -- the call of `Cursor::take`: what it is passed, what it asks, and what is known of its result
   abbrev passed : Args take.signature (κ, tt)
@@ -117,7 +101,7 @@ module _ {M : Type 1} (𝓤 : URA M) (H : Heap 𝓤) (A : Atoms 𝓤) (W : Given
   asks-take : Room (now s) at w → ent 𝓤 (⋆ 𝓤 H A (Token κ q ∷ ‵ (Bytes κ s) ∷ [])) (Take 𝓤 H A mem run .pre to-take)
   asks-take room =
       qed W (Token κ q ∷ ‵ (Bytes κ s) ∷ []) ∵ says ! room $ frame ! $ nothing ! $ owned ! usize (Is usize) (uint-makes 𝓤 H A W w64) w _ (refl, w-fits) $ fjoin ! $ move ! (1 ∷ 0 ∷ []) $ fjoin ! $
-      owned ! C.the-row (Is C.the-row) (LL.makes C.the-type C′.the-plain 𝓤 H A) (record { at = at }) _ (LL.owes C.the-type C′.the-laws (record { at = at }) ((refl, at-fits), tt)) $ fjoin ! $ done !
+      has-cursor ! at at-fits $ fjoin ! $ done !
 
   abbrev Found : Field → Type 0
   Found f = Taken (now s) at w (f .value) (f .next .at)

@@ -8,7 +8,7 @@ use Rattle.chain.specs.Written.{over}
 use Rattle.chain.specs.Chain.{flat}
 use Rattle.digits.specs.Digits.{bitLength}
 use Rattle.bits.specs.Bits.{fieldsAt}
-use Rattle.fields.specs.Fields.{RoomAll, TakenAll}
+use Rattle.fields.specs.Fields.{RoomAll}
 use Rattle.file.specs.File.{headerSize, width, bitCount, editionOf, columnsOf, payslipsOf, lengthOf, widthOf, stepsOf, outputsOf}
 use Rattle.file.proofs.Lengths.{width-low, count-parts, count-low}
 use Rattle.file.proofs.Readable.{Readable, columns-low, payslips-low}
@@ -49,8 +49,8 @@ module _ (bytes steps outputs : List ℕ) (r : Readable bytes (length steps / 2)
         room = omega (arith, r .pairs-room);
       }
 
-  pub outputs-taking : (at : ℕ) → at ≡ headerSize + 2 * n * w → RoomAll bytes at w q outputs
-  outputs-taking at ea =
+  pub outputs-taking : RoomAll bytes (headerSize + 2 * n * w) w q outputs
+  outputs-taking =
       let (he, hp, hq, hn) = header in
       record {
         narrow = omega (arith, narrow);
@@ -59,16 +59,16 @@ module _ (bytes steps outputs : List ℕ) (r : Readable bytes (length steps / 2)
         room = omega (arith, r .outputs-room);
       }
 
-  pub steps-taken : (new : List ℕ) (next : ℕ) → TakenAll bytes headerSize w (2 * n) steps new next → new ≡ over (flat (stepsOf bytes)) steps
-  steps-taken new next t =
+  pub steps-taken : (new : List ℕ) → new ≡ over (fieldsAt bytes headerSize w (2 * n)) steps → new ≡ over (flat (stepsOf bytes)) steps
+  steps-taken new is =
       let (he, hp, hq, hn) = header in
-      t .is ∙ ap (λ (l : List ℕ). over l steps) (ap₂ (λ (v k : ℕ). fieldsAt bytes headerSize v (2 * k)) is-width hn ∙ sym (flat-stepsOf bytes))
+      is ∙ ap (λ (l : List ℕ). over l steps) (ap₂ (λ (v k : ℕ). fieldsAt bytes headerSize v (2 * k)) is-width hn ∙ sym (flat-stepsOf bytes))
 
-  pub outputs-taken : (at : ℕ) (new : List ℕ) (next : ℕ) → at ≡ headerSize + 2 * n * w → TakenAll bytes at w q outputs new next → new ≡ over (outputsOf bytes) outputs
+  pub outputs-taken : (new : List ℕ) → new ≡ over (fieldsAt bytes (headerSize + 2 * n * w) w q) outputs → new ≡ over (outputsOf bytes) outputs
   unfolding outputsOf
-  outputs-taken at new next ea t =
+  outputs-taken new is =
       let (he, hp, hq, hn) = header in
-      t .is
+      is
       ∙ ap (λ (l : List ℕ). over l outputs)
-      (ap₂ (λ (i k : ℕ). fieldsAt bytes i w k) ea hq
+      (ap (λ (k : ℕ). fieldsAt bytes (headerSize + 2 * n * w) w k) hq
       ∙ ap₂ (λ (v k : ℕ). fieldsAt bytes (headerSize + 2 * k * v) v (payslipsOf bytes)) is-width hn)

@@ -17,6 +17,18 @@ pub struct Field {
     pub next: Cursor,
 }
 
+// A file's bytes and a bit position in them together.
+pub struct BitReader<'a> {
+    pub bytes: &'a [u8],
+    pub cursor: Cursor,
+}
+
+// A field that was read, and the reader past it.
+pub struct ReadField<'a> {
+    pub value: usize,
+    pub next: BitReader<'a>,
+}
+
 fn wide(x: u8) -> u64
     ensures { λ r. ⌜ r ≡ x ⌝ }
 {
@@ -111,5 +123,22 @@ impl Cursor {
         let head = (wide(buf[i]) >> right) << right;
         scatter(buf, i, (used + 7) / 8, head, value << (32 - used));
         Cursor { at: at + width }
+    }
+}
+
+impl<'a> BitReader<'a> {
+    // The field of width bits at the reader's position, and a reader of the same bytes past it.
+    pub fn take(self, width: usize) -> ReadField<'a>
+        requires { ⌜ Room (now (self .bytes)) (self .cursor .at) width ⌝ }
+        ensures { λ r. ⌜ Taken (now (self .entry .bytes)) (self .entry .cursor .at) width (r .value) (r .next .cursor .at) × (r .next .bytes ≡ self .entry .bytes) ⌝ }
+    {
+        let field = self.cursor.take(self.bytes, width);
+        ReadField {
+            value: field.value,
+            next: BitReader {
+                bytes: self.bytes,
+                cursor: field.next,
+            },
+        }
     }
 }

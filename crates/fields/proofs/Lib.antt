@@ -1,2 +1,3 @@
 pub mod Putting
 pub mod Taking
+pub mod Reading

@@ -5,6 +5,7 @@ ghost use lib.ListN.{length, take};
 ghost use Rattle.bits.specs.Bits.{fields};
 ghost use Rattle.bits.specs.Cursor.{Stored};
 ghost use Rattle.fields.specs.Fields.{FillAll, RoomAll, TakenAll};
+use bits::BitReader;
 use bits::Cursor;
 
 fn wide(x: u32) -> u64
@@ -42,4 +43,21 @@ pub fn take_fields(file: &[u8], from: Cursor, width: usize, count: usize, out: &
         i += 1;
     }
     c
+}
+
+// Reads the next count fields of a reader into the first cells of out, and hands back the reader past them.
+pub fn read_fields<'a>(
+    reader: BitReader<'a>,
+    width: usize,
+    count: usize,
+    out: &mut [u32],
+) -> BitReader<'a>
+    requires { ⌜ RoomAll (now (reader .bytes)) (reader .cursor .at) width count (now out) ⌝ }
+    ensures { λ r. ⌜ TakenAll (now (reader .entry .bytes)) (reader .entry .cursor .at) width count (now (out .entry)) (now (out .exit)) (r .cursor .at) × (r .bytes ≡ reader .entry .bytes) ⌝ }
+{
+    let next = take_fields(reader.bytes, reader.cursor, width, count, out);
+    BitReader {
+        bytes: reader.bytes,
+        cursor: next,
+    }
 }

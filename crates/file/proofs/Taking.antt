@@ -1,4 +1,4 @@
--- What `take_header` and `take_chain` read.
+-- What `take_chain` reads, by what the header says.
 use mathlib.Core.Path.{_≡_, sym, ap, ap₂, _∙_}
 use mathlib.Core.List.{List}
 use Prim.Native.Nat.{ℕ, _+_, _*_, _/_, _≤_}
@@ -7,9 +7,8 @@ use lib.ListN.{length}
 use Rattle.chain.specs.Written.{over}
 use Rattle.chain.specs.Chain.{flat}
 use Rattle.digits.specs.Digits.{bitLength}
-use Rattle.bits.specs.Bits.{fieldAt, fieldsAt}
-use Rattle.bits.specs.Cursor.{Taken}
-use Rattle.fields.specs.Fields.{RoomAll, TakenAll}
+use Rattle.bits.specs.Bits.{fieldsAt}
+use Rattle.fields.specs.Fields.{RoomAll}
 use Rattle.file.specs.File.{headerSize, width, bitCount, editionOf, columnsOf, payslipsOf, lengthOf, widthOf, stepsOf, outputsOf}
 use Rattle.file.proofs.Lengths.{width-low, count-parts, count-low}
 use Rattle.file.proofs.Readable.{Readable, columns-low, payslips-low}
@@ -18,17 +17,6 @@ use Rattle.file.proofs.OneFile.{flat-stepsOf}
 -- what the header says
 abbrev pub HeaderOf : List ℕ → ℕ → ℕ → ℕ → ℕ → Type 0
 HeaderOf bytes e p q n = (e ≡ editionOf bytes) × (p ≡ columnsOf bytes) × (q ≡ payslipsOf bytes) × (n ≡ lengthOf bytes)
-
-pub header-read : (bytes : List ℕ) (e a₁ x a₂ y a₃ n a₄ : ℕ) → Taken bytes 0 4 e a₁ → Taken bytes a₁ 4 x a₂ → Taken bytes a₂ 6 y a₃ → Taken bytes a₃ 14 n a₄
-    → HeaderOf bytes e (x + 1) (y + 1) n
-header-read bytes e a₁ x a₂ y a₃ n a₄ s t u v =
-    let e₂ : a₂ ≡ 8 = t .moved ∙ ap (λ (k : ℕ). k + 4) (s .moved) in
-    let e₃ : a₃ ≡ 14 = u .moved ∙ ap (λ (k : ℕ). k + 6) e₂ in (
-      s .is,
-      ap (λ (k : ℕ). k + 1) (t .is ∙ ap (λ (k : ℕ). fieldAt bytes k 4) (s .moved)),
-      ap (λ (k : ℕ). k + 1) (u .is ∙ ap (λ (k : ℕ). fieldAt bytes k 6) e₂),
-      v .is ∙ ap (λ (k : ℕ). fieldAt bytes k 14) e₃,
-    )
 
 pub header-parts : (bytes : List ℕ) (e p q n : ℕ) → HeaderOf bytes e p q n → (p ≡ columnsOf bytes) × (q ≡ payslipsOf bytes) × (n ≡ lengthOf bytes)
 header-parts bytes e p q n (he, hp, hq, hn) = (hp, hq, hn)
@@ -61,8 +49,8 @@ module _ (bytes steps outputs : List ℕ) (r : Readable bytes (length steps / 2)
         room = omega (arith, r .pairs-room);
       }
 
-  pub outputs-taking : (at : ℕ) → at ≡ headerSize + 2 * n * w → RoomAll bytes at w q outputs
-  outputs-taking at ea =
+  pub outputs-taking : RoomAll bytes (headerSize + 2 * n * w) w q outputs
+  outputs-taking =
       let (he, hp, hq, hn) = header in
       record {
         narrow = omega (arith, narrow);
@@ -71,16 +59,16 @@ module _ (bytes steps outputs : List ℕ) (r : Readable bytes (length steps / 2)
         room = omega (arith, r .outputs-room);
       }
 
-  pub steps-taken : (new : List ℕ) (next : ℕ) → TakenAll bytes headerSize w (2 * n) steps new next → new ≡ over (flat (stepsOf bytes)) steps
-  steps-taken new next t =
+  pub steps-taken : (new : List ℕ) → new ≡ over (fieldsAt bytes headerSize w (2 * n)) steps → new ≡ over (flat (stepsOf bytes)) steps
+  steps-taken new is =
       let (he, hp, hq, hn) = header in
-      t .is ∙ ap (λ (l : List ℕ). over l steps) (ap₂ (λ (v k : ℕ). fieldsAt bytes headerSize v (2 * k)) is-width hn ∙ sym (flat-stepsOf bytes))
+      is ∙ ap (λ (l : List ℕ). over l steps) (ap₂ (λ (v k : ℕ). fieldsAt bytes headerSize v (2 * k)) is-width hn ∙ sym (flat-stepsOf bytes))
 
-  pub outputs-taken : (at : ℕ) (new : List ℕ) (next : ℕ) → at ≡ headerSize + 2 * n * w → TakenAll bytes at w q outputs new next → new ≡ over (outputsOf bytes) outputs
+  pub outputs-taken : (new : List ℕ) → new ≡ over (fieldsAt bytes (headerSize + 2 * n * w) w q) outputs → new ≡ over (outputsOf bytes) outputs
   unfolding outputsOf
-  outputs-taken at new next ea t =
+  outputs-taken new is =
       let (he, hp, hq, hn) = header in
-      t .is
+      is
       ∙ ap (λ (l : List ℕ). over l outputs)
-      (ap₂ (λ (i k : ℕ). fieldsAt bytes i w k) ea hq
+      (ap (λ (k : ℕ). fieldsAt bytes (headerSize + 2 * n * w) w k) hq
       ∙ ap₂ (λ (v k : ℕ). fieldsAt bytes (headerSize + 2 * k * v) v (payslipsOf bytes)) is-width hn)

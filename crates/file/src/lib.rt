@@ -8,8 +8,10 @@ ghost use Rattle.chain.specs.Written.{over};
 ghost use Rattle.chain.specs.Chain.{mostColumns, mostPayslips, mostSteps, pairs, flat, stepsRule, outputsRule, chainRule};
 ghost use Rattle.bits.specs.Bits.{fieldsAt};
 ghost use Rattle.bits.specs.Cursor.{Stored};
+ghost use Rattle.fields.specs.Fields.{RoomAll};
 ghost use Rattle.file.specs.File.{headerBits, headerSize, width, bitCount, byteCount, longestFile, fileOf, writeRule, writeAnswer, writeBytes, editionOf, columnsOf, payslipsOf, lengthOf, stepsOf, outputsOf, readRule, readAnswer, readSteps, readOutputs};
 ghost use Rattle.file.specs.Answers.{writtenOf, readOf};
+use bits::BitReader;
 use bits::Cursor;
 use chain::Judgement;
 
@@ -111,14 +113,14 @@ fn take_header(bytes: &[u8]) -> Header
     requires { ⌜ 4 ≤ length (now bytes) ⌝ }
     ensures { λ r. ⌜ (r .edition ≡ editionOf (now (bytes .entry))) × (r .p ≡ columnsOf (now (bytes .entry))) × (r .q ≡ payslipsOf (now (bytes .entry))) × (r .n ≡ lengthOf (now (bytes .entry))) ⌝ }
 {
-    let start = Cursor { at: 0 };
-    let edition = start.take(bytes, 4);
-    let c = edition.next;
-    let columns = c.take(bytes, 4);
-    let d = columns.next;
-    let payslips = d.take(bytes, 6);
-    let e = payslips.next;
-    let steps = e.take(bytes, 14);
+    let start = BitReader {
+        bytes: bytes,
+        cursor: Cursor { at: 0 },
+    };
+    let edition = start.take(4);
+    let columns = edition.next.take(4);
+    let payslips = columns.next.take(6);
+    let steps = payslips.next.take(14);
     Header {
         edition: edition.value,
         p: columns.value + 1,
@@ -225,6 +227,19 @@ fn judge_read(bytes: &[u8], room: usize, places: usize) -> Judgement
     judge_chain(bytes, p, q, n)
 }
 
+// Reads n steps and q outputs, fields of w bits that follow the header.
+fn take_lists(bytes: &[u8], w: usize, n: usize, q: usize, steps: &mut [u32], outputs: &mut [u32])
+    requires { ⌜ RoomAll (now bytes) headerSize w (2 * n) (now steps) × RoomAll (now bytes) (headerSize + 2 * n * w) w q (now outputs) ⌝ }
+    ensures { λ _. ⌜ (now (steps .exit) ≡ over (fieldsAt (now (bytes .entry)) headerSize w (2 * n)) (now (steps .entry))) × (now (outputs .exit) ≡ over (fieldsAt (now (bytes .entry)) (headerSize + 2 * n * w) w q) (now (outputs .entry))) ⌝ }
+{
+    let start = BitReader {
+        bytes: bytes,
+        cursor: Cursor { at: HEADER_SIZE },
+    };
+    let next = fields::read_fields(start, w, 2 * n, steps);
+    fields::read_fields(next, w, q, outputs);
+}
+
 // Reads the chain of a file that may be read.
 fn take_chain(bytes: &[u8], steps: &mut [u32], outputs: &mut [u32]) -> Header
     requires { ⌜ readRule (now bytes) (length (now steps) / 2) (length (now outputs)) ≡ fine ⌝ }
@@ -235,9 +250,7 @@ fn take_chain(bytes: &[u8], steps: &mut [u32], outputs: &mut [u32]) -> Header
     let h = take_header(bytes);
     let n = h.n;
     let w = digits::bit_length(h.p + n);
-    let c = Cursor { at: HEADER_SIZE };
-    let d = fields::take_fields(bytes, c, w, 2 * n, steps);
-    fields::take_fields(bytes, d, w, h.q, outputs);
+    take_lists(bytes, w, n, h.q, steps, outputs);
     h
 }
 

@@ -29,28 +29,16 @@ bit-length-requires c κs =
     let e = h .take-header .ensures in
     (omega arith, omega (arith, file s .few, columns-low (now (s .args .bytes))))
 
-mul-take-fields : tie.Need-mul-take-fields
-mul-take-fields c =
-    let h = c .before .before in
+take-lists-requires : tie.Need-take-lists-requires
+take-lists-requires c κs =
+    let w = c .before .before in
+    let h = w .before .before in
     let s = h .before .before .before .before in
     let e = h .take-header .ensures in
-    omega (arith, file s .few)
-
-take-fields-requires : tie.Need-take-fields-requires
-take-fields-requires c κs =
-    let w = c .before in
-    let h = w .before .before in
-    let s = h .before .before .before .before in
-    steps-taking (now (s .args .bytes)) (now (s .args .steps)) (now (s .args .outputs)) (file s) _ _ _ _ _ (h .take-header .ensures) (w .bit-length .ensures)
-
-take-fields-requires-2 : tie.Need-take-fields-requires-2
-take-fields-requires-2 c κs =
-    let t = c .before .before .before in
-    let w = t .before .before in
-    let h = w .before .before in
-    let s = h .before .before .before .before in
-    outputs-taking (now (s .args .bytes)) (now (s .args .steps)) (now (s .args .outputs)) (file s) _ _ _ _ _ (h .take-header .ensures) (w .bit-length .ensures) _
-    (t .take-fields .ensures .moved)
+    let bytes = now (s .args .bytes) in
+    let steps = now (s .args .steps) in
+    let outputs = now (s .args .outputs) in
+    (steps-taking bytes steps outputs (file s) _ _ _ _ _ e (w .bit-length .ensures), outputs-taking bytes steps outputs (file s) _ _ _ _ _ e (w .bit-length .ensures))
 
 same-length : tie.Need-same-length
 same-length c = search needs
@@ -60,9 +48,8 @@ same-length-2 c = search needs
 
 returns : tie.Need-returns
 returns c =
-    let u = c .before .before in
-    let t = u .before .before .before .before in
-    let w = t .before .before in
+    let t = c .before .before .before .before in
+    let w = t .before .before .before in
     let h = w .before .before in
     let s = h .before .before .before .before in
     let e = h .take-header .ensures in
@@ -71,8 +58,8 @@ returns c =
     let outputs = now (s .args .outputs) in (
       header-parts bytes _ _ _ _ e,
       (
-        steps-taken bytes steps outputs (file s) _ _ _ _ _ e (w .bit-length .ensures) _ _ (t .take-fields .ensures),
-        outputs-taken bytes steps outputs (file s) _ _ _ _ _ e (w .bit-length .ensures) _ _ _ (t .take-fields .ensures .moved) (u .take-fields2 .ensures),
+        steps-taken bytes steps outputs (file s) _ _ _ _ _ e (w .bit-length .ensures) _ (t .take-lists .ensures .0),
+        outputs-taken bytes steps outputs (file s) _ _ _ _ _ e (w .bit-length .ensures) _ (t .take-lists .ensures .1),
       ),
     )
 
@@ -83,9 +70,7 @@ take-chain-spec =
     take-header-requires
     add-bit-length
     bit-length-requires
-    mul-take-fields
-    take-fields-requires
-    take-fields-requires-2
+    take-lists-requires
     same-length
     same-length-2
     returns)

@@ -8,3 +8,6 @@ pub mod Judging
 pub mod OneFile
 pub mod Taking
 pub mod ReadAnswers
+pub mod Told
+pub mod Lent
+pub mod Taken

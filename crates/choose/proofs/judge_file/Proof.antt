@@ -3,7 +3,8 @@ use mathlib.Core.Path.{sym}
 use native.Mathlib.Omega.{arith}
 use lib.Seq.{length-take-le}
 use denote.Ref.{now}
-use Rattle.choose.proofs.Files.{Taken, refusal-says, read-bad, read-good, other-columns, other-payslips, not-held, all-held}
+use Rattle.file.proofs.Taken.{Taken, read-refused, read-good}
+use Rattle.choose.proofs.Files.{refusal-says, unread, other-columns, other-payslips, not-held, all-held}
 use Rattle.choose.proofs.judge_file.Statement.{statement}
 use Rattle.choose.proofs.judge_file.Tie as tie
 
@@ -90,7 +91,7 @@ returns-3 c =
     let s = r .before .before .before .before .before .before .before .before in
     let a = s .args in
     refusal-says _ _ _ _
-    (read-bad (now (a .bytes)) (now (a .steps)) (now (a .outputs)) (s .pre .0) (s .pre .1) _ (r .read .ensures .0) _ _ _ _ _ (n .number .given .1))
+    (unread _ _ _ _ _ _ (read-refused (now (a .bytes)) (now (a .steps)) (now (a .outputs)) (s .pre .0) (s .pre .1) _ (r .read .ensures .0) _ _ (n .number .given .1)))
 
 same-length-7 : tie.Need-same-length-7
 same-length-7 c = search needs

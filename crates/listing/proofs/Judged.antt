@@ -1,11 +1,11 @@
 -- The verdict on a file that is to be listed, from what reading it and measuring its columns find.
-use mathlib.Core.Path.{_≡_, refl, sym, ap, ap₂, _∙_}
+use mathlib.Core.Path.{_≡_, sym, ap, ap₂, _∙_}
 use mathlib.Core.List.{List, [], _∷_}
 use Prim.Native.Nat.{ℕ, _+_, _*_, _/_, _≤_, _<_}
 use native.Mathlib.Omega.{arith}
-use lib.ListN.{length, getD, take}
+use lib.ListN.{length, take}
 use lib.Seq.{length-take-le}
-use Rattle.chain.specs.Verdict.{Verdict, fine, refused, Answer, done, refusal, answer}
+use Rattle.chain.specs.Verdict.{Verdict, fine, refused, done, refusal, answer}
 use Rattle.chain.specs.Chain.{mostColumns, mostPayslips, mostSteps, pairs, stepsRule, outputsRule}
 use Rattle.chain.specs.declared.Step.{Step}
 use Rattle.chain.proofs.Rules.{stop, pass, refuse-yes, refuse-no, lt-yes, lt-no, answer-refused, answer-done, not-fine}

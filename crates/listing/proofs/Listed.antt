@@ -4,7 +4,7 @@ use mathlib.Core.List.{List, [], _∷_, _++_}
 use Prim.Native.Nat.{ℕ, zero, suc, _+_, _≤_, _<_}
 use native.Mathlib.Omega.{arith}
 use lib.ListN.{length, getD}
-use Rattle.chain.specs.Verdict.{Verdict, fine, refused, answer}
+use Rattle.chain.specs.Verdict.{fine, refused, answer}
 use Rattle.chain.specs.Written.{over}
 use Rattle.chain.specs.Chain.{mostColumns, mostPayslips, mostSteps}
 use Rattle.chain.proofs.Rules.{then-fine}

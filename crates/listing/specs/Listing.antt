@@ -73,7 +73,3 @@ textFor (refused k s) bytes = refusedText k
 
 unfoldable pub listing : List ℕ → List ℕ
 listing bytes = textFor (listingRule bytes) bytes
-
--- the longest listing: a first line of at most 12 bytes, and 64 of at most 2 + 16 · 11 + 1
-abbrev pub longestListing : ℕ
-longestListing = 11468

@@ -1,6 +1,6 @@
 // The listing of a file, as text.
 ghost use mathlib.Core.Path.{_≡_};
-ghost use mathlib.Core.List.{[], _∷_, _++_};
+ghost use mathlib.Core.List.{[], _∷_};
 ghost use Prim.Native.Nat.{ℕ, _+_, _*_, _/_, _≤_, _<_};
 ghost use lib.ListN.{length, getD};
 ghost use Rattle.chain.specs.Verdict.{fine, answer};
@@ -11,13 +11,14 @@ ghost use Rattle.verify.specs.Verify.{exponentsRule};
 ghost use Rattle.file.specs.File.{columnsOf, payslipsOf, lengthOf};
 ghost use Rattle.file.specs.Answers.{readOf};
 ghost use Rattle.run.specs.Run.{pick};
-ghost use Rattle.listing.specs.Listing.{longestListing, blank, newline, decimal, moreFields, lineOf, inColumns, payslipLines, amountOf, listingRule, chainText, refusedText, listing};
+ghost use Rattle.listing.specs.Listing.{blank, decimal, moreFields, lineOf, inColumns, payslipLines, amountOf, listingRule, chainText, refusedText, listing};
 ghost use Rattle.listing.specs.Table.{tableSize, amountIn, Holds};
+ghost use Rattle.listing.specs.Room.{mostField, mostSizes, mostLine, mostText};
 ghost use Rattle.listing.specs.Put.{Put};
 use chain::Judgement;
 use file::Reading;
 
-// The longest listing.
+// Room for every listing.
 pub const MOST_TEXT: usize = 11468;
 
 // The longest file.
@@ -46,16 +47,16 @@ fn put_field(x: u32, at: usize, text: &mut [u8]) -> usize
     put_decimal(x, at + 1, text)
 }
 
-// The amounts of payslip i, each after a blank. The table has 64 cells for each column.
+// The amounts of payslip i, each after a blank. The table has a cell for each of 64 payslips, column after column.
 fn put_amounts(i: usize, p: usize, table: &[u32], at: usize, text: &mut [u8]) -> usize
-    requires { ⌜ (i < mostPayslips) × (p ≤ mostColumns) × (length (now table) ≡ tableSize) × (at + 11 * p ≤ length (now text)) ⌝ }
+    requires { ⌜ (i < mostPayslips) × (p ≤ mostColumns) × (length (now table) ≡ tableSize) × (at + mostField * p ≤ length (now text)) ⌝ }
     ensures { λ r. ⌜ Put at (moreFields (inColumns p (amountIn (now (table .entry)) i))) (now (text .entry)) r (now (text .exit)) ⌝ }
-    ensures { λ r. ⌜ r ≤ at + 11 * p ⌝ }
+    ensures { λ r. ⌜ r ≤ at + mostField * p ⌝ }
 {
     let mut end = at;
     let mut c: usize = 0;
     while c < p {
-        end = put_field(table[64 * c + i], end, text);
+        end = put_field(table[chain::MOST_PAYSLIPS * c + i], end, text);
         c += 1;
     }
     end
@@ -63,9 +64,9 @@ fn put_amounts(i: usize, p: usize, table: &[u32], at: usize, text: &mut [u8]) ->
 
 // The line of payslip i.
 fn put_payslip(i: usize, p: usize, table: &[u32], at: usize, text: &mut [u8]) -> usize
-    requires { ⌜ (i < mostPayslips) × (p ≤ mostColumns) × (length (now table) ≡ tableSize) × (at + 179 ≤ length (now text)) ⌝ }
+    requires { ⌜ (i < mostPayslips) × (p ≤ mostColumns) × (length (now table) ≡ tableSize) × (at + mostLine ≤ length (now text)) ⌝ }
     ensures { λ r. ⌜ Put at (lineOf (i + 1) (inColumns p (amountIn (now (table .entry)) i))) (now (text .entry)) r (now (text .exit)) ⌝ }
-    ensures { λ r. ⌜ r ≤ at + 179 ⌝ }
+    ensures { λ r. ⌜ r ≤ at + mostLine ⌝ }
 {
     let first = put_decimal((i + 1) as u32, at, text);
     let end = put_amounts(i, p, table, first, text);
@@ -75,7 +76,7 @@ fn put_payslip(i: usize, p: usize, table: &[u32], at: usize, text: &mut [u8]) ->
 
 // The lines of the payslips.
 fn put_payslips(p: usize, q: usize, table: &[u32], at: usize, text: &mut [u8]) -> usize
-    requires { ⌜ (p ≤ mostColumns) × (q ≤ mostPayslips) × (length (now table) ≡ tableSize) × (at + 179 * q ≤ length (now text)) ⌝ }
+    requires { ⌜ (p ≤ mostColumns) × (q ≤ mostPayslips) × (length (now table) ≡ tableSize) × (at + mostLine * q ≤ length (now text)) ⌝ }
     ensures { λ r. ⌜ Put at (payslipLines p (amountIn (now (table .entry))) q) (now (text .entry)) r (now (text .exit)) ⌝ }
 {
     let mut end = at;
@@ -89,9 +90,9 @@ fn put_payslips(p: usize, q: usize, table: &[u32], at: usize, text: &mut [u8]) -
 
 // The line `p q n`.
 fn put_sizes(p: usize, q: usize, n: usize, text: &mut [u8]) -> usize
-    requires { ⌜ (p ≤ mostColumns) × (q ≤ mostPayslips) × (n ≤ mostSteps) × (12 ≤ length (now text)) ⌝ }
+    requires { ⌜ (p ≤ mostColumns) × (q ≤ mostPayslips) × (n ≤ mostSteps) × (mostSizes ≤ length (now text)) ⌝ }
     ensures { λ r. ⌜ Put 0 (lineOf p (q ∷ n ∷ [])) (now (text .entry)) r (now (text .exit)) ⌝ }
-    ensures { λ r. ⌜ r ≤ 12 ⌝ }
+    ensures { λ r. ⌜ r ≤ mostSizes ⌝ }
 {
     let first = put_decimal(p as u32, 0, text);
     let second = put_field(q as u32, first, text);
@@ -102,7 +103,7 @@ fn put_sizes(p: usize, q: usize, n: usize, text: &mut [u8]) -> usize
 
 // The listing of a chain whose amounts stand in the table.
 fn put_chain(p: usize, q: usize, n: usize, table: &[u32], text: &mut [u8]) -> usize
-    requires { ⌜ (p ≤ mostColumns) × (q ≤ mostPayslips) × (n ≤ mostSteps) × (length (now table) ≡ tableSize) × (longestListing ≤ length (now text)) ⌝ }
+    requires { ⌜ (p ≤ mostColumns) × (q ≤ mostPayslips) × (n ≤ mostSteps) × (length (now table) ≡ tableSize) × (mostText ≤ length (now text)) ⌝ }
     ensures { λ r. ⌜ Put 0 (chainText p q n (amountIn (now (table .entry)))) (now (text .entry)) r (now (text .exit)) ⌝ }
 {
     let at = put_sizes(p, q, n, text);
@@ -124,7 +125,7 @@ fn put_word(word: &[u8], at: usize, text: &mut [u8]) -> usize
 
 // The one line of a refusal.
 fn put_refused(number: u32, text: &mut [u8]) -> usize
-    requires { ⌜ longestListing ≤ length (now text) ⌝ }
+    requires { ⌜ mostText ≤ length (now text) ⌝ }
     ensures { λ r. ⌜ Put 0 (refusedText number) (now (text .entry)) r (now (text .exit)) ⌝ }
 {
     let first = put_word(b"refused ", 0, text);
@@ -136,9 +137,9 @@ fn put_refused(number: u32, text: &mut [u8]) -> usize
 // The amounts of column c at the outputs, into the column's cells of the table.
 fn gather(c: usize, outputs: &[u32], values: &[u32], table: &mut [u32])
     requires { ⌜ (c < mostColumns) × (length (now outputs) ≤ mostPayslips) × (length (now table) ≡ tableSize) × ((i : ℕ) → i < length (now outputs) → getD (now outputs) i 0 < length (now values)) ⌝ }
-    ensures { λ r. ⌜ now (table .exit) ≡ laid (64 * c) (pick (now (values .entry)) (now (outputs .entry))) (now (table .entry)) ⌝ }
+    ensures { λ r. ⌜ now (table .exit) ≡ laid (mostPayslips * c) (pick (now (values .entry)) (now (outputs .entry))) (now (table .entry)) ⌝ }
 {
-    run::show(outputs, values, &mut table[64 * c..]);
+    run::show(outputs, values, &mut table[chain::MOST_PAYSLIPS * c..]);
 }
 
 // 13: the exponents of all columns at the outputs into the table, where none is too large.
@@ -168,7 +169,7 @@ fn measure(
 }
 
 // The file's p, q and n, and its amounts into the table, or the refusal.
-fn take(
+fn measure_file(
     bytes: &[u8],
     steps: &mut [u32],
     outputs: &mut [u32],
@@ -198,11 +199,11 @@ pub fn list(bytes: &[u8], text: &mut [u8; MOST_TEXT]) -> usize
     ensures { λ r. ⌜ r ≡ length (listing (now (bytes .entry))) ⌝ }
     ensures { λ r. ⌜ now (text .exit) ≡ over (listing (now (bytes .entry))) (now (text .entry)) ⌝ }
 {
-    let mut steps = [0u32; 32000];
-    let mut outputs = [0u32; 64];
-    let mut scratch = [0u32; 16017];
-    let mut table = [0u32; 1024];
-    match take(bytes, &mut steps, &mut outputs, &mut scratch, &mut table) {
+    let mut steps = [0u32; 2 * chain::MOST_STEPS];
+    let mut outputs = [0u32; chain::MOST_PAYSLIPS];
+    let mut scratch = [0u32; chain::MOST_COLUMNS + chain::MOST_STEPS + 1];
+    let mut table = [0u32; chain::MOST_PAYSLIPS * chain::MOST_COLUMNS];
+    match measure_file(bytes, &mut steps, &mut outputs, &mut scratch, &mut table) {
         Reading::Refused(number, _) => put_refused(number, text),
         Reading::Chain { p, q, n } => put_chain(p, q, n, &table, text),
     }

@@ -5,6 +5,7 @@ use native.Mathlib.Omega.{arith}
 use lib.ListN.{length, getD}
 use Rattle.listing.specs.Listing.{moreFields, inColumns}
 use Rattle.listing.specs.Table.{amountIn}
+use Rattle.listing.specs.Room.{mostField}
 use Rattle.listing.specs.Put.{Put}
 use Rattle.listing.proofs.Decimal.{decimal-short}
 use Rattle.listing.proofs.Putting.{put-none}
@@ -14,7 +15,7 @@ use Rattle.listing.proofs.put_amounts.Tie as tie
 
 abbrev Inv-loop : tie.InvT-loop
 Inv-loop i p table at text₀ end₀ c₀ text end c =
-    (c ≤ p) × (length text ≡ length text₀) × (end ≤ at + 11 * c) × Put at (moreFields (inColumns c (amountIn table i))) text₀ end text
+    (c ≤ p) × (length text ≡ length text₀) × (end ≤ at + mostField * c) × Put at (moreFields (inColumns c (amountIn table i))) text₀ end text
 
 abbrev μ-loop : tie.MeasureT-loop
 μ-loop i p table at text₀ end₀ c₀ text end c = p - c

@@ -5,6 +5,7 @@ use native.Mathlib.Omega.{arith}
 use lib.ListN.{length}
 use Rattle.listing.specs.Listing.{payslipLines}
 use Rattle.listing.specs.Table.{amountIn}
+use Rattle.listing.specs.Room.{mostLine}
 use Rattle.listing.specs.Put.{Put}
 use Rattle.listing.proofs.Putting.{put-none}
 use Rattle.listing.proofs.Lines.{put-next}
@@ -13,7 +14,7 @@ use Rattle.listing.proofs.put_payslips.Tie as tie
 
 abbrev Inv-loop : tie.InvT-loop
 Inv-loop p q table at text₀ end₀ i₀ text end i =
-    (i ≤ q) × (length text ≡ length text₀) × (end ≤ at + 179 * i) × Put at (payslipLines p (amountIn table) i) text₀ end text
+    (i ≤ q) × (length text ≡ length text₀) × (end ≤ at + mostLine * i) × Put at (payslipLines p (amountIn table) i) text₀ end text
 
 abbrev μ-loop : tie.MeasureT-loop
 μ-loop p q table at text₀ end₀ i₀ text end i = q - i

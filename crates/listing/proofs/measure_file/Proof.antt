@@ -7,8 +7,8 @@ use Rattle.chain.specs.Judgement.{verdictOf}
 use Rattle.chain.proofs.Rules.{told-refused, told-fine}
 use Rattle.file.proofs.Taken.{Taken, read-refused, read-good}
 use Rattle.listing.proofs.Judged.{listing-refused, too-long, unread, columns-few, steps-fine, outputs-fine, outputs-few, room, measured, listing-done}
-use Rattle.listing.proofs.take.Statement.{statement}
-use Rattle.listing.proofs.take.Tie as tie
+use Rattle.listing.proofs.measure_file.Statement.{statement}
+use Rattle.listing.proofs.measure_file.Tie as tie
 
 returns : tie.Need-returns
 returns c = listing-refused _ _ 6 0 (too-long _ (c .if1 .taken))
@@ -117,8 +117,8 @@ returns-4 c =
     let passed = c .enum-told .given .1 in
     listing-done _ _ _ _ _ _ (taken k) (r .before .before .before .if1 .left) _ (told-fine _ _ (m .measure .ensures .0) passed) (m .measure .ensures .1 (ap verdictOf passed))
 
-pub take-spec : {M : Type 1} → statement M
-take-spec =
+pub measure-file-spec : {M : Type 1} → statement M
+measure-file-spec =
     tie.close
     (tie.spec
     returns

@@ -1,51 +1,34 @@
 -- The verdict on a file, from what reading it and the check answer.
 use mathlib.Core.Path.{_≡_, sym, ap, ap₂, _∙_}
 use mathlib.Core.List.{List}
-use Prim.Native.Nat.{ℕ, _*_, _/_, _≤_}
+use Prim.Native.Nat.{ℕ, _*_, _≤_}
 use native.Mathlib.Omega.{arith}
-use lib.ListN.{length, take}
+use lib.ListN.{take}
 use Rattle.chain.specs.Verdict.{Verdict, fine, refused}
 use Rattle.chain.specs.Chain.{mostPayslips, mostSteps, pairs}
 use Rattle.chain.specs.declared.Step.{Step}
 use Rattle.chain.proofs.Rules.{not-fine, stop, pass, refuse-yes, refuse-no, or-left, or-right, or-none, ne-yes, ne-no}
+use Rattle.chain.proofs.Told.{verdictIn, told}
 use Rattle.chain.proofs.Pairs.{pairs-flat}
 use Rattle.verify.specs.Verify.{verifyRule, verifyAnswer}
 use Rattle.verify.specs.Verified.{verifiedOf}
 use Rattle.verify.specs.declared.Verified.{Verified}
 use Rattle.verify.specs.declared.Verified.the-variants as verified
-use Rattle.file.specs.File.{stepsOf, outputsOf, readRule, readAnswer, readSteps, readOutputs}
-use Rattle.file.specs.Answers.{readOf}
-use Rattle.file.specs.declared.Reading.{Reading}
-use Rattle.file.specs.declared.Reading.the-variants as reading
+use Rattle.file.specs.File.{stepsOf, outputsOf, readRule}
 use Rattle.file.proofs.Readable.{columns-low}
 use Rattle.file.proofs.OneFile.{length-stepsOf}
-use Rattle.file.proofs.Taken.{Taken, taken, read-stops, read-passes}
+use Rattle.file.proofs.Good.{Good}
 use Rattle.choose.specs.Choose.{mostScratch, fileRule}
-use Rattle.choose.proofs.Lent.{read-any, verify-any}
-use Rattle.chain.proofs.Told.{verdictIn, told}
-
--- a file that reads, with what it leaves in the two slices
-pub record Good (bytes steps outputs : List ℕ) (p q n : ℕ) : Type 0 where
-  pub reads : fine ≡ readRule bytes mostSteps mostPayslips
-  pub taken : Taken bytes steps outputs p q n
+use Rattle.choose.proofs.Lent.{verify-any}
 
 -- what a refusal says of the number of steps, which is nothing
 pub refusal-says : (k s n : ℕ) (v : Verdict) → refused k s ≡ v → (refused k s ≡ v) × (v ≡ fine → 0 ≡ n)
 refusal-says k s n v e = (e, λ f. absurd (not-fine (e ∙ f)))
 
-module _ (bytes steps outputs : List ℕ) (hs : mostSteps ≤ length steps / 2) (ho : mostPayslips ≤ length outputs) (r : Reading)
-    (answered : readOf r ≡ readAnswer bytes (length steps / 2) (length outputs)) where
-  pub read-bad : (p q : ℕ) (amounts : List ℕ) (k s : ℕ) → r ≡ reading.Refused k s → refused k s ≡ fileRule p q amounts bytes
-  unfolding fileRule
-  read-bad p q amounts k s e = stop _ _ k s (read-stops bytes steps outputs r answered k s e ∙ read-any bytes _ _ hs ho)
-
-  pub read-good : (p q n : ℕ) → r ≡ reading.Chain p q n → (steps′ outputs′ : List ℕ) → steps′ ≡ readSteps bytes (length outputs) steps → outputs′ ≡ readOutputs bytes (length steps / 2) outputs
-      → Good bytes steps′ outputs′ p q n
-  read-good p q n is steps′ outputs′ es eo =
-      record {
-        reads = read-passes bytes steps outputs r answered p q n is ∙ read-any bytes _ _ hs ho;
-        taken = taken bytes steps outputs r answered p q n is steps′ outputs′ es eo;
-      }
+-- a file that does not read
+pub unread : (p q : ℕ) (amounts bytes : List ℕ) (k s : ℕ) → refused k s ≡ readRule bytes mostSteps mostPayslips → refused k s ≡ fileRule p q amounts bytes
+unfolding fileRule
+unread p q amounts bytes k s e = stop _ _ k s e
 
 -- the rules after reading, for a sheet of p columns and q payslips
 module _ (bytes steps outputs amounts : List ℕ) (p q columns payslips n : ℕ) (t : Good bytes steps outputs columns payslips n) where

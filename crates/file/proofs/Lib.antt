@@ -9,3 +9,5 @@ pub mod OneFile
 pub mod Taking
 pub mod ReadAnswers
 pub mod Taken
+pub mod Lent
+pub mod Good

@@ -1,1 +1,4 @@
 pub mod Listing
+pub mod Table
+pub mod Room
+pub mod Put

@@ -4,7 +4,7 @@ use Prim.Native.Nat.{ℕ, zero, suc, _+_, _/_, _%_}
 use lib.ListN.{length, getD}
 use Rattle.chain.specs.Tests.{_<?_}
 use Rattle.chain.specs.Verdict.{Verdict, fine, refused, _then_, refuseIf}
-use Rattle.chain.specs.Chain.{mostPayslips, mostSteps, exponents}
+use Rattle.chain.specs.Chain.{mostPayslips, mostSteps, exponentOf}
 use Rattle.verify.specs.Verify.{exponentsRule}
 use Rattle.file.specs.File.{longestFile, columnsOf, payslipsOf, lengthOf, stepsOf, outputsOf, readRule}
 
@@ -21,24 +21,32 @@ decimalOnto (suc f) zero text = text
 decimalOnto (suc f) (suc x) text = decimalOnto f (suc x / 10) ((48 + suc x % 10) ∷ text)
 
 -- a number in decimal; 0 is "0"
-abbrev pub decimal : ℕ → List ℕ
+unfoldable pub decimal : ℕ → List ℕ
 decimal zero = 48 ∷ []
 decimal (suc x) = decimalOnto (suc x) (suc x) []
 
--- "One blank parts fields, a newline ends each line."
-abbrev pub lineOf : ℕ → List ℕ → List ℕ
-lineOf x [] = decimal x ++ newline ∷ []
-lineOf x (y ∷ r) = decimal x ++ blank ∷ lineOf y r
+-- "One blank parts fields": the fields after a line's first
+abbrev pub moreFields : List ℕ → List ℕ
+moreFields [] = []
+moreFields (x ∷ r) = (blank ∷ decimal x) ++ moreFields r
 
--- the exponents of value v in the first columns
-abbrev pub exponentsOf : List ℕ → ℕ → ℕ → List ℕ
-exponentsOf bytes v zero = []
-exponentsOf bytes v (suc c) = exponentsOf bytes v c ++ getD (exponents (columnsOf bytes) c (stepsOf bytes)) v 0 ∷ []
+-- "a newline ends each line"
+unfoldable pub lineOf : ℕ → List ℕ → List ℕ
+lineOf x r = decimal x ++ (moreFields r ++ newline ∷ [])
 
--- "per payslip its number from 1 and its amounts": the first i payslips
-abbrev pub payslipLines : List ℕ → ℕ → List ℕ
-payslipLines bytes zero = []
-payslipLines bytes (suc i) = payslipLines bytes i ++ lineOf (suc i) (exponentsOf bytes (getD (outputsOf bytes) i 0) (columnsOf bytes))
+-- a payslip's amounts in the first columns; f c is that in column c, counted from 0
+abbrev pub inColumns : ℕ → (ℕ → ℕ) → List ℕ
+inColumns zero f = []
+inColumns (suc c) f = inColumns c f ++ f c ∷ []
+
+-- "per payslip its number from 1 and its amounts": the first payslips of p columns; f i c is the amount of payslip i in column c, both counted from 0
+abbrev pub payslipLines : ℕ → (ℕ → ℕ → ℕ) → ℕ → List ℕ
+payslipLines p f zero = []
+payslipLines p f (suc i) = payslipLines p f i ++ lineOf (suc i) (inColumns p (f i))
+
+-- the amount that a file gives payslip i in column c: the exponent of the payslip's output
+abbrev pub amountOf : List ℕ → ℕ → ℕ → ℕ
+amountOf bytes i c = exponentOf (columnsOf bytes) (stepsOf bytes) c (getD (outputsOf bytes) i 0)
 
 -- "input over the longest file is 6"; then as the file is read; "13 judged as in the check"
 unfoldable pub listingRule : List ℕ → Verdict
@@ -47,14 +55,21 @@ listingRule bytes =
     then readRule bytes mostSteps mostPayslips
     then exponentsRule (columnsOf bytes) (stepsOf bytes)
 
--- the word "refused"
-abbrev pub refusedWord : List ℕ
-refusedWord = 114 ∷ 101 ∷ 102 ∷ 117 ∷ 115 ∷ 101 ∷ 100 ∷ []
+-- "a line p q n, then per payslip ..", for p columns, q payslips and n steps
+unfoldable pub chainText : ℕ → ℕ → ℕ → (ℕ → ℕ → ℕ) → List ℕ
+chainText p q n f = lineOf p (q ∷ n ∷ []) ++ payslipLines p f q
 
--- "a line p q n, then per payslip ..", or "only one line, as refused 13, with the number"
+-- the word "refused" and a blank
+abbrev pub refusedWord : List ℕ
+refusedWord = 114 ∷ 101 ∷ 102 ∷ 117 ∷ 115 ∷ 101 ∷ 100 ∷ blank ∷ []
+
+-- "only one line, as refused 13, with the number"
+unfoldable pub refusedText : ℕ → List ℕ
+refusedText k = refusedWord ++ lineOf k []
+
 unfoldable pub textFor : Verdict → List ℕ → List ℕ
-textFor fine bytes = lineOf (columnsOf bytes) (payslipsOf bytes ∷ lengthOf bytes ∷ []) ++ payslipLines bytes (payslipsOf bytes)
-textFor (refused k s) bytes = refusedWord ++ blank ∷ lineOf k []
+textFor fine bytes = chainText (columnsOf bytes) (payslipsOf bytes) (lengthOf bytes) (amountOf bytes)
+textFor (refused k s) bytes = refusedText k
 
 unfoldable pub listing : List ℕ → List ℕ
 listing bytes = textFor (listingRule bytes) bytes

@@ -1,1 +1,210 @@
 // The listing of a file, as text.
+ghost use mathlib.Core.Path.{_≡_};
+ghost use mathlib.Core.List.{[], _∷_};
+ghost use Prim.Native.Nat.{ℕ, _+_, _*_, _/_, _≤_, _<_};
+ghost use lib.ListN.{length, getD};
+ghost use Rattle.chain.specs.Verdict.{fine, answer};
+ghost use Rattle.chain.specs.Written.{over, laid};
+ghost use Rattle.chain.specs.Chain.{mostColumns, mostPayslips, mostSteps, pairs, stepsRule, outputsRule, exponentOf};
+ghost use Rattle.chain.specs.Judgement.{verdictOf};
+ghost use Rattle.verify.specs.Verify.{exponentsRule};
+ghost use Rattle.file.specs.File.{columnsOf, payslipsOf, lengthOf};
+ghost use Rattle.file.specs.Answers.{readOf};
+ghost use Rattle.run.specs.Run.{pick};
+ghost use Rattle.listing.specs.Listing.{blank, decimal, moreFields, lineOf, inColumns, payslipLines, amountOf, listingRule, chainText, refusedText, listing};
+ghost use Rattle.listing.specs.Table.{tableSize, amountIn, Holds};
+ghost use Rattle.listing.specs.Room.{mostField, mostSizes, mostLine, mostText};
+ghost use Rattle.listing.specs.Put.{Put};
+use chain::Judgement;
+use file::Reading;
+
+// Room for every listing.
+pub const MOST_TEXT: usize = 11468;
+
+// The longest file.
+const MOST_BYTES: usize = 56116;
+
+// The digits of a number from a place of the text on; the place after them.
+fn put_decimal(x: u32, at: usize, text: &mut [u8]) -> usize
+    requires { ⌜ at + length (decimal x) ≤ length (now text) ⌝ }
+    ensures { λ r. ⌜ Put at (decimal x) (now (text .entry)) r (now (text .exit)) ⌝ }
+{
+    if x < 10 {
+        text[at] = (48 + x) as u8;
+        return at + 1;
+    }
+    let end = put_decimal(x / 10, at, text);
+    text[end] = (48 + x % 10) as u8;
+    end + 1
+}
+
+// A blank and a number.
+fn put_field(x: u32, at: usize, text: &mut [u8]) -> usize
+    requires { ⌜ at + length (blank ∷ decimal x) ≤ length (now text) ⌝ }
+    ensures { λ r. ⌜ Put at (blank ∷ decimal x) (now (text .entry)) r (now (text .exit)) ⌝ }
+{
+    text[at] = b' ';
+    put_decimal(x, at + 1, text)
+}
+
+// The amounts of payslip i, each after a blank. The table has a cell for each of 64 payslips, column after column.
+fn put_amounts(i: usize, p: usize, table: &[u32], at: usize, text: &mut [u8]) -> usize
+    requires { ⌜ (i < mostPayslips) × (p ≤ mostColumns) × (length (now table) ≡ tableSize) × (at + mostField * p ≤ length (now text)) ⌝ }
+    ensures { λ r. ⌜ Put at (moreFields (inColumns p (amountIn (now (table .entry)) i))) (now (text .entry)) r (now (text .exit)) ⌝ }
+    ensures { λ r. ⌜ r ≤ at + mostField * p ⌝ }
+{
+    let mut end = at;
+    let mut c: usize = 0;
+    while c < p {
+        end = put_field(table[chain::MOST_PAYSLIPS * c + i], end, text);
+        c += 1;
+    }
+    end
+}
+
+// The line of payslip i.
+fn put_payslip(i: usize, p: usize, table: &[u32], at: usize, text: &mut [u8]) -> usize
+    requires { ⌜ (i < mostPayslips) × (p ≤ mostColumns) × (length (now table) ≡ tableSize) × (at + mostLine ≤ length (now text)) ⌝ }
+    ensures { λ r. ⌜ Put at (lineOf (i + 1) (inColumns p (amountIn (now (table .entry)) i))) (now (text .entry)) r (now (text .exit)) ⌝ }
+    ensures { λ r. ⌜ r ≤ at + mostLine ⌝ }
+{
+    let first = put_decimal((i + 1) as u32, at, text);
+    let end = put_amounts(i, p, table, first, text);
+    text[end] = b'\n';
+    end + 1
+}
+
+// The lines of the payslips.
+fn put_payslips(p: usize, q: usize, table: &[u32], at: usize, text: &mut [u8]) -> usize
+    requires { ⌜ (p ≤ mostColumns) × (q ≤ mostPayslips) × (length (now table) ≡ tableSize) × (at + mostLine * q ≤ length (now text)) ⌝ }
+    ensures { λ r. ⌜ Put at (payslipLines p (amountIn (now (table .entry))) q) (now (text .entry)) r (now (text .exit)) ⌝ }
+{
+    let mut end = at;
+    let mut i: usize = 0;
+    while i < q {
+        end = put_payslip(i, p, table, end, text);
+        i += 1;
+    }
+    end
+}
+
+// The line `p q n`.
+fn put_sizes(p: usize, q: usize, n: usize, text: &mut [u8]) -> usize
+    requires { ⌜ (p ≤ mostColumns) × (q ≤ mostPayslips) × (n ≤ mostSteps) × (mostSizes ≤ length (now text)) ⌝ }
+    ensures { λ r. ⌜ Put 0 (lineOf p (q ∷ n ∷ [])) (now (text .entry)) r (now (text .exit)) ⌝ }
+    ensures { λ r. ⌜ r ≤ mostSizes ⌝ }
+{
+    let first = put_decimal(p as u32, 0, text);
+    let second = put_field(q as u32, first, text);
+    let end = put_field(n as u32, second, text);
+    text[end] = b'\n';
+    end + 1
+}
+
+// The listing of a chain whose amounts stand in the table.
+fn put_chain(p: usize, q: usize, n: usize, table: &[u32], text: &mut [u8]) -> usize
+    requires { ⌜ (p ≤ mostColumns) × (q ≤ mostPayslips) × (n ≤ mostSteps) × (length (now table) ≡ tableSize) × (mostText ≤ length (now text)) ⌝ }
+    ensures { λ r. ⌜ Put 0 (chainText p q n (amountIn (now (table .entry)))) (now (text .entry)) r (now (text .exit)) ⌝ }
+{
+    let at = put_sizes(p, q, n, text);
+    put_payslips(p, q, table, at, text)
+}
+
+// Bytes as they are.
+fn put_word(word: &[u8], at: usize, text: &mut [u8]) -> usize
+    requires { ⌜ at + length (now word) ≤ length (now text) ⌝ }
+    ensures { λ r. ⌜ Put at (now (word .entry)) (now (text .entry)) r (now (text .exit)) ⌝ }
+{
+    let mut i: usize = 0;
+    while i < word.len() {
+        text[at + i] = word[i];
+        i += 1;
+    }
+    at + i
+}
+
+// The one line of a refusal.
+fn put_refused(number: u32, text: &mut [u8]) -> usize
+    requires { ⌜ mostText ≤ length (now text) ⌝ }
+    ensures { λ r. ⌜ Put 0 (refusedText number) (now (text .entry)) r (now (text .exit)) ⌝ }
+{
+    let first = put_word(b"refused ", 0, text);
+    let end = put_decimal(number, first, text);
+    text[end] = b'\n';
+    end + 1
+}
+
+// The amounts of column c at the outputs, into the column's cells of the table.
+fn gather(c: usize, outputs: &[u32], values: &[u32], table: &mut [u32])
+    requires { ⌜ (c < mostColumns) × (length (now outputs) ≤ mostPayslips) × (length (now table) ≡ tableSize) × ((i : ℕ) → i < length (now outputs) → getD (now outputs) i 0 < length (now values)) ⌝ }
+    ensures { λ r. ⌜ now (table .exit) ≡ laid (mostPayslips * c) (pick (now (values .entry)) (now (outputs .entry))) (now (table .entry)) ⌝ }
+{
+    run::show(outputs, values, &mut table[chain::MOST_PAYSLIPS * c..]);
+}
+
+// 13: the exponents of all columns at the outputs into the table, where none is too large.
+fn measure(
+    p: usize,
+    steps: &[u32],
+    outputs: &[u32],
+    scratch: &mut [u32],
+    table: &mut [u32],
+) -> Judgement
+    requires { ⌜ (p ≤ mostColumns) × (stepsRule p 1 (pairs (now steps)) ≡ fine) × (outputsRule (p + length (pairs (now steps))) 1 (now outputs) ≡ fine) × (length (now outputs) ≤ mostPayslips) × (p + length (now steps) / 2 < length (now scratch)) × (length (now table) ≡ tableSize) ⌝ }
+    ensures { λ r. ⌜ verdictOf r ≡ exponentsRule p (pairs (now (steps .entry))) ⌝ }
+    ensures { λ r. ⌜ (verdictOf r ≡ fine → Holds (now (table .exit)) (length (now (outputs .entry))) p (λ i c. exponentOf p (pairs (now (steps .entry))) c (getD (now (outputs .entry)) i 0))) ⌝ }
+{
+    let mut large: usize = 0;
+    let mut c: usize = 0;
+    while c < p {
+        let place = verify::column(p, c, steps, scratch);
+        gather(c, outputs, scratch, table);
+        large = verify::earlier(large, place);
+        c += 1;
+    }
+    if large != 0 {
+        return Judgement::Refused(13, large);
+    }
+    Judgement::Fine
+}
+
+// The file's p, q and n, and its amounts into the table, or the refusal.
+fn measure_file(
+    bytes: &[u8],
+    steps: &mut [u32],
+    outputs: &mut [u32],
+    scratch: &mut [u32],
+    table: &mut [u32],
+) -> Reading
+    requires { ⌜ (length (now steps) ≡ 2 * mostSteps) × (length (now outputs) ≡ mostPayslips) × (length (now scratch) ≡ mostColumns + mostSteps + 1) × (length (now table) ≡ tableSize) ⌝ }
+    ensures { λ r. ⌜ readOf r ≡ answer (listingRule (now (bytes .entry))) (columnsOf (now (bytes .entry)) ∷ payslipsOf (now (bytes .entry)) ∷ lengthOf (now (bytes .entry)) ∷ []) ⌝ }
+    ensures { λ r. ⌜ (listingRule (now (bytes .entry)) ≡ fine → Holds (now (table .exit)) (payslipsOf (now (bytes .entry))) (columnsOf (now (bytes .entry))) (amountOf (now (bytes .entry)))) ⌝ }
+{
+    if MOST_BYTES < bytes.len() {
+        return Reading::Refused(6, 0);
+    }
+    match file::read(bytes, steps, outputs) {
+        Reading::Refused(number, place) => Reading::Refused(number, place),
+        Reading::Chain { p, q, n } => {
+            match measure(p, &steps[..2 * n], &outputs[..q], scratch, table) {
+                Judgement::Refused(number, place) => Reading::Refused(number, place),
+                Judgement::Fine => Reading::Chain { p: p, q: q, n: n },
+            }
+        }
+    }
+}
+
+// The listing of a file over the front of the text; how many bytes it has.
+pub fn list(bytes: &[u8], text: &mut [u8; MOST_TEXT]) -> usize
+    ensures { λ r. ⌜ r ≡ length (listing (now (bytes .entry))) ⌝ }
+    ensures { λ r. ⌜ now (text .exit) ≡ over (listing (now (bytes .entry))) (now (text .entry)) ⌝ }
+{
+    let mut steps = [0u32; 2 * chain::MOST_STEPS];
+    let mut outputs = [0u32; chain::MOST_PAYSLIPS];
+    let mut scratch = [0u32; chain::MOST_COLUMNS + chain::MOST_STEPS + 1];
+    let mut table = [0u32; chain::MOST_PAYSLIPS * chain::MOST_COLUMNS];
+    match measure_file(bytes, &mut steps, &mut outputs, &mut scratch, &mut table) {
+        Reading::Refused(number, _) => put_refused(number, text),
+        Reading::Chain { p, q, n } => put_chain(p, q, n, &table, text),
+    }
+}

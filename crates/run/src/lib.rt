@@ -126,7 +126,7 @@ fn fill(p: usize, steps: &[u32], m: u32, bases: &[u32], values: &mut [u32])
 }
 
 // The outputs' values, over the front of the slice.
-fn show(outputs: &[u32], values: &[u32], figures: &mut [u32])
+pub fn show(outputs: &[u32], values: &[u32], figures: &mut [u32])
     requires { ⌜ (length (now outputs) ≤ length (now figures)) × ((i : ℕ) → i < length (now outputs) → getD (now outputs) i 0 < length (now values)) ⌝ }
     ensures { λ r. ⌜ now (figures .exit) ≡ over (pick (now (values .entry)) (now (outputs .entry))) (now (figures .entry)) ⌝ }
 {

@@ -46,24 +46,34 @@ unfolding refuseAt
 at-none n k e = rw e
 
 -- the verdict from the places of all columns
-module _ (p : ℕ) (amounts : List ℕ) (steps : List Step) (outputs : List ℕ) (c large other : ℕ) (h : p ≤ c) (h′ : c ≤ p) (e : large ≡ earliest c (largeIn p steps)) where
-  pub held-large : (large ≡ 0 → ⊥) → refused 13 large ≡ (exponentsRule p steps then payslipsRule p amounts steps outputs)
-  unfolding exponentsRule
-  held-large some =
+module _ (p : ℕ) (steps : List Step) (c large : ℕ) (h : p ≤ c) (h′ : c ≤ p) (e : large ≡ earliest c (largeIn p steps)) where
+  in-all : large ≡ earliest p (largeIn p steps)
+  in-all =
       let q : c ≡ p = omega arith in
-      stop _ _ 13 large (at-some 13 _ large some (e ∙ ap (λ (k : ℕ). earliest k (largeIn p steps)) q))
+      e ∙ ap (λ (k : ℕ). earliest k (largeIn p steps)) q
 
-  module _ (none : large ≡ 0) (d : large ≡ 0 → other ≡ earliest c (otherIn p amounts steps outputs)) where
-    pub held-other : (other ≡ 0 → ⊥) → refused 14 other ≡ (exponentsRule p steps then payslipsRule p amounts steps outputs)
-    unfolding exponentsRule payslipsRule
-    held-other some =
-        let q : c ≡ p = omega arith in
-        pass _ _ (refused 14 other) (at-none 13 _ (sym (e ∙ ap (λ (k : ℕ). earliest k (largeIn p steps)) q) ∙ none))
-        (at-some 14 _ other some (d none ∙ ap (λ (k : ℕ). earliest k (otherIn p amounts steps outputs)) q))
+  pub exponents-large : (large ≡ 0 → ⊥) → refused 13 large ≡ exponentsRule p steps
+  unfolding exponentsRule
+  exponents-large some = at-some 13 _ large some in-all
 
-    pub held-fine : other ≡ 0 → fine ≡ (exponentsRule p steps then payslipsRule p amounts steps outputs)
-    unfolding exponentsRule payslipsRule
-    held-fine same =
-        let q : c ≡ p = omega arith in
-        pass _ _ fine (at-none 13 _ (sym (e ∙ ap (λ (k : ℕ). earliest k (largeIn p steps)) q) ∙ none))
-        (at-none 14 _ (sym (d none ∙ ap (λ (k : ℕ). earliest k (otherIn p amounts steps outputs)) q) ∙ same))
+  pub exponents-fine : large ≡ 0 → fine ≡ exponentsRule p steps
+  unfolding exponentsRule
+  exponents-fine none = at-none 13 _ (sym in-all ∙ none)
+
+  module _ (amounts outputs : List ℕ) (other : ℕ) where
+    pub held-large : (large ≡ 0 → ⊥) → refused 13 large ≡ (exponentsRule p steps then payslipsRule p amounts steps outputs)
+    held-large some = stop _ _ 13 large (exponents-large some)
+
+    module _ (none : large ≡ 0) (d : large ≡ 0 → other ≡ earliest c (otherIn p amounts steps outputs)) where
+      other-all : other ≡ earliest p (otherIn p amounts steps outputs)
+      other-all =
+          let q : c ≡ p = omega arith in
+          d none ∙ ap (λ (k : ℕ). earliest k (otherIn p amounts steps outputs)) q
+
+      pub held-other : (other ≡ 0 → ⊥) → refused 14 other ≡ (exponentsRule p steps then payslipsRule p amounts steps outputs)
+      unfolding payslipsRule
+      held-other some = pass _ _ (refused 14 other) (exponents-fine none) (at-some 14 _ other some other-all)
+
+      pub held-fine : other ≡ 0 → fine ≡ (exponentsRule p steps then payslipsRule p amounts steps outputs)
+      unfolding payslipsRule
+      held-fine same = pass _ _ fine (exponents-fine none) (at-none 14 _ (sym other-all ∙ same))

@@ -64,7 +64,7 @@ fn judge(p: usize, steps: &[u32], outputs: &[u32], amounts: &[u32], scratch: usi
 }
 
 // The earlier of two places, 0 being none.
-fn earlier(a: usize, b: usize) -> usize
+pub fn earlier(a: usize, b: usize) -> usize
     ensures { λ r. ⌜ r ≡ earlier a b ⌝ }
 {
     if a == 0 {
@@ -121,7 +121,7 @@ fn sum(p: usize, steps: &[u32], scratch: &mut [u32]) -> usize
 }
 
 // The exponents of column c into the scratch, up to the first that is too large: its place, 0 for none.
-fn column(p: usize, c: usize, steps: &[u32], scratch: &mut [u32]) -> usize
+pub fn column(p: usize, c: usize, steps: &[u32], scratch: &mut [u32]) -> usize
     requires { ⌜ (c < p) × (p ≤ mostColumns) × (stepsRule p 1 (pairs (now steps)) ≡ fine) × (p + length (now steps) / 2 < length (now scratch)) ⌝ }
     ensures { λ r. ⌜ r ≡ firstOver 1 (drop (p + 1) (exponents p c (pairs (now (steps .entry))))) ⌝ }
     ensures { λ r. ⌜ (r ≡ 0 → now (scratch .exit) ≡ over (exponents p c (pairs (now (steps .entry)))) (now (scratch .entry))) ⌝ }

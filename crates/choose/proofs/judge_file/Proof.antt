@@ -3,7 +3,8 @@ use mathlib.Core.Path.{sym}
 use native.Mathlib.Omega.{arith}
 use lib.Seq.{length-take-le}
 use denote.Ref.{now}
-use Rattle.choose.proofs.Files.{Good, refusal-says, read-bad, read-good, other-columns, other-payslips, not-held, all-held}
+use Rattle.file.proofs.Good.{Good, read-refused, read-good}
+use Rattle.choose.proofs.Files.{refusal-says, unread, other-columns, other-payslips, not-held, all-held}
 use Rattle.choose.proofs.judge_file.Statement.{statement}
 use Rattle.choose.proofs.judge_file.Tie as tie
 
@@ -17,10 +18,10 @@ enum-known-columns : tie.Need-enum-known-columns
 enum-known-columns c = search needs
 
 -- what the file that was read tells
-taken : (c : tie.After-columns)
+read-file : (c : tie.After-columns)
     → let r = c .before .before .before .before .before .before in
     Good (now (r .before .before .before .before .before .before .before .before .args .bytes)) (r .read .last .1 .0) (r .read .last .1 .1 .0) (c .columns .given .0 .0) (c .columns .given .0 .1 .0) (c .columns .given .0 .1 .1 .0)
-taken c =
+read-file c =
     let r = c .before .before .before .before .before .before in
     let s = r .before .before .before .before .before .before .before .before in
     let a = s .args in
@@ -35,7 +36,7 @@ same-length-2 c = search needs
 
 returns : tie.Need-returns
 returns c =
-    let t = taken (c .before .before) in
+    let t = read-file (c .before .before) in
     refusal-says _ _ _ _ (other-columns _ _ _ _ _ _ _ _ _ t (c .if1 .taken))
 
 same-length-3 : tie.Need-same-length-3
@@ -46,27 +47,27 @@ same-length-4 c = search needs
 
 returns-2 : tie.Need-returns-2
 returns-2 c =
-    let t = taken (c .before .before .before) in
+    let t = read-file (c .before .before .before) in
     refusal-says _ _ _ _ (other-payslips _ _ _ _ _ _ _ _ _ t (c .if2 .taken))
 
 mul-verify : tie.Need-mul-verify
-mul-verify c = omega (arith, taken (c .before .before .before) .taken .few)
+mul-verify c = omega (arith, read-file (c .before .before .before) .taken .few)
 
 slice-reshare-prefix-verify : tie.Need-slice-reshare-prefix-verify
-slice-reshare-prefix-verify c = taken (c .before .before .before) .taken .steps-room
+slice-reshare-prefix-verify c = read-file (c .before .before .before) .taken .steps-room
 
 slice-aggregate-verify : tie.Need-slice-aggregate-verify
-slice-aggregate-verify c = sym (length-take-le _ _ (taken (c .before .before .before .before) .taken .steps-room))
+slice-aggregate-verify c = sym (length-take-le _ _ (read-file (c .before .before .before .before) .taken .steps-room))
 
 slice-reshare-prefix-verify-2 : tie.Need-slice-reshare-prefix-verify-2
 slice-reshare-prefix-verify-2 c =
     let e = c .before .if2 .left in
-    omega (arith, taken (c .before .before .before .before) .taken .outputs-room)
+    omega (arith, read-file (c .before .before .before .before) .taken .outputs-room)
 
 slice-aggregate-verify-2 : tie.Need-slice-aggregate-verify-2
 slice-aggregate-verify-2 c =
     let e = c .before .before .if2 .left in
-    sym (length-take-le _ _ (omega (arith, taken (c .before .before .before .before .before) .taken .outputs-room)))
+    sym (length-take-le _ _ (omega (arith, read-file (c .before .before .before .before .before) .taken .outputs-room)))
 
 verify-requires : tie.Need-verify-requires
 verify-requires c κs = search needs
@@ -90,7 +91,7 @@ returns-3 c =
     let s = r .before .before .before .before .before .before .before .before in
     let a = s .args in
     refusal-says _ _ _ _
-    (read-bad (now (a .bytes)) (now (a .steps)) (now (a .outputs)) (s .pre .0) (s .pre .1) _ (r .read .ensures .0) _ _ _ _ _ (n .number .given .1))
+    (unread _ _ _ _ _ _ (read-refused (now (a .bytes)) (now (a .steps)) (now (a .outputs)) (s .pre .0) (s .pre .1) _ (r .read .ensures .0) _ _ (n .number .given .1)))
 
 same-length-7 : tie.Need-same-length-7
 same-length-7 c = search needs
@@ -108,7 +109,7 @@ returns-4 c =
     let k = e .before .before .before in
     let s = k .before .before .before .before .before .before .before .before .before .before .before .before .before .before in
     refusal-says _ _ _ _
-    (not-held _ _ _ _ _ _ _ _ _ (taken k) (e .before .if1 .left) (e .if2 .left) _ (s .pre .2) _ (v .verify .ensures .0) _ _ (c .before .number2 .given .1))
+    (not-held _ _ _ _ _ _ _ _ _ (read-file k) (e .before .if1 .left) (e .if2 .left) _ (s .pre .2) _ (v .verify .ensures .0) _ _ (c .before .number2 .given .1))
 
 same-length-10 : tie.Need-same-length-10
 same-length-10 c = search needs
@@ -125,8 +126,8 @@ returns-5 c =
     let e = v .before .before .before .before in
     let k = e .before .before .before in
     let s = k .before .before .before .before .before .before .before .before .before .before .before .before .before .before in (
-      all-held _ _ _ _ _ _ _ _ _ (taken k) (e .before .if1 .left) (e .if2 .left) _ (s .pre .2) _ (v .verify .ensures .0) (c .enum-told .given .1),
-      λ f. taken k .taken .long,
+      all-held _ _ _ _ _ _ _ _ _ (read-file k) (e .before .if1 .left) (e .if2 .left) _ (s .pre .2) _ (v .verify .ensures .0) (c .enum-told .given .1),
+      λ f. read-file k .taken .long,
     )
 
 pub judge-file-spec : {M : Type 1} → statement M

@@ -74,7 +74,7 @@ same-length c = search needs
 returns : tie.Need-returns Inv-loop μ-loop
 returns c =
     let l = c .before .before .loop in
-    (held-large _ _ _ _ _ _ 0 (c .before .loop-test .left) (l .inv .0) (l .inv .2) (c .if2 .taken), l .inv .4)
+    (held-large _ _ _ _ (c .before .loop-test .left) (l .inv .0) (l .inv .2) _ _ 0 (c .if2 .taken), l .inv .4)
 
 same-length-2 : tie.Need-same-length-2 Inv-loop μ-loop
 same-length-2 c = search needs
@@ -82,7 +82,7 @@ same-length-2 c = search needs
 returns-2 : tie.Need-returns-2 Inv-loop μ-loop
 returns-2 c =
     let l = c .before .before .before .loop in
-    (held-other _ _ _ _ _ _ _ (c .before .before .loop-test .left) (l .inv .0) (l .inv .2) (c .before .if2 .left) (l .inv .3) (c .if3 .taken), l .inv .4)
+    (held-other _ _ _ _ (c .before .before .loop-test .left) (l .inv .0) (l .inv .2) _ _ _ (c .before .if2 .left) (l .inv .3) (c .if3 .taken), l .inv .4)
 
 same-length-3 : tie.Need-same-length-3 Inv-loop μ-loop
 same-length-3 c = search needs
@@ -90,7 +90,7 @@ same-length-3 c = search needs
 returns-3 : tie.Need-returns-3 Inv-loop μ-loop
 returns-3 c =
     let l = c .before .before .before .loop in
-    (held-fine _ _ _ _ _ _ _ (c .before .before .loop-test .left) (l .inv .0) (l .inv .2) (c .before .if2 .left) (l .inv .3) (c .if3 .left), l .inv .4)
+    (held-fine _ _ _ _ (c .before .before .loop-test .left) (l .inv .0) (l .inv .2) _ _ _ (c .before .if2 .left) (l .inv .3) (c .if3 .left), l .inv .4)
 
 pub hold-spec : {M : Type 1} → statement M
 hold-spec =

@@ -1,0 +1,73 @@
+use borrow.Author.Needs.{needs}
+use Prim.Native.Nat.{_+_, _≤_}
+use native.Mathlib.Omega.{arith}
+use mathlib.Core.Path.{_∙_}
+use lib.ListN.{length-set}
+use Rattle.listing.proofs.Decimal.{decimal-short}
+use Rattle.listing.proofs.Lines.{put-line}
+use Rattle.listing.proofs.put_payslip.Statement.{statement}
+use Rattle.listing.proofs.put_payslip.Tie as tie
+
+add-put-decimal : tie.Need-add-put-decimal
+add-put-decimal c = search needs
+
+cast-put-decimal : tie.Need-cast-put-decimal
+cast-put-decimal c = search needs
+
+put-decimal-requires : tie.Need-put-decimal-requires
+put-decimal-requires c κs =
+    let s = c .before .before .before in
+    omega (arith, decimal-short 1 (s .args .i + 1) (omega (arith, s .pre .0)), s .pre .3)
+
+put-amounts-requires : tie.Need-put-amounts-requires
+put-amounts-requires c κs =
+    let k = c .before .before .before in
+    let s = k .before .before .before .before in
+    (s .pre .0, s .pre .1, s .pre .2, omega (arith, decimal-short 1 (s .args .i + 1) (omega (arith, s .pre .0)), k .put-decimal .ensures .place, k .put-decimal .kept .1 .1 .0, s .pre .1, s .pre .3))
+
+-- where the newline goes
+line-end : (c : tie.After-slice-known3)
+    → c .before .before .put-amounts .result ≤ c .before .before .before .before .before .before .before .before .before .before .args .at + 178
+line-end c =
+    let k = c .before .before in
+    let j = k .before .before .before .before in
+    let s = j .before .before .before .before in
+    omega (arith, decimal-short 1 (s .args .i + 1) (omega (arith, s .pre .0)), j .put-decimal .ensures .place, k .put-amounts .ensures .1, s .pre .1)
+
+slice-write-text : tie.Need-slice-write-text
+slice-write-text c =
+    let k = c .before .before in
+    let j = k .before .before .before .before in
+    let s = j .before .before .before .before in
+    omega (arith, line-end c, j .put-decimal .kept .1 .1 .0, k .put-amounts .kept .1 .1 .1 .1 .0, s .pre .3)
+
+add-result : tie.Need-add-result
+add-result c =
+    let s = c .before .before .before .before .before .before .before .before .before .before in
+    omega (arith, line-end c, s .pre .3, s .good .1 .1 .1 .1 .0 .0)
+
+same-length : tie.Need-same-length
+same-length c =
+    let k = c .before .before in
+    let j = k .before .before .before .before in
+    simp length-set (k .put-amounts .kept .1 .1 .1 .1 .0 ∙ j .put-decimal .kept .1 .1 .0)
+
+returns : tie.Need-returns
+returns c =
+    let k = c .before .before in
+    let j = k .before .before .before .before in
+    let s = j .before .before .before .before in
+    (put-line _ _ _ _ _ _ _ _ (j .put-decimal .ensures) (k .put-amounts .ensures .0) (omega (arith, line-end c, s .pre .3)), omega (arith, line-end c))
+
+pub put-payslip-spec : {M : Type 1} → statement M
+put-payslip-spec =
+    tie.close
+    (tie.spec
+    add-put-decimal
+    cast-put-decimal
+    put-decimal-requires
+    put-amounts-requires
+    slice-write-text
+    add-result
+    same-length
+    returns)

@@ -6,11 +6,13 @@ ghost use Prim.Native.Nat.{_/_};
 ghost use lib.ListN.{length};
 ghost use Rattle.chain.specs.Verdict.{Answer, done, refusal};
 ghost use Rattle.chain.specs.Chain.{pairs};
+ghost use Rattle.chain.specs.Written.{over};
 ghost use Rattle.compile.specs.Compile.{compileAnswer, compileSteps, compileOutputs};
 ghost use Rattle.file.specs.File.{writeAnswer, writeBytes, readAnswer, readSteps, readOutputs};
 ghost use Rattle.verify.specs.Verify.{verifyAnswer, verifyScratch};
 ghost use Rattle.run.specs.Run.{runAnswer, runValues, runFigures};
 ghost use Rattle.choose.specs.Choose.{choice};
+ghost use Rattle.listing.specs.Listing.{listing};
 ghost use Rattle.path.specs.Path.{lent, pathAnswer, pathLeaves};
 ghost use Rattle.spoutbasket.specs.Told.{numberOf, wordsOf, chosen};
 use choose::Chosen;
@@ -154,6 +156,20 @@ pub extern "C" fn spoutbasket_choose(
         Chosen::Second => tell(0, 2, 0, 0, answer),
         Chosen::Neither(number, place) => tell(number, place, 0, 0, answer),
     }
+}
+
+// The listing of a file, as text over the front of an array with room for every listing; the answer is its length.
+#[no_mangle]
+pub extern "C" fn spoutbasket_list(
+    bytes: &[u8],
+    text: &mut [u8; listing::MOST_TEXT],
+    answer: &mut [u64; 4],
+) -> u32
+    ensures { λ r. ⌜ r ≡ 0 ⌝ }
+    ensures { λ r. ⌜ now (answer .exit) ≡ length (listing (now (bytes .entry))) ∷ 0 ∷ 0 ∷ 0 ∷ [] ⌝ }
+    ensures { λ r. ⌜ now (text .exit) ≡ over (listing (now (bytes .entry))) (now (text .entry)) ⌝ }
+{
+    tell(0, listing::list(bytes, text), 0, 0, answer)
 }
 
 // The whole path from a sheet to its figures: compile, write, read, check and run. The chain read stands in `received` and `results`.

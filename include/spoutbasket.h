@@ -1,6 +1,6 @@
 /* Spoutbasket: payslip sheets compiled into multiplication chains, their files, their check and their control figures.
  *
- * Link libspoutbasket.a, which `rt staticlib spoutbasket` writes. It needs no other library, allocates nothing and keeps nothing between calls.
+ * Link libspoutbasket.a, which `rt staticlib spoutbasket` writes. It allocates nothing and keeps nothing between calls.
  *
  * A slice is a pointer and the number of its cells. Steps lie flat, first and second operand in turn, so n steps are 2n cells; an odd last cell
  * belongs to no step. Each pointer is aligned, not null even where the length is 0, and good for as many cells as its length says. A slice that the
@@ -8,7 +8,7 @@
  *
  * Each function looks at all its input itself. It returns 0, or the number of a refusal, and writes four words to `answer`: the values that the call
  * answers, or the refusal's place, then zeros. A place is a step (9, 10, 11, 13) or a payslip (12, 14), counted from 1, and 0 where there is none.
- * After a refusal every slice is as it was, but for the check's scratch. Cells past those that are needed never change. */
+ * After a refusal every slice is as it was, unless the function's comment says otherwise. Cells past those that are needed never change. */
 #ifndef SPOUTBASKET_H
 #define SPOUTBASKET_H
 

@@ -53,10 +53,11 @@ impl Chain {
     /// ```
     pub fn to_file(&self) -> Result<Vec<u8>, Refusal> {
         let mut bytes = vec![0; self.file_length()];
-        answer(|words| {
+        let [written, ..] = answer(|words| {
             let steps = self.steps.as_flattened();
             slices::write(self.columns, steps, &self.outputs, &mut bytes, words)
         })?;
+        bytes.truncate(written);
         Ok(bytes)
     }
 

@@ -19,9 +19,8 @@ fn example_and_refusals() -> Result<(), Refusal> {
 
 #[test]
 fn largest() -> Result<(), Refusal> {
-    let amounts = [4_294_967_295; 16 * 64];
-    let sheet = Sheet::new(16, 64, amounts)?;
-    let chain = sheet.compile(Method::Partition(8))?;
+    let sheet = Sheet::new(16, 64, [u32::MAX; 16 * 64])?;
+    let chain = sheet.compile(Method::Partition(4))?;
     let mut text = format!("16 64 {}\n", chain.n());
     for payslip in 1..=64 {
         text += &format!("{payslip}{}\n", " 4294967295".repeat(16));

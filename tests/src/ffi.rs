@@ -1,119 +1,12 @@
-//! The C interface of the static library, and a safe function over each entry point.
-//! A slice crosses as a pointer and a length. Nothing checks these declarations against the Rattle source but the tests.
+//! The library's functions on slices, with the answer in the reference's terms.
 
 use crate::reference::{Answer, Job, Lent};
+use spoutbasket::slices;
 
-mod raw {
-    extern "C" {
-        pub fn spoutbasket_compile(
-            p: usize,
-            q: usize,
-            amounts: *const u32,
-            amounts_len: usize,
-            method: usize,
-            parameter: usize,
-            steps: *mut u32,
-            steps_len: usize,
-            outputs: *mut u32,
-            outputs_len: usize,
-            answer: *mut u64,
-        ) -> u32;
-        pub fn spoutbasket_path(
-            p: usize,
-            q: usize,
-            amounts: *const u32,
-            amounts_len: usize,
-            method: usize,
-            parameter: usize,
-            m: u32,
-            bases: *const u32,
-            bases_len: usize,
-            steps: *mut u32,
-            steps_len: usize,
-            outputs: *mut u32,
-            outputs_len: usize,
-            bytes: *mut u8,
-            bytes_len: usize,
-            read_steps: *mut u32,
-            read_steps_len: usize,
-            read_outputs: *mut u32,
-            read_outputs_len: usize,
-            scratch: *mut u32,
-            scratch_len: usize,
-            values: *mut u32,
-            values_len: usize,
-            figures: *mut u32,
-            figures_len: usize,
-            answer: *mut u64,
-        ) -> u32;
-        pub fn spoutbasket_write(
-            p: usize,
-            steps: *const u32,
-            steps_len: usize,
-            outputs: *const u32,
-            outputs_len: usize,
-            bytes: *mut u8,
-            bytes_len: usize,
-            answer: *mut u64,
-        ) -> u32;
-        pub fn spoutbasket_read(
-            bytes: *const u8,
-            bytes_len: usize,
-            steps: *mut u32,
-            steps_len: usize,
-            outputs: *mut u32,
-            outputs_len: usize,
-            answer: *mut u64,
-        ) -> u32;
-        pub fn spoutbasket_choose(
-            p: usize,
-            q: usize,
-            amounts: *const u32,
-            amounts_len: usize,
-            a: *const u8,
-            a_len: usize,
-            b: *const u8,
-            b_len: usize,
-            steps: *mut u32,
-            steps_len: usize,
-            outputs: *mut u32,
-            outputs_len: usize,
-            numbers: *mut u32,
-            numbers_len: usize,
-            answer: *mut u64,
-        ) -> u32;
-        pub fn spoutbasket_verify(
-            p: usize,
-            steps: *const u32,
-            steps_len: usize,
-            outputs: *const u32,
-            outputs_len: usize,
-            amounts: *const u32,
-            amounts_len: usize,
-            scratch: *mut u32,
-            scratch_len: usize,
-            answer: *mut u64,
-        ) -> u32;
-        pub fn spoutbasket_run(
-            p: usize,
-            steps: *const u32,
-            steps_len: usize,
-            outputs: *const u32,
-            outputs_len: usize,
-            m: u32,
-            bases: *const u32,
-            bases_len: usize,
-            values: *mut u32,
-            values_len: usize,
-            figures: *mut u32,
-            figures_len: usize,
-            answer: *mut u64,
-        ) -> u32;
-    }
-}
-
-// The answer behind a returned number and the four words, of which the first `values` are the call's.
-fn answer(number: u32, words: [u64; 4], values: usize) -> Answer {
+// The answer behind the number that a call returns and the four words that it writes, of which the first `values` are the call's.
+fn answer(values: usize, call: impl FnOnce(&mut [u64; 4]) -> u32) -> Answer {
+    let mut words = [7; 4];
+    let number = call(&mut words);
     let used = if number == 0 { values } else { 1 };
     assert!(words[used..].iter().all(|&w| w == 0), "unused words are 0");
     if number == 0 {
@@ -130,22 +23,9 @@ pub fn verify(
     amounts: &[u32],
     scratch: &mut [u32],
 ) -> Answer {
-    let mut words = [7u64; 4];
-    let number = unsafe {
-        raw::spoutbasket_verify(
-            p,
-            steps.as_ptr(),
-            steps.len(),
-            outputs.as_ptr(),
-            outputs.len(),
-            amounts.as_ptr(),
-            amounts.len(),
-            scratch.as_mut_ptr(),
-            scratch.len(),
-            words.as_mut_ptr(),
-        )
-    };
-    answer(number, words, 0)
+    answer(0, |words| {
+        slices::verify(p, steps, outputs, amounts, scratch, words)
+    })
 }
 
 pub fn run(
@@ -157,64 +37,24 @@ pub fn run(
     values: &mut [u32],
     figures: &mut [u32],
 ) -> Answer {
-    let mut words = [7u64; 4];
-    let number = unsafe {
-        raw::spoutbasket_run(
-            p,
-            steps.as_ptr(),
-            steps.len(),
-            outputs.as_ptr(),
-            outputs.len(),
-            m,
-            bases.as_ptr(),
-            bases.len(),
-            values.as_mut_ptr(),
-            values.len(),
-            figures.as_mut_ptr(),
-            figures.len(),
-            words.as_mut_ptr(),
-        )
-    };
-    answer(number, words, 1)
+    answer(1, |words| {
+        slices::run(p, steps, outputs, m, bases, values, figures, words)
+    })
 }
 
 pub fn write(p: usize, steps: &[u32], outputs: &[u32], bytes: &mut [u8]) -> Answer {
-    let mut words = [7u64; 4];
-    let number = unsafe {
-        raw::spoutbasket_write(
-            p,
-            steps.as_ptr(),
-            steps.len(),
-            outputs.as_ptr(),
-            outputs.len(),
-            bytes.as_mut_ptr(),
-            bytes.len(),
-            words.as_mut_ptr(),
-        )
-    };
-    answer(number, words, 1)
+    answer(1, |words| slices::write(p, steps, outputs, bytes, words))
 }
 
 /// The number and the words of a read, without making an answer of them.
 pub fn read_words(bytes: &[u8], steps: &mut [u32], outputs: &mut [u32]) -> (u32, [u64; 4]) {
-    let mut words = [7u64; 4];
-    let number = unsafe {
-        raw::spoutbasket_read(
-            bytes.as_ptr(),
-            bytes.len(),
-            steps.as_mut_ptr(),
-            steps.len(),
-            outputs.as_mut_ptr(),
-            outputs.len(),
-            words.as_mut_ptr(),
-        )
-    };
+    let mut words = [7; 4];
+    let number = slices::read(bytes, steps, outputs, &mut words);
     (number, words)
 }
 
 pub fn read(bytes: &[u8], steps: &mut [u32], outputs: &mut [u32]) -> Answer {
-    let (number, words) = read_words(bytes, steps, outputs);
-    answer(number, words, 3)
+    answer(3, |words| slices::read(bytes, steps, outputs, words))
 }
 
 /// The scratch that the chooser is lent.
@@ -232,27 +72,14 @@ pub fn choose(
     b: &[u8],
     scratch: &mut Scratch,
 ) -> Answer {
-    let mut words = [7u64; 4];
-    let number = unsafe {
-        raw::spoutbasket_choose(
-            p,
-            q,
-            amounts.as_ptr(),
-            amounts.len(),
-            a.as_ptr(),
-            a.len(),
-            b.as_ptr(),
-            b.len(),
-            scratch.steps.as_mut_ptr(),
-            scratch.steps.len(),
-            scratch.outputs.as_mut_ptr(),
-            scratch.outputs.len(),
-            scratch.numbers.as_mut_ptr(),
-            scratch.numbers.len(),
-            words.as_mut_ptr(),
-        )
-    };
-    answer(number, words, 1)
+    let Scratch {
+        steps,
+        outputs,
+        numbers,
+    } = scratch;
+    answer(1, |words| {
+        slices::choose(p, q, amounts, a, b, steps, outputs, numbers, words)
+    })
 }
 
 pub fn compile(
@@ -264,57 +91,31 @@ pub fn compile(
     steps: &mut [u32],
     outputs: &mut [u32],
 ) -> Answer {
-    let mut words = [7u64; 4];
-    let number = unsafe {
-        raw::spoutbasket_compile(
-            p,
-            q,
-            amounts.as_ptr(),
-            amounts.len(),
-            method,
-            parameter,
-            steps.as_mut_ptr(),
-            steps.len(),
-            outputs.as_mut_ptr(),
-            outputs.len(),
-            words.as_mut_ptr(),
-        )
-    };
-    answer(number, words, 1)
+    answer(1, |words| {
+        slices::compile(p, q, amounts, method, parameter, steps, outputs, words)
+    })
 }
 
 /// Compile, write, read, check and run in a row.
 pub fn path(job: &Job, m: u32, bases: &[u32], lent: &mut Lent) -> Answer {
-    let mut words = [7u64; 4];
-    let number = unsafe {
-        raw::spoutbasket_path(
+    answer(3, |words| {
+        slices::path(
             job.p,
             job.q,
-            job.amounts.as_ptr(),
-            job.amounts.len(),
+            &job.amounts,
             job.method,
             job.parameter,
             m,
-            bases.as_ptr(),
-            bases.len(),
-            lent.steps.as_mut_ptr(),
-            lent.steps.len(),
-            lent.outputs.as_mut_ptr(),
-            lent.outputs.len(),
-            lent.bytes.as_mut_ptr(),
-            lent.bytes.len(),
-            lent.read_steps.as_mut_ptr(),
-            lent.read_steps.len(),
-            lent.read_outputs.as_mut_ptr(),
-            lent.read_outputs.len(),
-            lent.scratch.as_mut_ptr(),
-            lent.scratch.len(),
-            lent.values.as_mut_ptr(),
-            lent.values.len(),
-            lent.figures.as_mut_ptr(),
-            lent.figures.len(),
-            words.as_mut_ptr(),
+            bases,
+            &mut lent.steps,
+            &mut lent.outputs,
+            &mut lent.bytes,
+            &mut lent.read_steps,
+            &mut lent.read_outputs,
+            &mut lent.scratch,
+            &mut lent.values,
+            &mut lent.figures,
+            words,
         )
-    };
-    answer(number, words, 3)
+    })
 }

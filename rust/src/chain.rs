@@ -1,0 +1,198 @@
+use crate::refusal::answer;
+use crate::{slices, Refusal, Sheet, LONGEST_FILE, MOST_PAYSLIPS, MOST_STEPS, MOST_VALUES};
+
+/// A multiplication chain, whoever made it.
+///
+/// Value 0 is the empty product, values 1 to p are the bases, and step s makes value p + s as the product of two earlier values. Nothing is asked of a
+/// chain that is put together here: each call judges it for itself.
+///
+/// ```
+/// use spoutbasket::{Chain, Sheet};
+///
+/// # fn main() -> Result<(), spoutbasket::Refusal> {
+/// // 63 as a sum of earlier exponents in eight steps
+/// let steps = vec![[1, 1], [2, 1], [3, 2], [4, 2], [5, 5], [6, 6], [7, 7], [8, 5]];
+/// let chain = Chain { columns: 1, steps, outputs: vec![9] };
+/// chain.check(&Sheet::new(1, 1, [63])?)?;
+/// assert_eq!(chain.check(&Sheet::new(1, 1, [64])?).unwrap_err().number, 14);
+/// # Ok(())
+/// # }
+/// ```
+#[derive(Clone, Debug, PartialEq, Eq)]
+pub struct Chain {
+    /// The number of columns, p.
+    pub columns: usize,
+    /// The steps, each a pair of value numbers, the first not smaller than the second.
+    pub steps: Vec<[u32; 2]>,
+    /// The number of each payslip's value.
+    pub outputs: Vec<u32>,
+}
+
+/// What a run gives.
+#[derive(Clone, Debug, PartialEq, Eq)]
+pub struct Run {
+    /// The control figures, one for each payslip.
+    pub figures: Vec<u32>,
+    /// The multiplications made, one for each step.
+    pub multiplications: usize,
+}
+
+impl Chain {
+    /// The number of steps.
+    pub fn n(&self) -> usize {
+        self.steps.len()
+    }
+
+    /// The chain's file; refused where the chain is not legal.
+    ///
+    /// ```
+    /// use spoutbasket::Chain;
+    ///
+    /// let chain = Chain { columns: 2, steps: vec![[2, 1], [3, 3], [4, 1]], outputs: vec![5] };
+    /// assert_eq!(chain.to_file(), Ok(vec![0x11, 0x00, 0x00, 0x34, 0x5b, 0x86, 0x80]));
+    /// ```
+    pub fn to_file(&self) -> Result<Vec<u8>, Refusal> {
+        let mut bytes = vec![0; self.file_length()];
+        let [written, ..] = answer(|words| {
+            let steps = self.steps.as_flattened();
+            slices::write(self.columns, steps, &self.outputs, &mut bytes, words)
+        })?;
+        bytes.truncate(written);
+        Ok(bytes)
+    }
+
+    /// The chain of a file; refused where the bytes are no chain's file.
+    ///
+    /// ```
+    /// use spoutbasket::Chain;
+    ///
+    /// # fn main() -> Result<(), spoutbasket::Refusal> {
+    /// let chain = Chain::from_file(&[0x11, 0x00, 0x00, 0x34, 0x5b, 0x86, 0x80])?;
+    /// assert_eq!(chain.steps, [[2, 1], [3, 3], [4, 1]]);
+    /// // a filling bit is set
+    /// let refusal = Chain::from_file(&[0x11, 0x00, 0x00, 0x34, 0x5b, 0x86, 0x81]).unwrap_err();
+    /// assert_eq!(refusal.number, 8);
+    /// # Ok(())
+    /// # }
+    /// ```
+    pub fn from_file(bytes: &[u8]) -> Result<Chain, Refusal> {
+        let mut lent = Lent::new(MOST_PAYSLIPS);
+        let [columns, payslips, n, _] = answer(|words| {
+            let steps = lent.steps.as_flattened_mut();
+            slices::read(bytes, steps, &mut lent.outputs, words)
+        })?;
+        Ok(lent.chain(columns, payslips, n))
+    }
+
+    /// Checks the chain against a sheet: it passes exactly if it is legal, no exponent exceeds 4,294,967,295 and each output's exponents are its
+    /// payslip. A sheet with other columns or payslips that has as many amounts is refused 14, place 0, as the chooser does.
+    ///
+    /// ```
+    /// use spoutbasket::{Method, Sheet};
+    ///
+    /// # fn main() -> Result<(), spoutbasket::Refusal> {
+    /// let sheet = Sheet::new(2, 2, [3, 2, 0, 7])?;
+    /// let mut chain = sheet.compile(Method::Partition(4))?;
+    /// chain.check(&sheet)?;
+    /// chain.outputs.swap(0, 1);
+    /// assert_eq!(chain.check(&sheet).unwrap_err().to_string().split(':').next(), Some("refused 14 at payslip 1"));
+    /// # Ok(())
+    /// # }
+    /// ```
+    pub fn check(&self, sheet: &Sheet) -> Result<(), Refusal> {
+        let mut scratch = vec![0; self.values()];
+        answer(|words| {
+            slices::verify(
+                self.columns,
+                self.steps.as_flattened(),
+                &self.outputs,
+                sheet.amounts(),
+                &mut scratch,
+                words,
+            )
+        })?;
+        // the library's check is given the amounts and not the sheet's sizes
+        if self.columns != sheet.columns() {
+            return Err(Refusal {
+                number: 14,
+                place: 0,
+            });
+        }
+        Ok(())
+    }
+
+    /// The control figures over a receiver's modulus, at least 1, and bases, one below the modulus for each column.
+    ///
+    /// ```
+    /// use spoutbasket::Chain;
+    ///
+    /// # fn main() -> Result<(), spoutbasket::Refusal> {
+    /// let chain = Chain { columns: 2, steps: vec![[2, 1], [3, 3], [4, 1]], outputs: vec![5, 0] };
+    /// let run = chain.run(1_000, &[3, 5])?;
+    /// assert_eq!(run.figures, [675, 1]);
+    /// assert_eq!(run.multiplications, 3);
+    /// assert_eq!(chain.run(5, &[3, 5]).unwrap_err().number, 16);
+    /// # Ok(())
+    /// # }
+    /// ```
+    pub fn run(&self, modulus: u32, bases: &[u32]) -> Result<Run, Refusal> {
+        let mut values = vec![0; self.values()];
+        let mut figures = vec![0; self.outputs.len()];
+        let [multiplications, ..] = answer(|words| {
+            slices::run(
+                self.columns,
+                self.steps.as_flattened(),
+                &self.outputs,
+                modulus,
+                bases,
+                &mut values,
+                &mut figures,
+                words,
+            )
+        })?;
+        Ok(Run {
+            figures,
+            multiplications,
+        })
+    }
+
+    /// The number of values. A chain with more than the most is refused before its values are looked for.
+    fn values(&self) -> usize {
+        self.columns.saturating_add(self.n() + 1).min(MOST_VALUES)
+    }
+
+    /// The bytes of the file: 28 bits, then each operand and output in as many bits as the last value's number has. A chain with a longer file is
+    /// refused before its bytes are looked for.
+    fn file_length(&self) -> usize {
+        let width = (usize::BITS - (self.values() - 1).leading_zeros()) as usize;
+        let bits = 28 + width * (2 * self.n() + self.outputs.len());
+        bits.div_ceil(8).min(LONGEST_FILE)
+    }
+}
+
+/// Room for a chain of any length.
+pub(crate) struct Lent {
+    pub steps: Vec<[u32; 2]>,
+    pub outputs: Vec<u32>,
+}
+
+impl Lent {
+    pub fn new(payslips: usize) -> Lent {
+        Lent {
+            steps: vec![[0; 2]; MOST_STEPS],
+            outputs: vec![0; payslips],
+        }
+    }
+
+    /// The chain in it, n steps and as many outputs as there are payslips.
+    pub fn chain(mut self, columns: usize, payslips: usize, n: usize) -> Chain {
+        self.steps.truncate(n);
+        self.steps.shrink_to_fit();
+        self.outputs.truncate(payslips);
+        Chain {
+            columns,
+            steps: self.steps,
+            outputs: self.outputs,
+        }
+    }
+}

@@ -1,0 +1,55 @@
+//! Payslip sheets compiled into multiplication chains, their files, their check and their control figures: a safe wrapper over the proved library.
+//!
+//! A [`Sheet`] becomes a [`Chain`] by a [`Method`]; a chain has one file, is checked against a sheet and is run over a receiver's bases and modulus.
+//! What a call turns down it tells as a [`Refusal`], by number and place.
+//!
+//! ```
+//! use spoutbasket::{Chain, Method, Sheet};
+//!
+//! # fn main() -> Result<(), spoutbasket::Refusal> {
+//! // one payslip with the amounts 3 and 2
+//! let sheet = Sheet::new(2, 1, [3, 2])?;
+//! let file = sheet.compile(Method::Straus(1))?.to_file()?;
+//! assert_eq!(file, [0x11, 0x00, 0x00, 0x34, 0x5b, 0x86, 0x80]);
+//!
+//! // the receiver's side: 3³ · 5² modulo 1,000
+//! let chain = Chain::from_file(&file)?;
+//! chain.check(&sheet)?;
+//! assert_eq!(chain.run(1_000, &[3, 5])?.figures, [675]);
+//! # Ok(())
+//! # }
+//! ```
+//!
+//! All judging and computing is done by the library. This crate lends it buffers of fitting size, and so never meets refusal 5; [`slices`] has the
+//! library's functions as they are.
+#![deny(unsafe_code)]
+#![warn(missing_docs)]
+
+mod chain;
+mod choose;
+mod listing;
+mod method;
+mod refusal;
+mod sheet;
+#[allow(unsafe_code)]
+pub mod slices;
+
+pub use chain::{Chain, Run};
+pub use choose::choose;
+pub use listing::list;
+pub use method::Method;
+pub use refusal::Refusal;
+pub use sheet::Sheet;
+
+/// The most columns (pay elements) of a sheet.
+pub const MOST_COLUMNS: usize = 16;
+/// The most payslips of a sheet.
+pub const MOST_PAYSLIPS: usize = 64;
+/// The most steps of a chain.
+pub const MOST_STEPS: usize = 16_000;
+/// The most values of a chain: value 0, the bases and what the steps make.
+pub const MOST_VALUES: usize = 1 + MOST_COLUMNS + MOST_STEPS;
+/// The bytes of the longest file.
+pub const LONGEST_FILE: usize = 56_116;
+/// Bytes enough for every listing.
+pub const LONGEST_LISTING: usize = 11_468;

@@ -1,0 +1,147 @@
+//! The small example of each refusal of document 01, through the wrapper's types.
+use spoutbasket::{choose, slices, Chain, Method, Refusal, Sheet};
+
+fn refused<T: std::fmt::Debug>(number: u32, place: usize, call: Result<T, Refusal>) {
+    assert_eq!(call.unwrap_err(), Refusal { number, place });
+}
+
+fn chain(columns: usize, steps: &[[u32; 2]], outputs: &[u32]) -> Chain {
+    Chain {
+        columns,
+        steps: steps.to_vec(),
+        outputs: outputs.to_vec(),
+    }
+}
+
+/// The chain of case A, with some output.
+fn case_a(output: u32) -> Chain {
+    chain(2, &[[2, 1], [3, 3], [4, 1]], &[output])
+}
+
+/// 1 to 3: sheets and methods.
+#[test]
+fn sheets_and_methods() -> Result<(), Refusal> {
+    for (p, q) in [(0, 1), (17, 1), (1, 0), (1, 65), (usize::MAX, usize::MAX)] {
+        refused(1, 0, Sheet::new(p, q, vec![0; 64]));
+    }
+    refused(2, 0, Sheet::new(2, 1, [1, 2, 3]));
+    refused(2, 0, Sheet::new(2, 1, []));
+    refused(3, 0, Sheet::new(11, 1, [1; 11])?.compile(Method::Straus(1)));
+    refused(
+        3,
+        0,
+        Sheet::new(1, 1, [1])?.figures(Method::Yao(9), 7, &[2]),
+    );
+    Ok(())
+}
+
+/// 4: a chain that is lent and one that would be compiled.
+#[test]
+fn too_many_steps() -> Result<(), Refusal> {
+    let long = chain(1, &[[1, 1]; 16_001], &[1]);
+    refused(4, 0, long.to_file());
+    refused(4, 0, long.run(7, &[2]));
+    refused(4, 0, long.check(&Sheet::new(1, 1, [1])?));
+    let wide = Sheet::new(16, 64, [u32::MAX; 16 * 64])?;
+    refused(4, 0, wide.compile(Method::Yao(1)));
+    Ok(())
+}
+
+/// 5: two pairs for case A. The wrapper's own calls lend enough; the library's functions take what they are lent.
+#[test]
+fn too_little_room() {
+    let (mut steps, mut outputs, mut answer) = ([7; 4], [7], [7; 4]);
+    let number = slices::compile(2, 1, &[3, 2], 1, 1, &mut steps, &mut outputs, &mut answer);
+    assert_eq!((number, steps, outputs, answer), (5, [7; 4], [7], [0; 4]));
+}
+
+/// 6 to 8: bytes that are no file.
+#[test]
+fn files() {
+    refused(6, 0, Chain::from_file(&[]));
+    refused(
+        6,
+        0,
+        Chain::from_file(&[0x11, 0x00, 0x00, 0x34, 0x5b, 0x86]),
+    );
+    refused(7, 0, Chain::from_file(&[0x20, 0x00, 0x00, 0x00]));
+    refused(
+        8,
+        0,
+        Chain::from_file(&[0x11, 0x00, 0x00, 0x34, 0x5b, 0x86, 0x81]),
+    );
+}
+
+/// 1 and 9 to 12: chains that are not legal, by each call that is given a chain.
+#[test]
+fn chains() -> Result<(), Refusal> {
+    for (number, place, columns, steps, output) in [
+        (9, 1, 1, vec![[1, 0]], 0),
+        (9, 2, 1, vec![[1, 1], [0, 2]], 0),
+        (10, 1, 1, vec![[2, 1]], 0),
+        (11, 1, 2, vec![[1, 2]], 0),
+        (12, 1, 1, vec![], 2),
+    ] {
+        let chain = chain(columns, &steps, &[output]);
+        refused(number, place, chain.to_file());
+        refused(number, place, chain.run(7, &vec![2; columns]));
+        refused(
+            number,
+            place,
+            chain.check(&Sheet::new(columns, 1, vec![1; columns])?),
+        );
+    }
+    for columns in [0, 17, usize::MAX] {
+        let chain = chain(columns, &[[1, 1]], &[1]);
+        refused(1, 0, chain.to_file());
+        refused(1, 0, chain.run(7, &[2]));
+        refused(1, 0, chain.check(&Sheet::new(1, 1, [1])?));
+    }
+    refused(1, 0, chain(1, &[], &[]).to_file());
+    refused(1, 0, chain(1, &[], &[1; 65]).to_file());
+    Ok(())
+}
+
+/// 2, 13 and 14: chains that are not the sheet's.
+#[test]
+fn other_amounts() -> Result<(), Refusal> {
+    let squarings: Vec<[u32; 2]> = (1..=32).map(|v| [v, v]).collect();
+    let sheet = Sheet::new(1, 1, [1 << 31])?;
+    chain(1, &squarings[..31], &[32]).check(&sheet)?;
+    refused(13, 32, chain(1, &squarings, &[32]).check(&sheet));
+
+    let sheet = Sheet::new(2, 1, [3, 2])?;
+    refused(14, 1, case_a(4).check(&sheet));
+    refused(2, 0, case_a(5).check(&Sheet::new(2, 2, [3, 2, 3, 2])?));
+    // one column and two payslips, with the same amounts
+    let turned = chain(1, &[[1, 1], [2, 1]], &[3, 2]);
+    turned.check(&Sheet::new(1, 2, [3, 2])?)?;
+    refused(14, 0, turned.check(&sheet));
+    refused(14, 0, choose(&sheet, &turned.to_file()?, &[]));
+    refused(14, 1, choose(&sheet, &case_a(4).to_file()?, &[]));
+    refused(6, 0, choose(&sheet, &[], &case_a(4).to_file()?));
+    Ok(())
+}
+
+/// 15 and 16: moduli and bases.
+#[test]
+fn moduli_and_bases() {
+    refused(15, 0, case_a(5).run(0, &[0, 0]));
+    refused(16, 0, case_a(5).run(7, &[3, 7]));
+    refused(16, 0, case_a(5).run(7, &[3]));
+    refused(16, 0, case_a(5).run(7, &[3, 5, 2]));
+}
+
+#[test]
+fn in_words() {
+    let words = |number, place| Refusal { number, place }.to_string();
+    assert_eq!(words(1, 0), "refused 1: p or q out of range");
+    assert_eq!(words(9, 3), "refused 9 at step 3: operand 0");
+    assert_eq!(words(12, 2), "refused 12 at payslip 2: output above p + n");
+    assert_eq!(words(13, 32), "refused 13 at step 32: exponent too large");
+    let error: Box<dyn std::error::Error> = Box::new(Refusal {
+        number: 15,
+        place: 0,
+    });
+    assert_eq!(error.to_string(), "refused 15: modulus 0");
+}

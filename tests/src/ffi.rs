@@ -1,7 +1,7 @@
 //! The library's functions on slices, with the answer in the reference's terms.
 
 use crate::reference::{Answer, Job, Lent};
-use spoutbasket::slices;
+use spoutbasket::{slices, LONGEST_LISTING};
 
 // The answer behind the number that a call returns and the four words that it writes, of which the first `values` are the call's.
 fn answer(values: usize, call: impl FnOnce(&mut [u64; 4]) -> u32) -> Answer {
@@ -94,6 +94,11 @@ pub fn compile(
     answer(1, |words| {
         slices::compile(p, q, amounts, method, parameter, steps, outputs, words)
     })
+}
+
+/// The length of a file's listing, over the front of the text.
+pub fn list(bytes: &[u8], text: &mut [u8; LONGEST_LISTING]) -> Answer {
+    answer(1, |words| slices::list(bytes, text, words))
 }
 
 /// Compile, write, read, check and run in a row.

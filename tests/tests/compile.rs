@@ -266,7 +266,7 @@ fn refusals_and_their_neighbours() {
     assert_eq!(same_compile(&long, &[], &[]).answer, Err((4, 0)));
 }
 
-/// Trials A to F, I and J as the document lists them.
+/// Trials A to F and I as the document lists them.
 #[test]
 fn trials() {
     let compiled = |p, q, amounts: &[u32], method, k| {

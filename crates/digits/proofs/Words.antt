@@ -47,6 +47,10 @@ count-word k x some h =
     let bits : 32 - leadingZeros 32 x ≡ t .0 = omega (arith, t .1) in
     rw bits (count-bits k x (t .0) some (t .2) (t .3))
 
+-- its bits are its digits in base 2
+pub count-ones : (k x : ℕ) → k ≡ 1 → x < 2 ^ 32 → 32 - leadingZeros 32 x ≡ digitCount k x
+count-ones k x one h = rw one (omega (arith, count-word 1 x (omega arith) h))
+
 -- a digit of a word is within it
 pub digit-place : (k x j : ℕ) → 0 < k → x < 2 ^ 32 → j < digitCount k x → k * j < 32
 digit-place k x j some h g = by-size (decLt (k * j) 32)

@@ -1,5 +1,6 @@
--- Sums and maxima over the numbers below a bound.
+-- Sums, maxima and overlays over the numbers below a bound.
 use Prim.Native.Nat.{ℕ, zero, suc, _+_, max}
+use lib.Bits.{bitOr}
 
 -- f 0 + .. + f (n - 1)
 abbrev pub sumTo : ℕ → (ℕ → ℕ) → ℕ
@@ -10,6 +11,11 @@ sumTo (suc n) f = sumTo n f + f n
 abbrev pub maxTo : ℕ → (ℕ → ℕ) → ℕ
 maxTo zero f = 0
 maxTo (suc n) f = max (maxTo n f) (f n)
+
+-- f 0 .. f (n - 1) one over the other: a bit is 0 exactly where it is 0 in each
+abbrev pub orTo : ℕ → (ℕ → ℕ) → ℕ
+orTo zero f = 0
+orTo (suc n) f = bitOr (orTo n f) (f n)
 
 -- 0 for 0, else 1: so a sum counts what is not 0
 abbrev pub sign : ℕ → ℕ

@@ -29,12 +29,15 @@ pub fn power(e: usize) -> u32
     1u32 << e
 }
 
-// How many digits x has in base 2^k: its bits, cut into digits.
+// How many digits x has in base 2^k: its bits, cut into digits. Digits of one bit are not cut, which spares a division.
 pub fn digit_count(k: usize, x: u32) -> usize
     requires { ⌜ (0 < k) × (k < 32) ⌝ }
     ensures { λ r. ⌜ r ≡ digitCount k x ⌝ }
 {
     let bits = 32 - u32::leading_zeros(x) as usize;
+    if k == 1 {
+        return bits;
+    }
     (bits + k - 1) / k
 }
 

@@ -1,41 +1,43 @@
 -- Laws by which the functions of digits and counts keep to their contracts.
-use mathlib.Core.Path.{_≡_, refl, ap, ap₂, _∙_}
+use mathlib.Core.Path.{_≡_, refl, sym, ap, ap₂, _∙_}
 use mathlib.Core.List.{List}
-use Prim.Native.Nat.{ℕ, zero, suc, _+_, _-_, _*_, _^_, _≤_, _<_, max}
+use Prim.Native.Nat.{ℕ, zero, suc, _+_, _-_, _*_, _^_, _≤_, _<_}
 use native.Mathlib.Nat.{add-mul, mul-comm, mul-one, one-mul, mul-zero, zero-mul, pow-suc, mul-le-mul-left, mul-le-mul-right, lt-of-lt-of-le}
 use native.Mathlib.Omega.{arith}
-use lib.Pow.{pow-mono}
+use lib.Bits.{bitOr}
+use lib.Pow.{pow-mono, pow-pos}
 use Rattle.digits.specs.Digits.{digitCount, digit}
-use Rattle.digits.specs.Range.{sumTo, maxTo, sign}
-use Rattle.digits.proofs.Range.{sum-on, max-on, sign-low, signs-low}
+use Rattle.digits.specs.Range.{sumTo, orTo, sign}
+use Rattle.digits.proofs.Range.{sum-on, sum-sign, sign-low, sign-mul, signs-low}
+use Rattle.digits.proofs.Overlay.{or-on, or-digits, or-count}
 use Rattle.digits.proofs.Vector.{digit-low, vector-low}
 use Rattle.digits.proofs.Words.{digit-place}
 use Rattle.sheet.specs.Sheet.{amount}
 use Rattle.straus.specs.Straus.{strausDigits, digitVector, strausCount}
 
--- the largest amount of payslip i: that of its first c columns, with the next
-abbrev pub largestTo : ℕ → List ℕ → ℕ → ℕ → ℕ
-largestTo p amounts i c = maxTo c (amount p amounts i)
+-- the amounts of payslip i, one over the other: those of its first c columns, with the next
+abbrev pub overlaidTo : ℕ → List ℕ → ℕ → ℕ → ℕ
+overlaidTo p amounts i c = orTo c (amount p amounts i)
 
-pub largest-on : (p : ℕ) (amounts : List ℕ) (i c most x r : ℕ) → r ≡ max most x → x ≡ amount p amounts i c → most ≡ largestTo p amounts i c
-    → r ≡ largestTo p amounts i (c + 1)
-largest-on p amounts i c most x r m is e = m ∙ max-on (amount p amounts i) c most x is e
+pub overlaid-on : (p : ℕ) (amounts : List ℕ) (i c all x : ℕ) → x ≡ amount p amounts i c → all ≡ overlaidTo p amounts i c
+    → bitOr all x ≡ overlaidTo p amounts i (c + 1)
+overlaid-on p amounts i c all x is e = or-on (amount p amounts i) c all x is e
 
-pub largest-end : (p : ℕ) (amounts : List ℕ) (i c most : ℕ) → c ≤ p → p ≤ c → most ≡ largestTo p amounts i c → most ≡ maxTo p (amount p amounts i)
-largest-end p amounts i c most h g e =
+pub overlaid-end : (p : ℕ) (amounts : List ℕ) (i c all : ℕ) → c ≤ p → p ≤ c → all ≡ overlaidTo p amounts i c → all ≡ overlaidTo p amounts i p
+overlaid-end p amounts i c all h g e =
     let last : c ≡ p = omega arith in
-    e ∙ ap (largestTo p amounts i) last
+    e ∙ ap (overlaidTo p amounts i) last
 
 -- its digits
-pub digits-told : (p k : ℕ) (amounts : List ℕ) (i x r : ℕ) → r ≡ digitCount k x → x ≡ maxTo p (amount p amounts i) → r ≡ strausDigits p k amounts i
+pub digits-told : (p k : ℕ) (amounts : List ℕ) (i x r : ℕ) → 0 < k → r ≡ digitCount k x → x ≡ overlaidTo p amounts i p → r ≡ strausDigits p k amounts i
 unfolding strausDigits
-digits-told p k amounts i x r e is = e ∙ ap (digitCount k) is
+digits-told p k amounts i x r some e is = e ∙ ap (digitCount k) is ∙ or-count k p (amount p amounts i) some
 
 pub digits-fit : (k x r : ℕ) → 0 < k → x < 2 ^ 32 → r ≡ digitCount k x → k * (r - 1) < 32
 digits-fit k x zero some low e = rw (mul-zero k) (omega arith)
 digits-fit k x (suc r) some low e = digit-place k x (suc r - 1) some low (omega arith)
 
-pub ruleset maximising = (largest-on, largest-end)
+pub ruleset overlaying = (overlaid-on, overlaid-end)
 
 -- the vector of its digits with weight 2^(kj): that of its first c columns, with the next
 abbrev pub vectorTo : ℕ → ℕ → List ℕ → ℕ → ℕ → ℕ → ℕ
@@ -90,9 +92,16 @@ module _ (p k : ℕ) (amounts : List ℕ) (i d : ℕ) where
   pub squarings-fit : k * (d - 1) < 32 → (d - 1) * k < 32
   squarings-fit room = omega (arith, mul-comm k (d - 1))
 
-  pub signs-on : (n j v r b : ℕ) → v ≡ digitVector p k amounts i j → r ≡ sign v → n ≡ b + signsTo p k amounts i j → n + r ≡ b + signsTo p k amounts i (j + 1)
-  signs-on n j v r b is told e =
-      omega (arith, sum-on (λ l. sign (digitVector p k amounts i l)) j (signsTo p k amounts i j) r (told ∙ ap sign is) refl)
+  -- a vector is zero exactly where that digit of all amounts, one over the other, is
+  overlaid-sign : (j x : ℕ) → x ≡ overlaidTo p amounts i p → sign (digit k x j) ≡ sign (digitVector p k amounts i j)
+  overlaid-sign j x is =
+      ap (λ (y : ℕ). sign (digit k y j)) is ∙ or-digits k j p (amount p amounts i)
+      ∙ sum-sign p _ _ (λ c h. sym (sign-mul (digit k (amount p amounts i c) j) (2 ^ (k * c)) (pow-pos (k * c))))
+
+  pub signs-on : (n j x v r b : ℕ) → x ≡ overlaidTo p amounts i p → v ≡ digit k x j → r ≡ sign v → n ≡ b + signsTo p k amounts i j
+      → n + r ≡ b + signsTo p k amounts i (j + 1)
+  signs-on n j x v r b is digit-is told e =
+      omega (arith, sum-on (λ l. sign (digitVector p k amounts i l)) j (signsTo p k amounts i j) r (told ∙ ap sign digit-is ∙ overlaid-sign j x is) refl)
 
   -- the squarings are below 32, and so are the other steps
   pub cost-low : 0 < k → k * (d - 1) < 32 → (j : ℕ) → j ≤ d - 1 → (d - 1) * k + signsTo p k amounts i j ≤ 62

@@ -4,33 +4,33 @@ ghost use Prim.Native.Nat.{_+_, _-_, _*_, _^_, _≤_, _<_};
 ghost use lib.ListN.{length};
 ghost use Rattle.chain.specs.Chain.{mostColumns, mostPayslips, flat};
 ghost use Rattle.chain.specs.Written.{over};
-ghost use Rattle.digits.specs.Range.{sumTo, maxTo, sign};
+ghost use Rattle.digits.specs.Range.{sumTo, orTo, sign};
 ghost use Rattle.sheet.specs.Sheet.{amount};
 ghost use Rattle.methods.specs.Product.{made, times, squared, payslips};
 ghost use Rattle.methods.specs.Emitted.{stepsIn, Room, Emitted};
 ghost use Rattle.straus.specs.Straus.{bases, strausDigits, digitVector, strausPayslip, straus, strausCount};
 use methods::PartialProduct;
 
-// The largest amount of payslip i.
-fn largest(p: usize, amounts: &[u32], i: usize) -> u32
+// The amounts of payslip i, one over the other: they have as many digits as the largest, and a digit is 0 exactly where all are.
+fn overlaid(p: usize, amounts: &[u32], i: usize) -> u32
     requires { ⌜ i * p + p ≤ length (now amounts) ⌝ }
-    ensures { λ r. ⌜ r ≡ maxTo p (amount p (now (amounts .entry)) i) ⌝ }
+    ensures { λ r. ⌜ r ≡ orTo p (amount p (now (amounts .entry)) i) ⌝ }
 {
-    let mut most: u32 = 0;
+    let mut all: u32 = 0;
     let mut c: usize = 0;
     while c < p {
-        most = digits::larger(most, sheet::amount(p, amounts, i, c));
+        all = all | sheet::amount(p, amounts, i, c);
         c += 1;
     }
-    most
+    all
 }
 
-// How many digits its largest amount has.
+// How many digits the largest amount of payslip i has.
 fn digit_count(p: usize, k: usize, amounts: &[u32], i: usize) -> usize
     requires { ⌜ (i * p + p ≤ length (now amounts)) × (0 < k) × (k < 32) ⌝ }
     ensures { λ r. ⌜ (r ≡ strausDigits p k (now (amounts .entry)) i) × (k * (r - 1) < 32) ⌝ }
 {
-    digits::digit_count(k, largest(p, amounts, i))
+    digits::digit_count(k, overlaid(p, amounts, i))
 }
 
 // The number of the vector of its digits with weight 2^(kj).
@@ -53,7 +53,8 @@ fn payslip_count(p: usize, k: usize, amounts: &[u32], i: usize) -> usize
     requires { ⌜ (i * p + p ≤ length (now amounts)) × (0 < k) × (k < 32) × (k * p < 32) ⌝ }
     ensures { λ r. ⌜ (r ≡ (strausDigits p k (now (amounts .entry)) i - 1) * k + sumTo (strausDigits p k (now (amounts .entry)) i - 1) (λ j. sign (digitVector p k (now (amounts .entry)) i j))) × (r ≤ 62) ⌝ }
 {
-    let digits = digit_count(p, k, amounts, i);
+    let all = overlaid(p, amounts, i);
+    let digits = digits::digit_count(k, all);
     if digits == 0 {
         return 0;
     }
@@ -61,7 +62,7 @@ fn payslip_count(p: usize, k: usize, amounts: &[u32], i: usize) -> usize
     let mut n = lower * k;
     let mut j: usize = 0;
     while j < lower {
-        n += digits::sign(vector(p, k, amounts, i, j));
+        n += digits::sign(digits::digit(k, all, j));
         j += 1;
     }
     n

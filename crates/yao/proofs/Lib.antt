@@ -9,3 +9,4 @@ pub mod Emitting
 pub mod Squarings
 pub mod Paying
 pub mod Whole
+pub mod Measuring

@@ -2,6 +2,7 @@
 use mathlib.Core.Path.{_≡_}
 use mathlib.Core.List.{List, [], _∷_, _++_}
 use Prim.Native.Nat.{ℕ, zero, suc, _+_, _-_, _*_, _^_, _≤_, _<_}
+use lib.ListN.{getD}
 use Rattle.chain.specs.declared.Step.{Step}
 use Rattle.digits.specs.Range.{sumTo}
 use Rattle.sheet.specs.Sheet.{amount}
@@ -27,6 +28,11 @@ pub record Ran (before cells : List ℕ) (n a b : ℕ) (r : Running) : Type 0 wh
   pub stored : Stored before cells n (r .steps)
   pub a-is : a ≡ r .a
   pub b-is : b ≡ r .b
+
+-- a slice holds how many digits each of the first n columns has
+pub record Measured (p q k n : ℕ) (amounts cells : List ℕ) : Type 0 where
+  pub are : (c : ℕ) → c < n → getD cells c 0 ≡ yaoDigits p q k amounts c
+  pub few : (c : ℕ) → c < n → k * getD cells c 0 ≤ 31 + k
 
 -- how often the first columns are squared, one number each
 abbrev pub squaringsTo : ℕ → ℕ → ℕ → List ℕ → ℕ → List ℕ

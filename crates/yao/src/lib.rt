@@ -8,7 +8,7 @@ ghost use Rattle.digits.specs.Range.{sumTo};
 ghost use Rattle.methods.specs.Product.{made, payslips};
 ghost use Rattle.methods.specs.Emitted.{stepsIn, Room, Emitted};
 ghost use Rattle.yao.specs.Yao.{yaoDigits, yaoSquarings, gatherOne, gather, running, yaoPayslip, yao, amountCount, yaoCount};
-ghost use Rattle.yao.specs.Emitted.{Reach, powerIn, Ran, squaringsTo, joined, yaoSlip, payslipCount};
+ghost use Rattle.yao.specs.Emitted.{Reach, powerIn, Ran, Measured, squaringsTo, joined, yaoSlip, payslipCount};
 use methods::PartialProduct;
 
 // The powers of a column: its place, the value after which they are made, and how many they are.
@@ -105,6 +105,18 @@ fn column_digits(p: usize, q: usize, k: usize, amounts: &[u32], c: usize) -> usi
     digits::digit_count(k, methods::largest_in(p, q, amounts, c))
 }
 
+// How many digits each column has, found once for all payslips.
+fn measure_columns(p: usize, q: usize, k: usize, amounts: &[u32], columns: &mut [u32])
+    requires { ⌜ (p ≤ length (now columns)) × (length (now amounts) ≡ p * q) × (0 < k) × (k < 32) ⌝ }
+    ensures { λ r. ⌜ Measured p q k p (now (amounts .entry)) (now (columns .exit)) ⌝ }
+{
+    let mut c: usize = 0;
+    while c < p {
+        columns[c] = column_digits(p, q, k, amounts, c) as u32;
+        c += 1;
+    }
+}
+
 // How often a column of so many digits is squared.
 fn squarings_of(k: usize, digits: usize) -> usize
     requires { ⌜ k * digits ≤ 31 + k ⌝ }
@@ -153,15 +165,15 @@ fn amount_count(k: usize, digits: usize, x: u32) -> usize
 }
 
 // The steps of payslip i.
-fn payslip_count(p: usize, q: usize, k: usize, amounts: &[u32], i: usize) -> usize
-    requires { ⌜ (p ≤ mostColumns) × (i < q) × (length (now amounts) ≡ p * q) × (0 < k) × (k ≤ 8) ⌝ }
+fn payslip_count(p: usize, q: usize, k: usize, amounts: &[u32], columns: &[u32], i: usize) -> usize
+    requires { ⌜ (p ≤ mostColumns) × (i < q) × (length (now amounts) ≡ p * q) × (0 < k) × (k ≤ 8) × (p ≤ length (now columns)) × Measured p q k p (now amounts) (now columns) ⌝ }
     ensures { λ r. ⌜ (r ≡ payslipCount p q k (now (amounts .entry)) i) × (r ≤ 5000) ⌝ }
 {
     let mut n: usize = 0;
     let mut z: usize = 0;
     let mut c: usize = 0;
     while c < p {
-        let digits = column_digits(p, q, k, amounts, c);
+        let digits = columns[c] as usize;
         let x = sheet::amount(p, amounts, i, c);
         n += amount_count(k, digits, x);
         z += digits::sign(x);
@@ -173,18 +185,28 @@ fn payslip_count(p: usize, q: usize, k: usize, amounts: &[u32], i: usize) -> usi
     n + z - 1
 }
 
-// The number of steps of the chain.
-pub fn count(p: usize, q: usize, amounts: &[u32], k: usize) -> usize
-    requires { ⌜ (1 ≤ p) × (p ≤ mostColumns) × (q ≤ mostPayslips) × (length (now amounts) ≡ p * q) × (1 ≤ k) × (k ≤ 8) ⌝ }
+// The squarings, and the steps of the payslips.
+fn chain_count(p: usize, q: usize, amounts: &[u32], k: usize, columns: &[u32]) -> usize
+    requires { ⌜ (p ≤ mostColumns) × (q ≤ mostPayslips) × (length (now amounts) ≡ p * q) × (1 ≤ k) × (k ≤ 8) × (p ≤ length (now columns)) × Measured p q k p (now amounts) (now columns) ⌝ }
     ensures { λ r. ⌜ r ≡ yaoCount p q (now (amounts .entry)) k ⌝ }
 {
     let mut n = squaring_count(p, q, k, amounts);
     let mut i: usize = 0;
     while i < q {
-        n += payslip_count(p, q, k, amounts, i);
+        n += payslip_count(p, q, k, amounts, columns, i);
         i += 1;
     }
     n
+}
+
+// The number of steps of the chain.
+pub fn count(p: usize, q: usize, amounts: &[u32], k: usize) -> usize
+    requires { ⌜ (1 ≤ p) × (p ≤ mostColumns) × (q ≤ mostPayslips) × (length (now amounts) ≡ p * q) × (1 ≤ k) × (k ≤ 8) ⌝ }
+    ensures { λ r. ⌜ r ≡ yaoCount p q (now (amounts .entry)) k ⌝ }
+{
+    let mut columns = [0u32; 16];
+    measure_columns(p, q, k, amounts, &mut columns);
+    chain_count(p, q, amounts, k, &columns)
 }
 
 // How often each column is squared, column by column.
@@ -225,11 +247,12 @@ fn make_payslip(
     q: usize,
     k: usize,
     amounts: &[u32],
+    columns: &[u32],
     i: usize,
     n: usize,
     steps: &mut [u32],
 ) -> PartialProduct
-    requires { ⌜ (p ≤ mostColumns) × (i < q) × (length (now amounts) ≡ p * q) × (0 < k) × (k < 32) ⌝ }
+    requires { ⌜ (p ≤ mostColumns) × (i < q) × (length (now amounts) ≡ p * q) × (0 < k) × (k < 32) × (p ≤ length (now columns)) × Measured p q k p (now amounts) (now columns) ⌝ }
     requires { ⌜ Room p (now steps) n (yaoPayslip p q k (now amounts) i (stepsIn (now steps) n) p .steps) ⌝ }
     ensures { λ r. ⌜ Emitted (now (steps .entry)) (now (steps .exit)) (r .n) (r .value) (yaoPayslip p q k (now (amounts .entry)) i (stepsIn (now (steps .entry)) n) p) ⌝ }
 {
@@ -237,7 +260,7 @@ fn make_payslip(
     let mut first = p;
     let mut c: usize = 0;
     while c < p {
-        let digits = column_digits(p, q, k, amounts, c);
+        let digits = columns[c] as usize;
         let column = Column {
             c: c,
             first: first,
@@ -256,11 +279,12 @@ fn make_payslips(
     q: usize,
     k: usize,
     amounts: &[u32],
+    columns: &[u32],
     n: usize,
     steps: &mut [u32],
     outputs: &mut [u32],
 )
-    requires { ⌜ (p ≤ mostColumns) × (length (now amounts) ≡ p * q) × (0 < k) × (k < 32) × (q ≤ length (now outputs)) ⌝ }
+    requires { ⌜ (p ≤ mostColumns) × (length (now amounts) ≡ p * q) × (0 < k) × (k < 32) × (q ≤ length (now outputs)) × (p ≤ length (now columns)) × Measured p q k p (now amounts) (now columns) ⌝ }
     requires { ⌜ Room p (now steps) n (payslips (yaoSlip p q k (now amounts)) (stepsIn (now steps) n) q .steps) ⌝ }
     ensures { λ r. ⌜ now (steps .exit) ≡ over (flat (payslips (yaoSlip p q k (now (amounts .entry))) (stepsIn (now (steps .entry)) n) q .steps)) (now (steps .entry)) ⌝ }
     ensures { λ r. ⌜ now (outputs .exit) ≡ over (payslips (yaoSlip p q k (now (amounts .entry))) (stepsIn (now (steps .entry)) n) q .outputs) (now (outputs .entry)) ⌝ }
@@ -268,7 +292,7 @@ fn make_payslips(
     let mut s = n;
     let mut i: usize = 0;
     while i < q {
-        let r = make_payslip(p, q, k, amounts, i, s, steps);
+        let r = make_payslip(p, q, k, amounts, columns, i, s, steps);
         s = r.n;
         outputs[i] = r.value;
         i += 1;
@@ -281,17 +305,18 @@ fn make_chain(
     q: usize,
     amounts: &[u32],
     k: usize,
+    columns: &[u32],
     counts: &[u32],
     steps: &mut [u32],
     outputs: &mut [u32],
 )
-    requires { ⌜ (p ≤ mostColumns) × (length (now amounts) ≡ p * q) × (1 ≤ k) × (k ≤ 8) × (now counts ≡ squaringsTo p q k (now amounts) p) ⌝ }
+    requires { ⌜ (p ≤ mostColumns) × (length (now amounts) ≡ p * q) × (1 ≤ k) × (k ≤ 8) × (now counts ≡ squaringsTo p q k (now amounts) p) × (p ≤ length (now columns)) × Measured p q k p (now amounts) (now columns) ⌝ }
     requires { ⌜ (yaoCount p q (now amounts) k ≤ mostSteps) × (2 * yaoCount p q (now amounts) k ≤ length (now steps)) × (q ≤ length (now outputs)) ⌝ }
     ensures { λ r. ⌜ now (steps .exit) ≡ over (flat (yao p q (now (amounts .entry)) k .steps)) (now (steps .entry)) ⌝ }
     ensures { λ r. ⌜ now (outputs .exit) ≡ over (yao p q (now (amounts .entry)) k .outputs) (now (outputs .entry)) ⌝ }
 {
     let n = methods::square_columns(p, counts, steps);
-    make_payslips(p, q, k, amounts, n, steps, outputs);
+    make_payslips(p, q, k, amounts, columns, n, steps, outputs);
 }
 
 // The chain: its steps, first and second in turn, and its outputs.
@@ -301,7 +326,9 @@ pub fn emit(p: usize, q: usize, amounts: &[u32], k: usize, steps: &mut [u32], ou
     ensures { λ r. ⌜ now (steps .exit) ≡ over (flat (yao p q (now (amounts .entry)) k .steps)) (now (steps .entry)) ⌝ }
     ensures { λ r. ⌜ now (outputs .exit) ≡ over (yao p q (now (amounts .entry)) k .outputs) (now (outputs .entry)) ⌝ }
 {
+    let mut columns = [0u32; 16];
+    measure_columns(p, q, k, amounts, &mut columns);
     let mut counts = [0u32; 16];
     all_squarings(p, q, k, amounts, &mut counts);
-    make_chain(p, q, amounts, k, &counts[..p], steps, outputs);
+    make_chain(p, q, amounts, k, &columns, &counts[..p], steps, outputs);
 }

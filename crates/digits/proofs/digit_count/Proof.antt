@@ -1,7 +1,7 @@
 use borrow.Author.Needs.{needs}
 use native.Mathlib.Omega.{arith}
 use lib.Count.{leading-le}
-use Rattle.digits.proofs.Words.{count-word}
+use Rattle.digits.proofs.Words.{count-word, count-ones}
 use Rattle.digits.proofs.digit_count.Statement.{statement}
 use Rattle.digits.proofs.digit_count.Tie as tie
 
@@ -10,6 +10,9 @@ cast-bits c = omega (arith, leading-le 32 (c .args .x))
 
 sub-bits : tie.Need-sub-bits
 sub-bits c = omega (arith, leading-le 32 (c .args .x))
+
+returns : tie.Need-returns
+returns c = count-ones _ _ (search needs) (omega arith)
 
 add-result : tie.Need-add-result
 add-result c = search needs
@@ -20,8 +23,8 @@ sub-result c = search needs
 div-result : tie.Need-div-result
 div-result c = search needs
 
-returns : tie.Need-returns
-returns c = count-word _ _ (c .pre .0) (omega arith)
+returns-2 : tie.Need-returns-2
+returns-2 c = count-word _ _ (c .before .pre .0) (omega arith)
 
 pub digit-count-spec : {M : Type 1} → statement M
-digit-count-spec = tie.close (tie.spec cast-bits sub-bits add-result sub-result div-result returns)
+digit-count-spec = tie.close (tie.spec cast-bits sub-bits returns add-result sub-result div-result returns-2)

@@ -3,8 +3,8 @@ use Rattle.straus.proofs.Counting.{digits-told, digits-fit}
 use Rattle.straus.proofs.digit_count.Statement.{statement}
 use Rattle.straus.proofs.digit_count.Tie as tie
 
-largest-requires : tie.Need-largest-requires
-largest-requires c κs = search needs
+overlaid-requires : tie.Need-overlaid-requires
+overlaid-requires c κs = search needs
 
 digit-count-requires : tie.Need-digit-count-requires
 digit-count-requires c κs = search needs
@@ -13,4 +13,4 @@ returns : tie.Need-returns
 returns c = search (digits-told, digits-fit)
 
 pub digit-count-spec : {M : Type 1} → statement M
-digit-count-spec = tie.close (tie.spec largest-requires digit-count-requires returns)
+digit-count-spec = tie.close (tie.spec overlaid-requires digit-count-requires returns)

@@ -1,51 +1,21 @@
 use borrow.Author.Needs.{needs}
-use mathlib.Core.Path.{_≡_}
-use Prim.Native.Nat.{_+_, _*_, _≤_, _-_}
-use Rattle.yao.proofs.Counting.{costsTo, costs-on, count-all}
 use Rattle.yao.proofs.count.Statement.{statement}
 use Rattle.yao.proofs.count.Tie as tie
 
-abbrev Inv-loop : tie.InvT-loop
-Inv-loop p q amounts k n₀ i₀ n i = (i ≤ q) × (n ≡ n₀ + costsTo p q k amounts i) × (n ≤ n₀ + 5000 * i)
+slice-aggregate-measure-columns : tie.Need-slice-aggregate-measure-columns
+slice-aggregate-measure-columns c = search needs
 
-abbrev μ-loop : tie.MeasureT-loop
-μ-loop p q amounts k n₀ i₀ n i = q - i
+measure-columns-requires : tie.Need-measure-columns-requires
+measure-columns-requires c κs = search needs
 
-squaring-count-requires : tie.Need-squaring-count-requires Inv-loop μ-loop
-squaring-count-requires c κs = search needs
+slice-aggregate-chain-count : tie.Need-slice-aggregate-chain-count
+slice-aggregate-chain-count c = search needs
 
-loop-holds : tie.Need-loop-holds Inv-loop μ-loop
-loop-holds c = search needs
+chain-count-requires : tie.Need-chain-count-requires
+chain-count-requires c κs = search needs
 
-payslip-count-requires : tie.Need-payslip-count-requires Inv-loop μ-loop
-payslip-count-requires c κs = search needs
-
-add-n : tie.Need-add-n Inv-loop μ-loop
-add-n c = search needs
-
-add-i : tie.Need-add-i Inv-loop μ-loop
-add-i c = search needs
-
-loop-less : tie.Need-loop-less Inv-loop μ-loop
-loop-less c = search needs
-
-loop-again : tie.Need-loop-again Inv-loop μ-loop
-loop-again c = (search needs, search costs-on, search needs)
-
-returns : tie.Need-returns Inv-loop μ-loop
-returns c = search count-all
+returns : tie.Need-returns
+returns c = search needs
 
 pub count-spec : {M : Type 1} → statement M
-count-spec =
-    tie.close
-    (tie.spec
-    Inv-loop
-    μ-loop
-    squaring-count-requires
-    loop-holds
-    payslip-count-requires
-    add-n
-    add-i
-    loop-less
-    loop-again
-    returns)
+count-spec = tie.close (tie.spec slice-aggregate-measure-columns measure-columns-requires slice-aggregate-chain-count chain-count-requires returns)

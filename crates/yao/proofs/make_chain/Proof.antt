@@ -10,7 +10,7 @@ square-columns-requires c κs = (search counts-few, search powers-room)
 make-payslips-requires : tie.Need-make-payslips-requires
 make-payslips-requires c κs =
     let squared = c .before .before .before .before in
-    let s = squared .before .before .before .before .before .before .args in (
+    let s = squared .before .before .before .before .before .before .before .args in (
       search needs,
       payslips-room (s .p) (s .q) (s .amounts .now) (s .k) (s .counts .now) (s .steps .now) (search needs) (search needs) (search needs) (search needs)
           (search needs) (squared .square-columns .ensures),

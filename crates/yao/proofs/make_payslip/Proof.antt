@@ -3,6 +3,8 @@ use mathlib.Core.Path.{_≡_}
 use Prim.Native.Nat.{_+_, _*_, _≤_, _-_}
 use lib.ListN.{length}
 use Rattle.digits.specs.Range.{sumTo}
+use native.Mathlib.Omega.{arith}
+use Rattle.yao.proofs.Measuring.{column-is, column-few}
 use Rattle.sheet.proofs.Amounts.{amount-there}
 use Rattle.methods.specs.Emitted.{stepsIn, Emitted}
 use Rattle.methods.proofs.Emitted.{emitted-own}
@@ -12,16 +14,22 @@ use Rattle.yao.proofs.make_payslip.Statement.{statement}
 use Rattle.yao.proofs.make_payslip.Tie as tie
 
 abbrev Inv-loop : tie.InvT-loop
-Inv-loop p q k amounts i n steps₀ r₀ first₀ c₀ steps r first c = (c ≤ p) × (first ≡ p + sumTo c (yaoSquarings p q k amounts)) × (first ≤ p + 31 * c) × (length steps ≡ length steps₀) × Emitted steps₀ steps (r .n) (r .value) (yaoPayslip p q k amounts i (stepsIn steps₀ n) c)
+Inv-loop p q k amounts columns i n steps₀ r₀ first₀ c₀ steps r first c = (c ≤ p) × (first ≡ p + sumTo c (yaoSquarings p q k amounts)) × (first ≤ p + 31 * c) × (length steps ≡ length steps₀) × Emitted steps₀ steps (r .n) (r .value) (yaoPayslip p q k amounts i (stepsIn steps₀ n) c)
 
 abbrev μ-loop : tie.MeasureT-loop
-μ-loop p q k amounts i n steps₀ r₀ first₀ c₀ steps r first c = p - c
+μ-loop p q k amounts columns i n steps₀ r₀ first₀ c₀ steps r first c = p - c
 
 loop-holds : tie.Need-loop-holds Inv-loop μ-loop
 loop-holds c = (search needs, search needs, search needs, search needs, search emitted-own)
 
-column-digits-requires : tie.Need-column-digits-requires Inv-loop μ-loop
-column-digits-requires c κs = search needs
+mul-digits : tie.Need-mul-digits Inv-loop μ-loop
+mul-digits c = search needs
+
+shared-slice-read-digits : tie.Need-shared-slice-read-digits Inv-loop μ-loop
+shared-slice-read-digits c = search needs
+
+cast-digits : tie.Need-cast-digits Inv-loop μ-loop
+cast-digits c = omega (arith, c .shared-slice-known3 .given (c .before .before .loop .c))
 
 amount-requires : tie.Need-amount-requires Inv-loop μ-loop
 amount-requires c κs = search amount-there
@@ -29,14 +37,16 @@ amount-requires c κs = search amount-there
 join-column-requires : tie.Need-join-column-requires Inv-loop μ-loop
 join-column-requires c κs =
     let amounted = c .before in
-    let counted = amounted .before in
-    let at = counted .before .before in
-    let start = at .before .before .before in
+    let at = amounted .before .before .before in
+    let start = at .before .before .before .before in
     let s = start .args in
-    (search reaches, column-room (s .p) (s .q) (s .k) (s .amounts .now) (s .i) (stepsIn (s .steps .now) (s .n)) (s .steps .now) _ _ _ (at .loop .c) (at .loop .first) (counted .column-digits .result) (amounted .amount .result) (at .loop .inv .4) (at .loop .inv .1) (counted .column-digits .ensures .0) (amounted .amount .ensures) _ (start .pre .1) (search needs))
+    let is = column-is (s .p) (s .q) (s .k) (s .amounts .now) (s .columns .now) (at .loop .c) (start .pre .0 .6) (search needs) in (
+      search (reaches, column-few),
+      column-room (s .p) (s .q) (s .k) (s .amounts .now) (s .i) (stepsIn (s .steps .now) (s .n)) (s .steps .now) _ _ _ (at .loop .c) (at .loop .first) _ (amounted .amount .result) (at .loop .inv .4) (at .loop .inv .1) is (amounted .amount .ensures) _ (start .pre .1) (search needs),
+    )
 
 squarings-of-requires : tie.Need-squarings-of-requires Inv-loop μ-loop
-squarings-of-requires c κs = search needs
+squarings-of-requires c κs = search column-few
 
 add-first : tie.Need-add-first Inv-loop μ-loop
 add-first c = search needs
@@ -51,15 +61,15 @@ loop-again : tie.Need-loop-again Inv-loop μ-loop
 loop-again c =
     let joined = c .before .before .before in
     let amounted = joined .before .before in
-    let counted = amounted .before in
-    let at = counted .before .before in
-    let start = at .before .before .before in
-    let s = start .args in (
+    let at = amounted .before .before .before in
+    let start = at .before .before .before .before in
+    let s = start .args in
+    let is = column-is (s .p) (s .q) (s .k) (s .amounts .now) (s .columns .now) (at .loop .c) (start .pre .0 .6) (search needs) in (
       search needs,
-      search first-on,
+      search (first-on, column-is),
       search needs,
       search needs,
-      column-on (s .p) (s .q) (s .k) (s .amounts .now) (s .i) (stepsIn (s .steps .now) (s .n)) (s .steps .now) _ _ _ (at .loop .c) (at .loop .first) (counted .column-digits .result) (amounted .amount .result) (at .loop .inv .4) (at .loop .inv .1) (counted .column-digits .ensures .0) (amounted .amount .ensures) _ _ _ (joined .join-column .ensures),
+      column-on (s .p) (s .q) (s .k) (s .amounts .now) (s .i) (stepsIn (s .steps .now) (s .n)) (s .steps .now) _ _ _ (at .loop .c) (at .loop .first) _ (amounted .amount .result) (at .loop .inv .4) (at .loop .inv .1) is (amounted .amount .ensures) _ _ _ (joined .join-column .ensures),
     )
 
 same-length : tie.Need-same-length Inv-loop μ-loop
@@ -68,7 +78,7 @@ same-length c = search needs
 returns : tie.Need-returns Inv-loop μ-loop
 returns c =
     let at = c .before in
-    let s = at .before .before .before .args in
+    let s = at .before .before .before .before .args in
     columns-end (s .p) (s .q) (s .k) (s .amounts .now) (s .i) (stepsIn (s .steps .now) (s .n)) (s .steps .now) _ _ _ (at .loop .c) (at .loop .inv .0) (search needs) (at .loop .inv .4)
 
 pub make-payslip-spec : {M : Type 1} → statement M
@@ -78,7 +88,9 @@ make-payslip-spec =
     Inv-loop
     μ-loop
     loop-holds
-    column-digits-requires
+    mul-digits
+    shared-slice-read-digits
+    cast-digits
     amount-requires
     join-column-requires
     squarings-of-requires

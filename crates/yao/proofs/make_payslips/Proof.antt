@@ -12,16 +12,16 @@ use Rattle.yao.proofs.make_payslips.Statement.{statement}
 use Rattle.yao.proofs.make_payslips.Tie as tie
 
 abbrev Inv-loop : tie.InvT-loop
-Inv-loop p q k amounts n steps₀ outputs₀ s₀ i₀ steps outputs s i = (i ≤ q) × (length steps ≡ length steps₀) × (length outputs ≡ length outputs₀) × (q ≤ length outputs) × Stored steps₀ steps s (payslips (yaoSlip p q k amounts) (stepsIn steps₀ n) i .steps) × (outputs ≡ over (payslips (yaoSlip p q k amounts) (stepsIn steps₀ n) i .outputs) outputs₀)
+Inv-loop p q k amounts columns n steps₀ outputs₀ s₀ i₀ steps outputs s i = (i ≤ q) × (length steps ≡ length steps₀) × (length outputs ≡ length outputs₀) × (q ≤ length outputs) × Stored steps₀ steps s (payslips (yaoSlip p q k amounts) (stepsIn steps₀ n) i .steps) × (outputs ≡ over (payslips (yaoSlip p q k amounts) (stepsIn steps₀ n) i .outputs) outputs₀)
 
 abbrev μ-loop : tie.MeasureT-loop
-μ-loop p q k amounts n steps₀ outputs₀ s₀ i₀ steps outputs s i = q - i
+μ-loop p q k amounts columns n steps₀ outputs₀ s₀ i₀ steps outputs s i = q - i
 
 loop-holds : tie.Need-loop-holds Inv-loop μ-loop
 loop-holds c = (search needs, search needs, search needs, search needs, search paid-none, search over-none)
 
 make-payslip-requires : tie.Need-make-payslip-requires Inv-loop μ-loop
-make-payslip-requires c κs = ((search needs, search needs, search needs, search needs, search needs), search payslip-room)
+make-payslip-requires c κs = ((search needs, search needs, search needs, search needs, search needs, search needs, search needs), search payslip-room)
 
 mul-outputs : tie.Need-mul-outputs Inv-loop μ-loop
 mul-outputs c = search needs

@@ -1,28 +1,36 @@
 use borrow.Author.Needs.{needs, fits-under}
 use mathlib.Core.Path.{_≡_}
 use Prim.Native.Nat.{_*_, _≤_, _-_}
+use native.Mathlib.Omega.{arith}
+use Rattle.yao.proofs.Measuring.{column-is, column-few}
 use Rattle.sheet.proofs.Amounts.{amount-there}
 use Rattle.yao.proofs.Counting.{amountsTo, nonzeroTo, amounts-on, nonzero-on, nonzero-few, nonzero-fits, payslip-none, payslip-some}
 use Rattle.yao.proofs.payslip_count.Statement.{statement}
 use Rattle.yao.proofs.payslip_count.Tie as tie
 
 abbrev Inv-loop : tie.InvT-loop
-Inv-loop p q k amounts i n₀ z₀ c₀ n z c = (c ≤ p) × (n ≡ amountsTo p q k amounts i c) × (z ≡ nonzeroTo p amounts i c) × (n ≤ 300 * c) × (z ≤ c)
+Inv-loop p q k amounts columns i n₀ z₀ c₀ n z c = (c ≤ p) × (n ≡ amountsTo p q k amounts i c) × (z ≡ nonzeroTo p amounts i c) × (n ≤ 300 * c) × (z ≤ c)
 
 abbrev μ-loop : tie.MeasureT-loop
-μ-loop p q k amounts i n₀ z₀ c₀ n z c = p - c
+μ-loop p q k amounts columns i n₀ z₀ c₀ n z c = p - c
 
 loop-holds : tie.Need-loop-holds Inv-loop μ-loop
 loop-holds c = search needs
 
-column-digits-requires : tie.Need-column-digits-requires Inv-loop μ-loop
-column-digits-requires c κs = search needs
+mul-digits : tie.Need-mul-digits Inv-loop μ-loop
+mul-digits c = search needs
+
+shared-slice-read-digits : tie.Need-shared-slice-read-digits Inv-loop μ-loop
+shared-slice-read-digits c = search needs
+
+cast-digits : tie.Need-cast-digits Inv-loop μ-loop
+cast-digits c = omega (arith, c .shared-slice-known3 .given (c .before .before .loop .c))
 
 amount-requires : tie.Need-amount-requires Inv-loop μ-loop
 amount-requires c κs = search amount-there
 
 amount-count-requires : tie.Need-amount-count-requires Inv-loop μ-loop
-amount-count-requires c κs = search needs
+amount-count-requires c κs = (search needs, search needs, search column-few)
 
 add-n : tie.Need-add-n Inv-loop μ-loop
 add-n c = search needs
@@ -40,7 +48,7 @@ loop-less : tie.Need-loop-less Inv-loop μ-loop
 loop-less c = search needs
 
 loop-again : tie.Need-loop-again Inv-loop μ-loop
-loop-again c = (search needs, search amounts-on, search nonzero-on, search needs, search nonzero-few)
+loop-again c = (search needs, search (amounts-on, column-is), search nonzero-on, search needs, search nonzero-few)
 
 returns : tie.Need-returns Inv-loop μ-loop
 returns c = (search payslip-none, search needs)
@@ -61,7 +69,9 @@ payslip-count-spec =
     Inv-loop
     μ-loop
     loop-holds
-    column-digits-requires
+    mul-digits
+    shared-slice-read-digits
+    cast-digits
     amount-requires
     amount-count-requires
     add-n

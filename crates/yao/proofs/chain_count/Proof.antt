@@ -1,0 +1,51 @@
+use borrow.Author.Needs.{needs}
+use mathlib.Core.Path.{_≡_}
+use Prim.Native.Nat.{_+_, _*_, _≤_, _-_}
+use Rattle.yao.proofs.Counting.{costsTo, costs-on, count-all}
+use Rattle.yao.proofs.chain_count.Statement.{statement}
+use Rattle.yao.proofs.chain_count.Tie as tie
+
+abbrev Inv-loop : tie.InvT-loop
+Inv-loop p q amounts k columns n₀ i₀ n i = (i ≤ q) × (n ≡ n₀ + costsTo p q k amounts i) × (n ≤ n₀ + 5000 * i)
+
+abbrev μ-loop : tie.MeasureT-loop
+μ-loop p q amounts k columns n₀ i₀ n i = q - i
+
+squaring-count-requires : tie.Need-squaring-count-requires Inv-loop μ-loop
+squaring-count-requires c κs = search needs
+
+loop-holds : tie.Need-loop-holds Inv-loop μ-loop
+loop-holds c = search needs
+
+payslip-count-requires : tie.Need-payslip-count-requires Inv-loop μ-loop
+payslip-count-requires c κs = search needs
+
+add-n : tie.Need-add-n Inv-loop μ-loop
+add-n c = search needs
+
+add-i : tie.Need-add-i Inv-loop μ-loop
+add-i c = search needs
+
+loop-less : tie.Need-loop-less Inv-loop μ-loop
+loop-less c = search needs
+
+loop-again : tie.Need-loop-again Inv-loop μ-loop
+loop-again c = (search needs, search costs-on, search needs)
+
+returns : tie.Need-returns Inv-loop μ-loop
+returns c = search count-all
+
+pub chain-count-spec : {M : Type 1} → statement M
+chain-count-spec =
+    tie.close
+    (tie.spec
+    Inv-loop
+    μ-loop
+    squaring-count-requires
+    loop-holds
+    payslip-count-requires
+    add-n
+    add-i
+    loop-less
+    loop-again
+    returns)

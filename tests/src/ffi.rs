@@ -109,7 +109,42 @@ mod raw {
             figures_len: usize,
             answer: *mut u64,
         ) -> u32;
+        pub fn spoutbasket_verify_pairs(
+            p: usize,
+            steps: *const super::Step,
+            steps_len: usize,
+            outputs: *const u32,
+            outputs_len: usize,
+            amounts: *const u32,
+            amounts_len: usize,
+            scratch: *mut u32,
+            scratch_len: usize,
+            answer: *mut u64,
+        ) -> u32;
+        pub fn spoutbasket_run_pairs(
+            p: usize,
+            steps: *const super::Step,
+            steps_len: usize,
+            outputs: *const u32,
+            outputs_len: usize,
+            m: u32,
+            bases: *const u32,
+            bases_len: usize,
+            values: *mut u32,
+            values_len: usize,
+            figures: *mut u32,
+            figures_len: usize,
+            answer: *mut u64,
+        ) -> u32;
     }
+}
+
+/// A step as a slice of steps lends it.
+#[repr(C)]
+#[derive(Clone, Copy, Debug, PartialEq)]
+pub struct Step {
+    pub first: u32,
+    pub second: u32,
 }
 
 // The answer behind a returned number and the four words, of which the first `values` are the call's.
@@ -160,6 +195,63 @@ pub fn run(
     let mut words = [7u64; 4];
     let number = unsafe {
         raw::spoutbasket_run(
+            p,
+            steps.as_ptr(),
+            steps.len(),
+            outputs.as_ptr(),
+            outputs.len(),
+            m,
+            bases.as_ptr(),
+            bases.len(),
+            values.as_mut_ptr(),
+            values.len(),
+            figures.as_mut_ptr(),
+            figures.len(),
+            words.as_mut_ptr(),
+        )
+    };
+    answer(number, words, 1)
+}
+
+/// The check over a slice of steps.
+pub fn verify_pairs(
+    p: usize,
+    steps: &[Step],
+    outputs: &[u32],
+    amounts: &[u32],
+    scratch: &mut [u32],
+) -> Answer {
+    let mut words = [7u64; 4];
+    let number = unsafe {
+        raw::spoutbasket_verify_pairs(
+            p,
+            steps.as_ptr(),
+            steps.len(),
+            outputs.as_ptr(),
+            outputs.len(),
+            amounts.as_ptr(),
+            amounts.len(),
+            scratch.as_mut_ptr(),
+            scratch.len(),
+            words.as_mut_ptr(),
+        )
+    };
+    answer(number, words, 0)
+}
+
+/// The run over a slice of steps.
+pub fn run_pairs(
+    p: usize,
+    steps: &[Step],
+    outputs: &[u32],
+    m: u32,
+    bases: &[u32],
+    values: &mut [u32],
+    figures: &mut [u32],
+) -> Answer {
+    let mut words = [7u64; 4];
+    let number = unsafe {
+        raw::spoutbasket_run_pairs(
             p,
             steps.as_ptr(),
             steps.len(),

@@ -1,5 +1,5 @@
-// The C interface: one function for each entry point, on numbers and slices. Each returns the refusal's number, 0 for none, and writes four words:
-// the values that the call answers, or the refusal's place, and zeros.
+// The C interface: one function for each entry point, on numbers and slices, and for the check and the run a second one, with the steps as structs.
+// Each returns the refusal's number, 0 for none, and writes four words: the values that the call answers, or the refusal's place, and zeros.
 ghost use mathlib.Core.Path.{_≡_};
 ghost use mathlib.Core.List.{[], _∷_};
 ghost use Prim.Native.Nat.{_/_};

@@ -93,6 +93,19 @@ uint32_t spoutbasket_run(size_t p, const uint32_t *steps, size_t steps_len, cons
                          uint32_t modulus, const uint32_t *bases, size_t bases_len,
                          uint32_t *values, size_t values_len, uint32_t *figures, size_t figures_len, uint64_t answer[4]);
 
+/* A step: the numbers of its two operands. */
+typedef struct {
+    uint32_t first;
+    uint32_t second;
+} spoutbasket_step;
+
+/* The check and the run with the steps lent as structs, n of them; all else as above. */
+uint32_t spoutbasket_verify_pairs(size_t p, const spoutbasket_step *steps, size_t steps_len, const uint32_t *outputs, size_t outputs_len,
+                                  const uint32_t *amounts, size_t amounts_len, uint32_t *scratch, size_t scratch_len, uint64_t answer[4]);
+uint32_t spoutbasket_run_pairs(size_t p, const spoutbasket_step *steps, size_t steps_len, const uint32_t *outputs, size_t outputs_len,
+                               uint32_t modulus, const uint32_t *bases, size_t bases_len,
+                               uint32_t *values, size_t values_len, uint32_t *figures, size_t figures_len, uint64_t answer[4]);
+
 /* Chooses between two files for a sheet: the one with fewer steps of those that read and pass, the first on equality. Needs as scratch
  * 2 * SPOUTBASKET_MOST_STEPS cells of steps, SPOUTBASKET_MOST_PAYSLIPS outputs and SPOUTBASKET_MOST_VALUES numbers; what they hold afterwards is left
  * open. Answers 1 or 2, the file chosen; if neither will do, the first file's refusal. */

@@ -15,9 +15,7 @@
 // the arguments are the library's own
 #![allow(clippy::too_many_arguments)]
 
-mod list;
-
-pub use list::list;
+use crate::LONGEST_LISTING;
 
 // SAFETY of every call below: the library asks of a slice that its pointer is good for its length, to read or to write, and that what it may write
 // overlaps nothing else of the call. A Rust slice gives the first, and `&mut` the second. The library keeps no pointer, and its functions are proved to
@@ -80,6 +78,39 @@ extern "C" {
         values_len: usize,
         figures: *mut u32,
         figures_len: usize,
+        answer: *mut [u64; 4],
+    ) -> u32;
+    fn spoutbasket_verify_pairs(
+        p: usize,
+        steps: *const [u32; 2],
+        steps_len: usize,
+        outputs: *const u32,
+        outputs_len: usize,
+        amounts: *const u32,
+        amounts_len: usize,
+        scratch: *mut u32,
+        scratch_len: usize,
+        answer: *mut [u64; 4],
+    ) -> u32;
+    fn spoutbasket_run_pairs(
+        p: usize,
+        steps: *const [u32; 2],
+        steps_len: usize,
+        outputs: *const u32,
+        outputs_len: usize,
+        modulus: u32,
+        bases: *const u32,
+        bases_len: usize,
+        values: *mut u32,
+        values_len: usize,
+        figures: *mut u32,
+        figures_len: usize,
+        answer: *mut [u64; 4],
+    ) -> u32;
+    fn spoutbasket_list(
+        bytes: *const u8,
+        bytes_len: usize,
+        text: *mut [u8; LONGEST_LISTING],
         answer: *mut [u64; 4],
     ) -> u32;
     fn spoutbasket_choose(
@@ -259,6 +290,65 @@ pub fn run(
     }
 }
 
+/// As [`verify`], with the steps lent as pairs.
+#[inline]
+pub fn verify_pairs(
+    p: usize,
+    steps: &[[u32; 2]],
+    outputs: &[u32],
+    amounts: &[u32],
+    scratch: &mut [u32],
+    answer: &mut [u64; 4],
+) -> u32 {
+    // SAFETY: slices, each with its own length
+    unsafe {
+        spoutbasket_verify_pairs(
+            p,
+            steps.as_ptr(),
+            steps.len(),
+            outputs.as_ptr(),
+            outputs.len(),
+            amounts.as_ptr(),
+            amounts.len(),
+            scratch.as_mut_ptr(),
+            scratch.len(),
+            answer,
+        )
+    }
+}
+
+/// As [`run`], with the steps lent as pairs.
+#[inline]
+pub fn run_pairs(
+    p: usize,
+    steps: &[[u32; 2]],
+    outputs: &[u32],
+    modulus: u32,
+    bases: &[u32],
+    values: &mut [u32],
+    figures: &mut [u32],
+    answer: &mut [u64; 4],
+) -> u32 {
+    // SAFETY: slices, each with its own length
+    unsafe {
+        spoutbasket_run_pairs(
+            p,
+            steps.as_ptr(),
+            steps.len(),
+            outputs.as_ptr(),
+            outputs.len(),
+            modulus,
+            bases.as_ptr(),
+            bases.len(),
+            values.as_mut_ptr(),
+            values.len(),
+            figures.as_mut_ptr(),
+            figures.len(),
+            answer,
+        )
+    }
+}
+
 /// Chooses between two files for a sheet, with scratch for 16,000 steps, 64 outputs and 16,017 numbers; answers 1 or 2.
 #[inline]
 pub fn choose(
@@ -345,4 +435,11 @@ pub fn path(
             answer,
         )
     }
+}
+
+/// Lists a file as text; answers the length of the text at the front of `text`, and refuses nothing.
+#[inline]
+pub fn list(bytes: &[u8], text: &mut [u8; LONGEST_LISTING], answer: &mut [u64; 4]) -> u32 {
+    // SAFETY: a slice with its own length, and a text of the one length that there is
+    unsafe { spoutbasket_list(bytes.as_ptr(), bytes.len(), text, answer) }
 }

@@ -42,6 +42,34 @@ pub fn run(
     })
 }
 
+/// The check with the steps lent as pairs.
+pub fn verify_pairs(
+    p: usize,
+    steps: &[[u32; 2]],
+    outputs: &[u32],
+    amounts: &[u32],
+    scratch: &mut [u32],
+) -> Answer {
+    answer(0, |words| {
+        slices::verify_pairs(p, steps, outputs, amounts, scratch, words)
+    })
+}
+
+/// The run with the steps lent as pairs.
+pub fn run_pairs(
+    p: usize,
+    steps: &[[u32; 2]],
+    outputs: &[u32],
+    m: u32,
+    bases: &[u32],
+    values: &mut [u32],
+    figures: &mut [u32],
+) -> Answer {
+    answer(1, |words| {
+        slices::run_pairs(p, steps, outputs, m, bases, values, figures, words)
+    })
+}
+
 pub fn write(p: usize, steps: &[u32], outputs: &[u32], bytes: &mut [u8]) -> Answer {
     answer(1, |words| slices::write(p, steps, outputs, bytes, words))
 }

@@ -1,6 +1,12 @@
-//! The check and the run against the reference, every lent cell included.
+//! The check and the run against the reference, every lent cell included, each with the steps lent flat and as structs.
 use spoutbasket_tests::random::{bases, legal_chain, modulus, Chain, Random};
 use spoutbasket_tests::{ffi, reference};
+
+/// The steps of a chain as pairs, which lie in memory as the library's structs do. An odd last number belongs to none.
+fn structs(c: &Chain) -> Vec<[u32; 2]> {
+    let pairs = reference::pairs(&c.steps).into_iter();
+    pairs.map(|(first, second)| [first, second]).collect()
+}
 
 /// The check by the library and by the reference, on equal scratch: the same answer and the same cells.
 fn same_check(c: &Chain, amounts: &[u32], scratch: &[u32]) -> reference::Answer {
@@ -9,6 +15,11 @@ fn same_check(c: &Chain, amounts: &[u32], scratch: &[u32]) -> reference::Answer 
     let want = reference::verify(c.p, &c.steps, &c.outputs, amounts, &mut theirs);
     assert_eq!(got, want, "{c:?} {amounts:?}");
     assert_eq!(ours, theirs, "{c:?} {amounts:?}");
+    let (steps, mut cells) = (structs(c), scratch.to_vec());
+    let by_structs = ffi::verify_pairs(c.p, &steps, &c.outputs, amounts, &mut cells);
+    assert_eq!(by_structs, got, "{c:?} {amounts:?}");
+    assert_eq!(cells, ours, "{c:?} {amounts:?}");
+    assert_eq!(steps, structs(c));
     got
 }
 
@@ -43,6 +54,12 @@ fn same_run(
     assert_eq!(got, want, "{c:?} {m} {bases:?}");
     assert_eq!(ours, theirs, "{c:?} {m} {bases:?}");
     assert_eq!(our_figures, their_figures, "{c:?} {m} {bases:?}");
+    let (steps, mut cells, mut places) = (structs(c), values.to_vec(), figures.to_vec());
+    let by_structs = ffi::run_pairs(c.p, &steps, &c.outputs, m, bases, &mut cells, &mut places);
+    assert_eq!(by_structs, got, "{c:?} {m} {bases:?}");
+    assert_eq!(cells, ours, "{c:?} {m} {bases:?}");
+    assert_eq!(places, our_figures, "{c:?} {m} {bases:?}");
+    assert_eq!(steps, structs(c));
     (got, our_figures)
 }
 
@@ -176,20 +193,32 @@ fn damaged_chains_and_short_slices() {
     }
 }
 
+/// Slices of steps up to the limit and past it, sound or with one wrong step; of results one cell too long, just long enough and too short.
 #[test]
-fn too_many_steps() {
-    for n in [16_000, 16_001] {
-        let c = Chain {
-            p: 1,
-            steps: vec![1; 2 * n],
-            outputs: vec![1],
-        };
-        let answer = same_check(&c, &[1], &vec![9; n + 3]);
-        assert_eq!(answer, if n == 16_000 { Ok(vec![]) } else { Err((4, 0)) });
-        assert_eq!(
-            same_run(&c, 7, &[3], &vec![9; n + 3], &[9, 9]).0.is_ok(),
-            n == 16_000
-        );
+fn lengths_near_the_limit() {
+    for n in [15_999, 16_000, 16_001, 16_002, 20_000] {
+        for wrong in [None, Some(0), Some(n - 1)] {
+            let mut c = Chain {
+                p: 1,
+                steps: vec![1; 2 * n],
+                outputs: vec![1],
+            };
+            if let Some(s) = wrong {
+                c.steps[2 * s + 1] = 0;
+            }
+            for cells in [n + 3, n + 2, n + 1] {
+                let expected = match wrong {
+                    _ if n > 16_000 => Err((4, 0)),
+                    Some(s) => Err((9, s as u64 + 1)),
+                    None if cells < n + 2 => Err((5, 0)),
+                    None => Ok(n as u64),
+                };
+                let checked = same_check(&c, &[1], &vec![9; cells]);
+                assert_eq!(checked.map(|_| ()), expected.map(|_| ()));
+                let (ran, _) = same_run(&c, 7, &[3], &vec![9; cells], &[9, 9]);
+                assert_eq!(ran, expected.map(|n| vec![n]));
+            }
+        }
     }
 }
 

@@ -13,7 +13,8 @@ pub const MOST_PAYSLIPS: usize = 64;
 
 pub const MOST_STEPS: usize = 16000;
 
-// A step: the numbers of the two values that it multiplies.
+// A step: the numbers of the two values that it multiplies. It is laid out as C does, since a slice of steps crosses the C interface.
+#[repr(C)]
 pub struct Step {
     pub first: u32,
     pub second: u32,

@@ -1,5 +1,5 @@
-// The C interface: one function for each entry point, on numbers and slices. Each returns the refusal's number, 0 for none, and writes four words:
-// the values that the call answers, or the refusal's place, and zeros.
+// The C interface: one function for each entry point, on numbers and slices, and for the check and the run a second one, with the steps as structs.
+// Each returns the refusal's number, 0 for none, and writes four words: the values that the call answers, or the refusal's place, and zeros.
 ghost use mathlib.Core.Path.{_≡_};
 ghost use mathlib.Core.List.{[], _∷_};
 ghost use Prim.Native.Nat.{_/_};
@@ -10,11 +10,14 @@ ghost use Rattle.chain.specs.Written.{over};
 ghost use Rattle.compile.specs.Compile.{compileAnswer, compileSteps, compileOutputs};
 ghost use Rattle.file.specs.File.{writeAnswer, writeBytes, readAnswer, readSteps, readOutputs};
 ghost use Rattle.verify.specs.Verify.{verifyAnswer, verifyScratch};
+ghost use Rattle.verify.specs.Verified.{verifiedOf};
 ghost use Rattle.run.specs.Run.{runAnswer, runValues, runFigures};
+ghost use Rattle.run.specs.Ran.{ranOf};
 ghost use Rattle.choose.specs.Choose.{choice};
 ghost use Rattle.listing.specs.Listing.{listing};
 ghost use Rattle.path.specs.Path.{lent, pathAnswer, pathLeaves};
 ghost use Rattle.spoutbasket.specs.Told.{numberOf, wordsOf, chosen};
+use chain::Step;
 use choose::Chosen;
 use compile::Compiled;
 use file::Reading;
@@ -29,6 +32,26 @@ fn tell(number: u32, a: usize, b: usize, c: usize, answer: &mut [u64; 4]) -> u32
 {
     *answer = [a as u64, b as u64, c as u64, 0];
     number
+}
+
+// What a check answered, told.
+fn tell_verified(v: Verified, answer: &mut [u64; 4]) -> u32
+    ensures { λ r. ⌜ (r ≡ numberOf (verifiedOf v)) × (now (answer .exit) ≡ wordsOf (verifiedOf v)) ⌝ }
+{
+    match v {
+        Verified::Refused(number, place) => tell(number, place, 0, 0, answer),
+        Verified::Passed => tell(0, 0, 0, 0, answer),
+    }
+}
+
+// What a run answered, told.
+fn tell_ran(ran: Ran, answer: &mut [u64; 4]) -> u32
+    ensures { λ r. ⌜ (r ≡ numberOf (ranOf ran)) × (now (answer .exit) ≡ wordsOf (ranOf ran)) ⌝ }
+{
+    match ran {
+        Ran::Refused(number, place) => tell(number, place, 0, 0, answer),
+        Ran::Multiplications(n) => tell(0, n, 0, 0, answer),
+    }
 }
 
 // A sheet compiled by the method of a number and its parameter.
@@ -106,10 +129,26 @@ pub extern "C" fn spoutbasket_verify(
     ensures { λ r. ⌜ now (answer .exit) ≡ wordsOf (verifyAnswer p (pairs (now (steps .entry))) (now (outputs .entry)) (now (amounts .entry)) (length (now (scratch .entry)))) ⌝ }
     ensures { λ r. ⌜ now (scratch .exit) ≡ verifyScratch p (pairs (now (steps .entry))) (now (outputs .entry)) (now (amounts .entry)) (now (scratch .entry)) ⌝ }
 {
-    match verify::verify(p, steps, outputs, amounts, scratch) {
-        Verified::Refused(number, place) => tell(number, place, 0, 0, answer),
-        Verified::Passed => tell(0, 0, 0, 0, answer),
-    }
+    let v = verify::verify(p, steps, outputs, amounts, scratch);
+    tell_verified(v, answer)
+}
+
+// The check of a chain whose steps are lent as structs, each a pair of 32-bit numbers, against a sheet.
+#[no_mangle]
+pub extern "C" fn spoutbasket_verify_pairs(
+    p: usize,
+    steps: &[Step],
+    outputs: &[u32],
+    amounts: &[u32],
+    scratch: &mut [u32],
+    answer: &mut [u64; 4],
+) -> u32
+    ensures { λ r. ⌜ r ≡ numberOf (verifyAnswer p (now (steps .entry)) (now (outputs .entry)) (now (amounts .entry)) (length (now (scratch .entry)))) ⌝ }
+    ensures { λ r. ⌜ now (answer .exit) ≡ wordsOf (verifyAnswer p (now (steps .entry)) (now (outputs .entry)) (now (amounts .entry)) (length (now (scratch .entry)))) ⌝ }
+    ensures { λ r. ⌜ now (scratch .exit) ≡ verifyScratch p (now (steps .entry)) (now (outputs .entry)) (now (amounts .entry)) (now (scratch .entry)) ⌝ }
+{
+    let v = pairs::verify_pairs(p, steps, outputs, amounts, scratch);
+    tell_verified(v, answer)
 }
 
 // The run of a chain over residues.
@@ -129,10 +168,29 @@ pub extern "C" fn spoutbasket_run(
     ensures { λ r. ⌜ now (values .exit) ≡ runValues p (pairs (now (steps .entry))) (now (outputs .entry)) m (now (bases .entry)) (length (now (figures .entry))) (now (values .entry)) ⌝ }
     ensures { λ r. ⌜ now (figures .exit) ≡ runFigures p (pairs (now (steps .entry))) (now (outputs .entry)) m (now (bases .entry)) (length (now (values .entry))) (now (figures .entry)) ⌝ }
 {
-    match run::run(p, steps, outputs, m, bases, values, figures) {
-        Ran::Refused(number, place) => tell(number, place, 0, 0, answer),
-        Ran::Multiplications(n) => tell(0, n, 0, 0, answer),
-    }
+    let ran = run::run(p, steps, outputs, m, bases, values, figures);
+    tell_ran(ran, answer)
+}
+
+// The run of a chain whose steps are lent as structs, each a pair of 32-bit numbers, over residues.
+#[no_mangle]
+pub extern "C" fn spoutbasket_run_pairs(
+    p: usize,
+    steps: &[Step],
+    outputs: &[u32],
+    m: u32,
+    bases: &[u32],
+    values: &mut [u32],
+    figures: &mut [u32],
+    answer: &mut [u64; 4],
+) -> u32
+    ensures { λ r. ⌜ r ≡ numberOf (runAnswer p (now (steps .entry)) (now (outputs .entry)) m (now (bases .entry)) (length (now (values .entry))) (length (now (figures .entry)))) ⌝ }
+    ensures { λ r. ⌜ now (answer .exit) ≡ wordsOf (runAnswer p (now (steps .entry)) (now (outputs .entry)) m (now (bases .entry)) (length (now (values .entry))) (length (now (figures .entry)))) ⌝ }
+    ensures { λ r. ⌜ now (values .exit) ≡ runValues p (now (steps .entry)) (now (outputs .entry)) m (now (bases .entry)) (length (now (figures .entry))) (now (values .entry)) ⌝ }
+    ensures { λ r. ⌜ now (figures .exit) ≡ runFigures p (now (steps .entry)) (now (outputs .entry)) m (now (bases .entry)) (length (now (values .entry))) (now (figures .entry)) ⌝ }
+{
+    let ran = pairs::run_pairs(p, steps, outputs, m, bases, values, figures);
+    tell_ran(ran, answer)
 }
 
 // The choice between two files: which of them is handed back. The scratch slices are left free in content.

@@ -7,17 +7,8 @@ use Rattle.spoutbasket.proofs.spoutbasket_run.Tie as tie
 run-requires : tie.Need-run-requires
 run-requires c κs = search needs
 
-enum-known-number : tie.Need-enum-known-number
-enum-known-number c = search needs
-
-tell-requires : tie.Need-tell-requires
-tell-requires c κs = search needs
-
-enum-known-n : tie.Need-enum-known-n
-enum-known-n c = search needs
-
-tell-requires-2 : tie.Need-tell-requires-2
-tell-requires-2 c κs = search needs
+tell-ran-requires : tie.Need-tell-ran-requires
+tell-ran-requires c κs = search needs
 
 same-length : tie.Need-same-length
 same-length c = search needs
@@ -27,34 +18,8 @@ same-length-2 c = search needs
 
 returns : tie.Need-returns
 returns c =
-    let called = c .before .before .before .before .before .before .before .before .before in
-    let e = rw (c .before .before .before .number .given .1) at (called .run .ensures .0) in
-    (c .tell .ensures .0 ∙ ap numberOf e, (c .tell .ensures .1 ∙ ap wordsOf e, called .run .ensures .1))
-
-same-length-3 : tie.Need-same-length-3
-same-length-3 c = search needs
-
-same-length-4 : tie.Need-same-length-4
-same-length-4 c = search needs
-
-returns-2 : tie.Need-returns-2
-returns-2 c =
-    let called = c .before .before .before .before .before .before .before .before .before in
-    let e = rw (c .before .before .before .n .given .1) at (called .run .ensures .0) in
-    (c .tell2 .ensures .0 ∙ ap numberOf e, (c .tell2 .ensures .1 ∙ ap wordsOf e, called .run .ensures .1))
+    let called = c .before .before .before .before .before .before .run in
+    (c .tell-ran .ensures .0 ∙ ap numberOf (called .ensures .0), (c .tell-ran .ensures .1 ∙ ap wordsOf (called .ensures .0), called .ensures .1))
 
 pub spoutbasket-run-spec : {M : Type 1} → statement M
-spoutbasket-run-spec =
-    tie.close
-    (tie.spec
-    run-requires
-    enum-known-number
-    tell-requires
-    enum-known-n
-    tell-requires-2
-    same-length
-    same-length-2
-    returns
-    same-length-3
-    same-length-4
-    returns-2)
+spoutbasket-run-spec = tie.close (tie.spec run-requires tell-ran-requires same-length same-length-2 returns)

@@ -7,46 +7,16 @@ use Rattle.spoutbasket.proofs.spoutbasket_verify.Tie as tie
 verify-requires : tie.Need-verify-requires
 verify-requires c κs = search needs
 
-enum-known-number : tie.Need-enum-known-number
-enum-known-number c = search needs
-
-tell-requires : tie.Need-tell-requires
-tell-requires c κs = search needs
-
-enum-told : tie.Need-enum-told
-enum-told c = search needs
-
-tell-requires-2 : tie.Need-tell-requires-2
-tell-requires-2 c κs = search needs
+tell-verified-requires : tie.Need-tell-verified-requires
+tell-verified-requires c κs = search needs
 
 same-length : tie.Need-same-length
 same-length c = search needs
 
 returns : tie.Need-returns
 returns c =
-    let called = c .before .before .before .before .before .before .before in
-    let e = rw (c .before .before .before .number .given .1) at (called .verify .ensures .0) in
-    (c .tell .ensures .0 ∙ ap numberOf e, (c .tell .ensures .1 ∙ ap wordsOf e, called .verify .ensures .1))
-
-same-length-2 : tie.Need-same-length-2
-same-length-2 c = search needs
-
-returns-2 : tie.Need-returns-2
-returns-2 c =
-    let called = c .before .before .before .before .before .before in
-    let e = rw (c .before .before .enum-told .given .1) at (called .verify .ensures .0) in
-    (c .tell2 .ensures .0 ∙ ap numberOf e, (c .tell2 .ensures .1 ∙ ap wordsOf e, called .verify .ensures .1))
+    let called = c .before .before .before .before .verify in
+    (c .tell-verified .ensures .0 ∙ ap numberOf (called .ensures .0), (c .tell-verified .ensures .1 ∙ ap wordsOf (called .ensures .0), called .ensures .1))
 
 pub spoutbasket-verify-spec : {M : Type 1} → statement M
-spoutbasket-verify-spec =
-    tie.close
-    (tie.spec
-    verify-requires
-    enum-known-number
-    tell-requires
-    enum-told
-    tell-requires-2
-    same-length
-    returns
-    same-length-2
-    returns-2)
+spoutbasket-verify-spec = tie.close (tie.spec verify-requires tell-verified-requires same-length returns)

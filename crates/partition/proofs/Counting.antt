@@ -1,19 +1,18 @@
 -- Laws by which the functions of counts keep to their contracts.
-use mathlib.Core.Path.{_≡_, sym, ap, ap₂, _∙_}
-use mathlib.Core.List.{List, [], _∷_}
-use Prim.Native.Nat.{ℕ, zero, suc, _+_, _-_, _*_, _^_, _≤_, _<_}
-use native.Mathlib.Nat.{mul-comm, mul-le-mul-right, mul-le-mul-left, div-add-mod', suc-mul, pow-suc}
+use mathlib.Core.Path.{_≡_, ap, _∙_}
+use mathlib.Core.List.{List}
+use Prim.Native.Nat.{ℕ, suc, _+_, _-_, _*_, _^_, _≤_, _<_}
+use native.Mathlib.Nat.{mul-comm, mul-le-mul-right, mul-le-mul-left, div-add-mod', div-lt-iff-lt-mul, suc-mul}
 use native.Mathlib.Omega.{arith}
-use lib.ListN.{length, getD, drop}
+use lib.ListN.{length, getD}
 use lib.Pow.{pow-mono}
-use lib.Seq.{drop-cons, drop-length}
 use Rattle.digits.specs.Digits.{bitLength, digitCount}
 use Rattle.digits.specs.Range.{sumTo, sign}
 use Rattle.digits.proofs.Range.{sum-on, sign-low}
 use Rattle.digits.proofs.Count.{low-bits}
 use Rattle.methods.specs.Powers.{largestIn}
-use Rattle.partition.specs.Partition.{columnBits, group, groupCount, groupSize, weigh}
-use Rattle.partition.proofs.Groups.{inputs-below, length-group, getD-group}
+use Rattle.partition.specs.Partition.{columnBits, groupCount, groupSize}
+use Rattle.partition.proofs.Groups.{inputs-below}
 
 -- a column's bits less some, b being the bits of its largest amount x
 module _ (p q : ℕ) (amounts : List ℕ) (less col x b : ℕ) (is : x ≡ largestIn p q amounts col) (e : b ≡ digitCount 1 x) where
@@ -49,6 +48,13 @@ groups-few c w some few low =
     let wide : groupCount c w * 1 ≤ groupCount c w * c = mul-le-mul-left (groupCount c w) some in
     omega (arith, mul-comm c (groupCount c w))
 
+-- there are no more groups than inputs
+pub groups-low : (c w : ℕ) → 1 ≤ c → groupCount c w ≤ w
+groups-low c w some =
+    let wide : w * 1 ≤ w * c = mul-le-mul-left w some in
+    let few : groupCount c w < suc w = div-lt-iff-lt-mul some .1 (omega (arith, suc-mul w c)) in
+    omega arith
+
 pub group-inside : (c w g G : ℕ) → 1 ≤ c → G ≡ groupCount c w → g < G → g * c ≤ w
 group-inside c w g G some e h =
     let d = div-add-mod' (w + c - 1) c in
@@ -80,69 +86,25 @@ tables-on c w n g s r size is e =
 pub tables-end : (c w G g n : ℕ) → G ≡ groupCount c w → g ≤ G → G ≤ g → n ≡ tablesTo c w g → n ≡ tablesTo c w (groupCount c w)
 tables-end c w G g n is h k e = let last : groupCount c w ≡ g = omega arith in rw last e
 
--- the number of a part, from its last member down to the first
-module _ (c : ℕ) (taken : List ℕ) (g size : ℕ) (is : size ≡ groupSize c (length taken) g) where
-  abbrev own : List ℕ
-  own = group c g taken
+-- how many parts are not empty, of the first n
+abbrev pub signsTo : List ℕ → ℕ → ℕ
+signsTo numbers n = sumTo n (λ g. sign (getD numbers g 0))
 
-  long : length own ≡ size
-  long = length-group c g taken ∙ sym is
+module _ (numbers : List ℕ) where
+  pub signs-on : (n g r : ℕ) → r ≡ sign (getD numbers g 0) → n ≡ signsTo numbers g → n + r ≡ signsTo numbers (g + 1)
+  signs-on n g r told e = sum-on (λ k. sign (getD numbers k 0)) g n r told e
 
-  weigh-next : (l : List ℕ) (j : ℕ) → j < length l → weigh (drop j l) ≡ getD l j 0 + 2 * weigh (drop (suc j) l)
-  weigh-next l j h = ap weigh (drop-cons l j 0 h)
+  pub sign-added : (n g t r : ℕ) → r ≡ sign t → n ≤ g → n + r ≤ g + 1
+  sign-added n g t r told h = omega (arith, sign-low t)
 
-  pub part-start : 0 ≡ weigh (drop (size - 0) (group c g taken))
-  part-start = let all : size - 0 ≡ length own = omega (arith, long) in sym (ap (λ (n : ℕ). weigh (drop n own)) all ∙ ap weigh (drop-length own))
-
-  module _ (j t : ℕ) (less : j < size) (so-far : t ≡ weigh (drop (size - j) (group c g taken))) where
-    pub part-on : getD taken (g * c + (size - (j + 1))) 0 + 2 * t ≡ weigh (drop (size - (j + 1)) (group c g taken))
-    part-on =
-        let here : size - (j + 1) < length own = omega (arith, long) in
-        let after : suc (size - (j + 1)) ≡ size - j = omega arith in
-        sym (weigh-next own (size - (j + 1)) here
-        ∙ ap₂ (λ (a n : ℕ). a + 2 * weigh (drop n own)) (getD-group c g taken (size - (j + 1)) here) after
-        ∙ ap (λ (n : ℕ). getD taken (g * c + (size - (j + 1))) 0 + 2 * n) (sym so-far))
-
-  -- no end of a list weighs more than the whole
-  weigh-end : (l : List ℕ) (j : ℕ) → weigh (drop j l) ≤ weigh l
-  weigh-end l zero = omega arith
-  weigh-end [] (suc j) = omega arith
-  weigh-end (b ∷ l) (suc j) = omega (arith, weigh-end l j)
-
-  pub part-fits : (j t : ℕ) → j < size → t ≡ weigh (drop (size - j) (group c g taken)) → weigh (group c g taken) < 2 ^ 32
-      → getD taken (g * c + (size - (j + 1))) 0 + 2 * t < 2 ^ 32
-  part-fits j t less so-far low = rw (part-on j t less so-far) (omega (arith, weigh-end own (size - (j + 1))))
-
-  pub part-twice : (j t : ℕ) → j < size → t ≡ weigh (drop (size - j) (group c g taken)) → weigh (group c g taken) < 2 ^ 32 → 2 * t < 2 ^ 32
-  part-twice j t less so-far low = omega (arith, part-fits j t less so-far low)
-
-  pub part-cell : (j : ℕ) → j < size → g * c + (size - (j + 1)) < length taken
-  part-cell j less = omega arith
-
-  pub part-end : (j t : ℕ) → j ≤ size → size ≤ j → t ≡ weigh (drop (size - j) (group c g taken)) → t ≡ weigh (group c g taken)
-  part-end j t h k e = let none : size - j ≡ 0 = omega arith in e ∙ ap (λ (n : ℕ). weigh (drop n own)) none
-
--- how many parts are not empty, of the first n groups
-abbrev pub signsTo : ℕ → List ℕ → ℕ → ℕ
-signsTo c taken n = sumTo n (λ g. sign (weigh (group c g taken)))
-
-module _ (c : ℕ) (taken : List ℕ) where
-  pub signs-on : (n g t r : ℕ) → t ≡ weigh (group c g taken) → r ≡ sign t → n ≡ signsTo c taken g → n + r ≡ signsTo c taken (g + 1)
-  signs-on n g t r is told e = sum-on (λ k. sign (weigh (group c k taken))) g n r (told ∙ ap sign is) e
-
-  pub sign-added : (n g t r : ℕ) → t ≡ weigh (group c g taken) → r ≡ sign t → n ≤ g → n + r ≤ g + 1
-  sign-added n g t r is told h = omega (arith, sign-low t)
-
-  pub sign-fits : (n g t r G : ℕ) → r ≡ sign t → n ≤ g → g < G → G ≤ 519 → n + r < 1024
+  pub sign-fits : (n g t r G : ℕ) → r ≡ sign t → n ≤ g → g < G → G ≤ 512 → n + r < 1024
   sign-fits n g t r G told h k few = omega (arith, sign-low t)
 
-  joins-all : (G g n : ℕ) → G ≡ groupCount c (length taken) → g ≤ G → G ≤ g → n ≡ signsTo c taken g → n ≡ signsTo c taken (groupCount c (length taken))
-  joins-all G g n is h k e = let last : groupCount c (length taken) ≡ g = omega arith in rw last e
+  joins-all : (g n : ℕ) → g ≤ length numbers → length numbers ≤ g → n ≡ signsTo numbers g → n ≡ signsTo numbers (length numbers)
+  joins-all g n h k e = let last : length numbers ≡ g = omega arith in rw last e
 
-  pub joins-none : (G g n : ℕ) → G ≡ groupCount c (length taken) → g ≤ G → G ≤ g → n ≡ signsTo c taken g → n ≡ 0
-      → 0 ≡ signsTo c taken (groupCount c (length taken)) - 1
-  joins-none G g n is h k e z = omega (arith, joins-all G g n is h k e)
+  pub joins-none : (g n : ℕ) → g ≤ length numbers → length numbers ≤ g → n ≡ signsTo numbers g → n ≡ 0 → 0 ≡ signsTo numbers (length numbers) - 1
+  joins-none g n h k e z = omega (arith, joins-all g n h k e)
 
-  pub joins-end : (G g n : ℕ) → G ≡ groupCount c (length taken) → g ≤ G → G ≤ g → n ≡ signsTo c taken g
-      → n - 1 ≡ signsTo c taken (groupCount c (length taken)) - 1
-  joins-end G g n is h k e = ap (λ (m : ℕ). m - 1) (joins-all G g n is h k e)
+  pub joins-end : (g n : ℕ) → g ≤ length numbers → length numbers ≤ g → n ≡ signsTo numbers g → n - 1 ≡ signsTo numbers (length numbers) - 1
+  joins-end g n h k e = ap (λ (m : ℕ). m - 1) (joins-all g n h k e)

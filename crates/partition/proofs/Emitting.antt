@@ -18,7 +18,8 @@ use Rattle.methods.specs.Emitted.{stepsIn, Room, Stored, Emitted}
 use Rattle.methods.proofs.Sound.{Begins, begins-more, begins-rise, begins-length}
 use Rattle.methods.proofs.Product.{times-begins}
 use Rattle.methods.proofs.Emitted.{stored-is, stored-on, stored-room, emits-room, emits-on}
-use Rattle.partition.specs.Partition.{group, groupCount, groupSize, groupTables, weigh, parts}
+use Rattle.partition.specs.Partition.{group, groupCount, groupSize, groupTables}
+use Rattle.partition.specs.Bits.{partsBy}
 use Rattle.partition.proofs.Groups.{length-group}
 use Rattle.partition.proofs.Tables.{tables-count}
 
@@ -115,32 +116,28 @@ module _ (p c g first r t size : ℕ) (inputs : List ℕ) (is : size ≡ groupSi
       → y ≡ entry 1 (group c g inputs) (p + first + g * (2 ^ c - c - 1) + 1) t
   entry-told y full e = e ∙ ap₂ (λ (l : List ℕ) (k : ℕ). entry 1 l (p + first + g * k + 1) t) (part-is c inputs g size is) full
 
--- a payslip's parts
-module _ (p c : ℕ) (inputs : List ℕ) (start : List Step) (taken : List ℕ) (before : List Step) where
-  next-begins : (g : ℕ) → Begins (parts p c inputs start taken before g .steps) (parts p c inputs start taken before (suc g) .steps)
-  next-begins g = times-begins p (parts p c inputs start taken before g) _
+-- a payslip's parts by their numbers
+module _ (p c : ℕ) (inputs : List ℕ) (start : List Step) (number : ℕ → ℕ) (before : List Step) where
+  next-begins : (g : ℕ) → Begins (partsBy p c inputs start number before g .steps) (partsBy p c inputs start number before (suc g) .steps)
+  next-begins g = times-begins p (partsBy p c inputs start number before g) _
 
-  pub parts-begin : (g G : ℕ) → g ≤ G → Begins (parts p c inputs start taken before g .steps) (parts p c inputs start taken before G .steps)
-  parts-begin = begins-rise (λ g. parts p c inputs start taken before g .steps) next-begins
+  pub parts-begin : (g G : ℕ) → g ≤ G → Begins (partsBy p c inputs start number before g .steps) (partsBy p c inputs start number before G .steps)
+  parts-begin = begins-rise (λ g. partsBy p c inputs start number before g .steps) next-begins
 
-  module _ (old cells : List ℕ) (m v g first t y : ℕ) (e : Emitted old cells m v (parts p c inputs start taken before g)) (long : length start ≡ first)
-      (inside : g * c ≤ length inputs) (is : t ≡ weigh (group c g taken)) (value : y ≡ entry 1 (group c g inputs) (p + first + g * (2 ^ c - c - 1) + 1) t) where
-    next : times p (parts p c inputs start taken before g) y ≡ parts p c inputs start taken before (suc g)
+  module _ (old cells : List ℕ) (m v g first y : ℕ) (e : Emitted old cells m v (partsBy p c inputs start number before g)) (long : length start ≡ first)
+      (inside : g * c ≤ length inputs) (value : y ≡ entry 1 (group c g inputs) (p + first + g * (2 ^ c - c - 1) + 1) (number g)) where
+    next : times p (partsBy p c inputs start number before g) y ≡ partsBy p c inputs start number before (suc g)
     next =
         let at : p + first + g * (2 ^ c - c - 1) + 1 ≡ p + length (groupTables p c inputs start g) + 1 = omega (arith, tables-full p c inputs start g inside) in
-        ap (times p (parts p c inputs start taken before g)) (value ∙ ap₂ (λ (k x : ℕ). entry 1 (group c g inputs) k x) at is)
+        ap (times p (partsBy p c inputs start number before g)) (value ∙ ap (λ (k : ℕ). entry 1 (group c g inputs) k (number g)) at)
 
-    pub part-room : (n G : ℕ) → Room p old n (parts p c inputs start taken before G .steps) → g < G → Room p cells m (times p (made (stepsIn cells m) v) y .steps)
+    pub part-room : (n G : ℕ) → Room p old n (partsBy p c inputs start number before G .steps) → g < G → Room p cells m (times p (made (stepsIn cells m) v) y .steps)
     part-room n G room h = emits-room room (λ r. times p r y) e (times-begins p _ y) (rw next (parts-begin (suc g) G h))
 
     pub part-on : (cells′ : List ℕ) (m′ v′ : ℕ) → Emitted cells cells′ m′ v′ (times p (made (stepsIn cells m) v) y)
-        → Emitted old cells′ m′ v′ (parts p c inputs start taken before (g + 1))
+        → Emitted old cells′ m′ v′ (partsBy p c inputs start number before (g + 1))
     part-on cells′ m′ v′ f = rw (add-one g, ← next) (emits-on (λ r. times p r y) e (times-begins p _ y) f)
 
-  pub parts-end : (old cells : List ℕ) (m v g G : ℕ) → Emitted old cells m v (parts p c inputs start taken before g) → G ≡ groupCount c (length inputs) → g ≤ G → G ≤ g
-      → Emitted old cells m v (parts p c inputs start taken before (groupCount c (length inputs)))
-  parts-end old cells m v g G e is h k = let last : groupCount c (length inputs) ≡ g = omega arith in rw last e
-
--- a part's number is below that of its group's parts
-pub weigh-fits : (c g : ℕ) (inputs : List ℕ) (x : ℕ) → c ≤ 8 → x < 2 ^ (1 * length (group c g inputs)) → x < 2 ^ 32
-weigh-fits c g inputs x few h = omega (arith, group-parts c g inputs few)
+  pub parts-end : (old cells : List ℕ) (m v g G : ℕ) → Emitted old cells m v (partsBy p c inputs start number before g) → g ≤ G → G ≤ g
+      → Emitted old cells m v (partsBy p c inputs start number before G)
+  parts-end old cells m v g G e h k = let last : G ≡ g = omega arith in rw last e

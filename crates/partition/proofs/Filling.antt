@@ -7,10 +7,8 @@ use native.Mathlib.Omega.{arith}
 use lib.ListN.{length, getD, set}
 use Rattle.chain.specs.Written.{over, laid}
 use Rattle.chain.proofs.Written.{laid-nil, laid-one, laid-laid, laid-length, over-laid}
-use Rattle.digits.specs.Digits.{digit}
 use Rattle.digits.specs.Range.{sumTo}
 use Rattle.digits.proofs.Range.{sum-more}
-use Rattle.sheet.specs.Sheet.{amount}
 use Rattle.methods.specs.Powers.{countsOf, powerAt, powerOf}
 use Rattle.partition.specs.Partition.{columnBits, powersOf, overInputs}
 use Rattle.partition.proofs.Inputs.{length-powers, length-over}
@@ -22,7 +20,7 @@ laid-next s l old m x is h =
     sym (sym (laid-laid s m l (x ∷ []) old is (omega arith)) ∙ sym (laid-one m x [] (laid s l old) (omega arith)) ∙ laid-nil (m + 1) _)
 
 -- the number at place j of a list
-filled-on : (f : ℕ → ℕ) (s j x : ℕ) (old cells : List ℕ) → x ≡ f j → s + j < length old → cells ≡ laid s (powersOf j f) old
+pub filled-on : (f : ℕ → ℕ) (s j x : ℕ) (old cells : List ℕ) → x ≡ f j → s + j < length old → cells ≡ laid s (powersOf j f) old
     → set cells (s + j) x ≡ laid s (powersOf (j + 1) f) old
 filled-on f s j x old cells is h e =
     rw (add-one j, e, is) (laid-next s (powersOf j f) old (s + j) (f j) (omega (arith, length-powers j f)) h)
@@ -45,15 +43,6 @@ module _ (p q : ℕ) (amounts : List ℕ) (less : ℕ) (old : List ℕ) where
 
   pub measure-end : (col : ℕ) (cells : List ℕ) → cells ≡ over (measured col) old → col ≤ p → p ≤ col → cells ≡ over (measured p) old
   measure-end col cells e h g = let last : col ≡ p = omega arith in e ∙ ap (λ (n : ℕ). over (measured n) old) last
-
--- the low bits of an amount
-module _ (x s : ℕ) (old : List ℕ) where
-  pub bit-on : (n j d : ℕ) (cells : List ℕ) → d ≡ digit 1 x j → j < n → s + n ≤ length old → cells ≡ laid s (powersOf j (digit 1 x)) old
-      → set cells (s + j) d ≡ laid s (powersOf (j + 1) (digit 1 x)) old
-  bit-on n j d cells is h g e = filled-on (digit 1 x) s j d old cells is (omega arith) e
-
-  pub bits-end : (n j : ℕ) (cells : List ℕ) → j ≤ n → n ≤ j → cells ≡ laid s (powersOf j (digit 1 x)) old → cells ≡ laid s (powersOf n (digit 1 x)) old
-  bits-end n j cells h g e = let last : n ≡ j = omega arith in rw last e
 
 -- a column's numbers after those of the columns before
 columns-on : (bits : ℕ → ℕ) (f : ℕ → ℕ → ℕ) (col s : ℕ) (old cells cells′ : List ℕ) → s ≡ sumTo col bits
@@ -78,19 +67,6 @@ module _ (bits : List ℕ) (p col s : ℕ) (is : s ≡ sumTo col (countsOf bits)
 
   pub column-on : s + getD bits col 0 ≡ sumTo (col + 1) (countsOf bits)
   column-on = rw (add-one col) (ap (λ (n : ℕ). n + getD bits col 0) is)
-
--- which inputs payslip i takes
-module _ (p : ℕ) (amounts bits : List ℕ) (i : ℕ) (old : List ℕ) where
-  abbrev pub takenTo : ℕ → List ℕ
-  takenTo n = overInputs (countsOf bits) (λ col j. digit 1 (amount p amounts i col) j) n
-
-  pub taken-on : (col s x : ℕ) (cells cells′ : List ℕ) → s ≡ sumTo col (countsOf bits) → x ≡ amount p amounts i col
-      → cells ≡ over (takenTo col) old → cells′ ≡ laid s (powersOf (getD bits col 0) (digit 1 x)) cells → cells′ ≡ over (takenTo (col + 1)) old
-  taken-on col s x cells cells′ is number e g =
-      columns-on (countsOf bits) (λ col j. digit 1 (amount p amounts i col) j) col s old cells cells′ is e (rw (← number) g)
-
-  pub taken-end : (col : ℕ) (cells : List ℕ) → cells ≡ over (takenTo col) old → col ≤ p → p ≤ col → cells ≡ over (takenTo p) old
-  taken-end col cells e h g = let last : col ≡ p = omega arith in e ∙ ap (λ (n : ℕ). over (takenTo n) old) last
 
 -- the numbers of a column's powers
 module _ (col first s : ℕ) (old : List ℕ) where

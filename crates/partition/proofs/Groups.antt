@@ -43,7 +43,7 @@ reached-all c w some =
     omega arith
 
 -- the number of a part of a group has the part's bits for digits
-weigh-vector : (l : List ℕ) → weigh l ≡ vector 1 (λ j. getD l j 0) (length l)
+pub weigh-vector : (l : List ℕ) → weigh l ≡ vector 1 (λ j. getD l j 0) (length l)
 weigh-vector [] = refl
 weigh-vector (b ∷ l) =
     let n : ℕ = length l in

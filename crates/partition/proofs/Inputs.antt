@@ -1,6 +1,6 @@
 -- Lists over the inputs: column by column, low power first. Which input stands at a place, and sums over all inputs.
-use mathlib.Core.Path.{_≡_, refl, ap, ap₂, _∙_}
-use mathlib.Core.List.{List, [], _∷_, _++_}
+use mathlib.Core.Path.{_≡_, refl, sym, ap, ap₂, _∙_}
+use mathlib.Core.List.{List, [], _∷_, _++_, append-assoc, append-nil}
 use Prim.Native.Nat.{ℕ, zero, suc, _+_, _-_, _≤_, _<_}
 use native.Mathlib.Decide.{decLt}
 use native.Mathlib.Omega.{arith}
@@ -24,9 +24,20 @@ getD-powers (suc n) f j h = by-place (getD-powers n f j) (decLt j n)
         let last : j ≡ n = omega arith in
         rw last (getD-at (powersOf n f) (f n) [] 0 n (length-powers n f))
 
-pub powers-same : (n : ℕ) (f g : ℕ → ℕ) → ((j : ℕ) → f j ≡ g j) → powersOf n f ≡ powersOf n g
+pub powers-same : (n : ℕ) (f g : ℕ → ℕ) → ((j : ℕ) → j < n → f j ≡ g j) → powersOf n f ≡ powersOf n g
 powers-same zero f g e = refl
-powers-same (suc n) f g e = ap₂ (λ (l : List ℕ) (x : ℕ). l ++ x ∷ []) (powers-same n f g e) (e n)
+powers-same (suc n) f g e = ap₂ (λ (l : List ℕ) (x : ℕ). l ++ x ∷ []) (powers-same n f g (λ j h. e j (omega arith))) (e n (omega arith))
+
+-- the first m numbers, then n more
+pub powers-split : (m n : ℕ) (f : ℕ → ℕ) → powersOf (m + n) f ≡ powersOf m f ++ powersOf n (λ j. f (m + j))
+powers-split m zero f =
+    let e : m + 0 ≡ m = omega arith in
+    ap (λ (k : ℕ). powersOf k f) e ∙ sym (append-nil (powersOf m f))
+powers-split m (suc n) f =
+    let e : m + suc n ≡ suc (m + n) = omega arith in
+    ap (λ (k : ℕ). powersOf k f) e
+    ∙ ap (λ (l : List ℕ). l ++ f (m + n) ∷ []) (powers-split m n f)
+    ∙ append-assoc (powersOf m f) (powersOf n (λ j. f (m + j))) (f (m + n) ∷ [])
 
 -- lists over inputs that agree in every column
 pub over-same : (bits bits′ : ℕ → ℕ) (f g : ℕ → ℕ → ℕ) (n : ℕ) → ((col : ℕ) → col < n → bits col ≡ bits′ col)
@@ -34,7 +45,7 @@ pub over-same : (bits bits′ : ℕ → ℕ) (f g : ℕ → ℕ → ℕ) (n : �
 over-same bits bits′ f g zero e h = refl
 over-same bits bits′ f g (suc n) e h =
     ap₂ _++_ (over-same bits bits′ f g n (λ col k. e col (omega arith)) (λ col j k. h col j (omega arith)))
-    (ap (λ (m : ℕ). powersOf m (f n)) (e n (omega arith)) ∙ powers-same (bits′ n) (f n) (g n) (λ j. h n j (omega arith)))
+    (ap (λ (m : ℕ). powersOf m (f n)) (e n (omega arith)) ∙ powers-same (bits′ n) (f n) (g n) (λ j k. h n j (omega arith)))
 
 module _ (bits : ℕ → ℕ) where
   pub length-over : (f : ℕ → ℕ → ℕ) (n : ℕ) → length (overInputs bits f n) ≡ sumTo n bits

@@ -6,6 +6,7 @@ pub mod Members
 pub mod Partition
 pub mod Counting
 pub mod Filling
+pub mod Rows
 pub mod Taking
 pub mod Emitting
 pub mod Paying

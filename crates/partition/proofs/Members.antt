@@ -109,13 +109,14 @@ module _ (p q : ℕ) (amounts : List ℕ) where
       let most = max-low q (λ i. amount p amounts i d) mostAmount (λ i h. low (i * p + d)) in
       low-bits (largestIn p q amounts d) 32 (omega arith)
 
+  -- and so has each amount
+  pub amount-fits : (i d : ℕ) → i < q → amount p amounts i d < 2 ^ bits d
+  amount-fits i d h = lt-of-le-of-lt (le-max q (λ i. amount p amounts i d) i h) (column-fits d)
+
   -- what a payslip takes is its amount
   pub taken-sum : (i d : ℕ) → i < q → d < p → sumTo (inputCount p q amounts) (λ j. getD (taken p q amounts i) j 0 * exponentIn j d) ≡ amount p amounts i d
   unfolding taken
   taken-sum i d h g =
       one-column (λ col j. digit 1 (amount p amounts i col) j) d g
       ∙ sum-same (bits d) _ _ (λ j k. ap (λ (e : ℕ). digit 1 (amount p amounts i d) j * 2 ^ e) (sym (one-mul j)))
-      ∙ vector-own 1 (amount p amounts i d) (bits d) (rw (one-mul (bits d)) fits)
-    where
-      fits : amount p amounts i d < 2 ^ bits d
-      fits = lt-of-le-of-lt (le-max q (λ i. amount p amounts i d) i h) (column-fits d)
+      ∙ vector-own 1 (amount p amounts i d) (bits d) (rw (one-mul (bits d)) (amount-fits i d h))

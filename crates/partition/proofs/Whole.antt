@@ -39,18 +39,18 @@ module _ (p q : ℕ) (amounts : List ℕ) where
     measured-long less e = sym (ap length (measured-is less e) ∙ length-powers p _)
 
     pub bits-are : cells ≡ over (measured p q amounts 0 old p) old → take p cells ≡ powersOf p (columnBits p q amounts)
-    bits-are e = measured-is 0 e ∙ powers-same p _ _ (λ col. omega arith)
+    bits-are e = measured-is 0 e ∙ powers-same p _ _ (λ col h. omega arith)
 
   pub inputs-told : (w : ℕ) → w ≡ bitsTo p q amounts 0 p → w ≡ inputCount p q amounts
   inputs-told w e = e ∙ sum-same p _ _ (λ col h. omega arith)
 
   -- the squarings, the tables and the payslips
-  pub count-all : (c w a b r : ℕ) → w ≡ bitsTo p q amounts 0 p → a ≡ bitsTo p q amounts 1 p → b ≡ tablesTo c w (groupCount c w) → r ≡ joinsTo p q amounts c w q
-      → a + b + r ≡ partitionCount p q amounts c
+  pub count-all : (c w groups a b r : ℕ) → w ≡ bitsTo p q amounts 0 p → groups ≡ groupCount c w → a ≡ bitsTo p q amounts 1 p → b ≡ tablesTo c w (groupCount c w)
+      → r ≡ joinsTo p q amounts c groups q → a + b + r ≡ partitionCount p q amounts c
   unfolding partitionCount
-  count-all c w a b r all squarings tables joins =
-      ap₂ _+_ (ap₂ _+_ squarings tables) joins
-      ∙ ap (λ (n : ℕ). bitsTo p q amounts 1 p + tablesTo c n (groupCount c n) + joinsTo p q amounts c n q) (inputs-told w all)
+  count-all c w groups a b r all grouped squarings tables joins =
+      ap₂ _+_ (ap₂ _+_ squarings tables) (joins ∙ ap (λ (g : ℕ). joinsTo p q amounts c g q) grouped)
+      ∙ ap (λ (n : ℕ). bitsTo p q amounts 1 p + tablesTo c n (groupCount c n) + joinsTo p q amounts c (groupCount c n) q) (inputs-told w all)
 
   -- how often each column is squared, in a slice
   module _ (counts : List ℕ) (is : counts ≡ powersOf p (columnSquarings p q amounts)) where

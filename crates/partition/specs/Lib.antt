@@ -1,1 +1,2 @@
 pub mod Partition
+pub mod Bits

@@ -1,6 +1,6 @@
 // Method 3: partition.
 ghost use mathlib.Core.Path.{_≡_};
-ghost use Prim.Native.Nat.{ℕ, _+_, _-_, _*_, _^_, _≤_, _<_};
+ghost use Prim.Native.Nat.{ℕ, _+_, _-_, _*_, _%_, _^_, _≤_, _<_};
 ghost use lib.ListN.{length, getD};
 ghost use Rattle.chain.specs.Chain.{mostColumns, mostPayslips, mostSteps, flat};
 ghost use Rattle.chain.specs.Written.{over, laid};
@@ -12,7 +12,15 @@ ghost use Rattle.methods.specs.Product.{payslips};
 ghost use Rattle.methods.specs.Table.{entry};
 ghost use Rattle.methods.specs.Emitted.{stepsIn, Room, Stored, Emitted};
 ghost use Rattle.partition.specs.Partition.{columnBits, columnSquarings, powersOf, overInputs, inputs, taken, inputCount, group, groupCount, groupSize, weigh, groupTables, parts, partition, squaringCount, partitionCount};
+ghost use Rattle.partition.specs.Bits.{Cut, Entered, numbersOf, partsBy};
 use methods::PartialProduct;
+
+// A payslip's bits in a row that are not yet cut into parts: their number, how many they are, and the group of the next part.
+pub struct Row {
+    pub bits: u64,
+    pub held: usize,
+    pub g: usize,
+}
 
 // The bits of the largest amount of column col, less some.
 fn column_bits(p: usize, q: usize, amounts: &[u32], less: usize, col: usize) -> usize
@@ -95,31 +103,101 @@ fn tables_count(c: usize, w: usize) -> usize
     n
 }
 
-// The number of a payslip's part of group g.
-fn part(c: usize, taken: &[u32], g: usize) -> u32
-    requires { ⌜ (g * c ≤ length (now taken)) × (weigh (group c g (now taken)) < 2 ^ 32) ⌝ }
-    ensures { λ r. ⌜ r ≡ weigh (group c g (now (taken .entry))) ⌝ }
+// x behind so many bits.
+fn behind(x: u32, held: usize) -> u64
+    requires { ⌜ held < 8 ⌝ }
+    ensures { λ r. ⌜ (r ≡ x * 2 ^ held) × (r < 2 ^ 40) ⌝ }
 {
-    let size = group_size(c, taken.len(), g);
-    let mut t: u32 = 0;
-    let mut j: usize = 0;
-    while j < size {
-        t = taken[g * c + (size - (j + 1))] + 2 * t;
-        j += 1;
-    }
-    t
+    (x as u64) << held
 }
 
-// The steps of a payslip: its nonempty parts less 1.
-fn joins(c: usize, taken: &[u32]) -> usize
-    requires { ⌜ (1 ≤ c) × (c ≤ 8) × (length (now taken) ≤ 512) × ((g : ℕ) → weigh (group c g (now taken)) < 2 ^ 32) ⌝ }
-    ensures { λ r. ⌜ (r ≡ sumTo (groupCount c (length (now (taken .entry)))) (λ g. sign (weigh (group c g (now (taken .entry))))) - 1) × (r ≤ 519) ⌝ }
+// The number of the first c bits of a row.
+fn front(c: usize, bits: u64) -> u32
+    requires { ⌜ c ≤ 8 ⌝ }
+    ensures { λ r. ⌜ r ≡ bits % 2 ^ c ⌝ }
 {
-    let groups = group_count(c, taken.len());
+    (bits % (1u64 << c)) as u32
+}
+
+// The parts of c bits cut off a row as long as it has so many, each into the cell of its group.
+fn cut_parts(c: usize, row: Row, cells: &mut [u32]) -> Row
+    requires { ⌜ (1 ≤ c) × (c ≤ 8) × (row .g + row .held ≤ length (now cells)) ⌝ }
+    ensures { λ r. ⌜ (r .held < c) × Cut c (row .bits) (row .held) (row .g) (r .bits) (r .held) (r .g) (now (cells .entry)) (now (cells .exit)) ⌝ }
+{
+    let mut r = row;
+    while c <= r.held {
+        let g = r.g;
+        cells[g] = front(c, r.bits);
+        r = Row {
+            bits: r.bits >> c,
+            held: r.held - c,
+            g: g + 1,
+        };
+    }
+    r
+}
+
+// The columns of payslip i one after the other in a row, and its whole parts cut off.
+fn enter_columns(
+    p: usize,
+    q: usize,
+    amounts: &[u32],
+    bits: &[u32],
+    c: usize,
+    i: usize,
+    cells: &mut [u32],
+) -> Row
+    requires { ⌜ (1 ≤ c) × (c ≤ 8) × (p ≤ mostColumns) × (i < q) × (length (now amounts) ≡ p * q) × (now bits ≡ powersOf p (columnBits p q (now amounts))) × (512 ≤ length (now cells)) ⌝ }
+    ensures { λ r. ⌜ Entered p q (now (amounts .entry)) c i p (r .bits) (r .held) (r .g) (now (cells .entry)) (now (cells .exit)) ⌝ }
+{
+    let mut r = Row {
+        bits: 0,
+        held: 0,
+        g: 0,
+    };
+    let mut col: usize = 0;
+    while col < p {
+        let x = behind(sheet::amount(p, amounts, i, col), r.held);
+        let row = Row {
+            bits: r.bits + x,
+            held: r.held + bits[col] as usize,
+            g: r.g,
+        };
+        r = cut_parts(c, row, cells);
+        col += 1;
+    }
+    r
+}
+
+// The numbers of payslip i's parts, group by group.
+fn number_parts(
+    p: usize,
+    q: usize,
+    amounts: &[u32],
+    bits: &[u32],
+    c: usize,
+    i: usize,
+    cells: &mut [u32],
+)
+    requires { ⌜ (1 ≤ c) × (c ≤ 8) × (p ≤ mostColumns) × (i < q) × (length (now amounts) ≡ p * q) × (now bits ≡ powersOf p (columnBits p q (now amounts))) × (512 ≤ length (now cells)) ⌝ }
+    ensures { λ r. ⌜ now (cells .exit) ≡ over (numbersOf c (groupCount c (inputCount p q (now (amounts .entry)))) (taken p q (now (amounts .entry)) i)) (now (cells .entry)) ⌝ }
+{
+    let r = enter_columns(p, q, amounts, bits, c, i, cells);
+    let g = r.g;
+    if r.held != 0 {
+        cells[g] = r.bits as u32;
+    }
+}
+
+// The steps of a payslip with these parts: those that are not empty less 1.
+fn joins(numbers: &[u32]) -> usize
+    requires { ⌜ length (now numbers) ≤ 512 ⌝ }
+    ensures { λ r. ⌜ (r ≡ sumTo (length (now (numbers .entry))) (λ g. sign (countsOf (now (numbers .entry)) g)) - 1) × (r ≤ 512) ⌝ }
+{
     let mut n: usize = 0;
     let mut g: usize = 0;
-    while g < groups {
-        n += digits::sign(part(c, taken, g));
+    while g < numbers.len() {
+        n += digits::sign(numbers[g]);
         g += 1;
     }
     if n == 0 {
@@ -128,60 +206,41 @@ fn joins(c: usize, taken: &[u32]) -> usize
     n - 1
 }
 
-// The low n bits of x from cell s on.
-fn take_column(x: u32, n: usize, s: usize, cells: &mut [u32])
-    requires { ⌜ (n ≤ 32) × (s + n ≤ length (now cells)) ⌝ }
-    ensures { λ r. ⌜ now (cells .exit) ≡ laid s (powersOf n (digit 1 x)) (now (cells .entry)) ⌝ }
-{
-    let mut j: usize = 0;
-    while j < n {
-        cells[s + j] = digits::digit(1, x, j);
-        j += 1;
-    }
-}
-
-// Which inputs payslip i takes.
-fn take_inputs(p: usize, amounts: &[u32], bits: &[u32], i: usize, cells: &mut [u32])
-    requires { ⌜ (p ≤ mostColumns) × (i * p + p ≤ length (now amounts)) × (p ≤ length (now bits)) × ((col : ℕ) → getD (now bits) col 0 ≤ 32) × (sumTo p (countsOf (now bits)) ≤ 512) × (512 ≤ length (now cells)) ⌝ }
-    ensures { λ r. ⌜ now (cells .exit) ≡ over (overInputs (countsOf (now (bits .entry))) (λ col j. digit 1 (amount p (now (amounts .entry)) i col) j) p) (now (cells .entry)) ⌝ }
-{
-    let mut s: usize = 0;
-    let mut col: usize = 0;
-    while col < p {
-        let n = bits[col] as usize;
-        take_column(sheet::amount(p, amounts, i, col), n, s, cells);
-        s += n;
-        col += 1;
-    }
-}
-
-// The steps of payslip i of w inputs.
+// The steps of payslip i.
 fn payslip_count(
     p: usize,
     q: usize,
     amounts: &[u32],
     bits: &[u32],
     c: usize,
-    w: usize,
+    groups: usize,
     i: usize,
+    cells: &mut [u32],
 ) -> usize
-    requires { ⌜ (1 ≤ c) × (c ≤ 8) × (p ≤ mostColumns) × (i < q) × (length (now amounts) ≡ p * q) × (now bits ≡ powersOf p (columnBits p q (now amounts))) × (w ≡ inputCount p q (now amounts)) ⌝ }
-    ensures { λ r. ⌜ (r ≡ sumTo (groupCount c w) (λ g. sign (weigh (group c g (taken p q (now (amounts .entry)) i)))) - 1) × (r ≤ 519) ⌝ }
+    requires { ⌜ (1 ≤ c) × (c ≤ 8) × (p ≤ mostColumns) × (i < q) × (length (now amounts) ≡ p * q) × (now bits ≡ powersOf p (columnBits p q (now amounts))) × (groups ≡ groupCount c (inputCount p q (now amounts))) × (groups ≤ 512) × (512 ≤ length (now cells)) ⌝ }
+    ensures { λ r. ⌜ (r ≡ sumTo groups (λ g. sign (weigh (group c g (taken p q (now (amounts .entry)) i)))) - 1) × (r ≤ 512) ⌝ }
 {
-    let mut cells = [0u32; 512];
-    take_inputs(p, amounts, bits, i, &mut cells);
-    joins(c, &cells[..w])
+    number_parts(p, q, amounts, bits, c, i, cells);
+    joins(&cells[..groups])
 }
 
-// The steps of the payslips of w inputs.
-fn payslips_count(p: usize, q: usize, amounts: &[u32], bits: &[u32], c: usize, w: usize) -> usize
-    requires { ⌜ (1 ≤ c) × (c ≤ 8) × (p ≤ mostColumns) × (q ≤ mostPayslips) × (length (now amounts) ≡ p * q) × (now bits ≡ powersOf p (columnBits p q (now amounts))) × (w ≡ inputCount p q (now amounts)) ⌝ }
-    ensures { λ r. ⌜ (r ≡ sumTo q (λ i. sumTo (groupCount c w) (λ g. sign (weigh (group c g (taken p q (now (amounts .entry)) i)))) - 1)) × (r ≤ 519 * q) ⌝ }
+// The steps of the payslips; the cells are for the numbers of a payslip's parts.
+fn payslips_count(
+    p: usize,
+    q: usize,
+    amounts: &[u32],
+    bits: &[u32],
+    c: usize,
+    groups: usize,
+    cells: &mut [u32],
+) -> usize
+    requires { ⌜ (1 ≤ c) × (c ≤ 8) × (p ≤ mostColumns) × (q ≤ mostPayslips) × (length (now amounts) ≡ p * q) × (now bits ≡ powersOf p (columnBits p q (now amounts))) × (groups ≡ groupCount c (inputCount p q (now amounts))) × (groups ≤ 512) × (512 ≤ length (now cells)) ⌝ }
+    ensures { λ r. ⌜ (r ≡ sumTo q (λ i. sumTo groups (λ g. sign (weigh (group c g (taken p q (now (amounts .entry)) i)))) - 1)) × (r ≤ 512 * q) ⌝ }
 {
     let mut n: usize = 0;
     let mut i: usize = 0;
     while i < q {
-        n += payslip_count(p, q, amounts, bits, c, w, i);
+        n += payslip_count(p, q, amounts, bits, c, groups, i, cells);
         i += 1;
     }
     n
@@ -196,7 +255,9 @@ pub fn count(p: usize, q: usize, amounts: &[u32], c: usize) -> usize
     measure_columns(p, q, amounts, 0, &mut bits);
     let w = column_sum(p, q, amounts, 0);
     let n = column_sum(p, q, amounts, 1) + tables_count(c, w);
-    n + payslips_count(p, q, amounts, &bits[..p], c, w)
+    let groups = group_count(c, w);
+    let mut cells = [0u32; 512];
+    n + payslips_count(p, q, amounts, &bits[..p], c, groups, &mut cells)
 }
 
 // The numbers of the first n powers of a column, from cell s on.
@@ -257,32 +318,31 @@ fn part_value(p: usize, c: usize, inputs: &[u32], first: usize, g: usize, t: u32
     methods::entry(1, &inputs[from..end], at as u32, t)
 }
 
-// A payslip's parts, multiplied in order.
+// The parts of a payslip with these numbers, multiplied in order.
 fn make_parts(
     p: usize,
     c: usize,
     inputs: &[u32],
     first: usize,
-    taken: &[u32],
+    numbers: &[u32],
     n: usize,
     steps: &mut [u32],
 ) -> PartialProduct
-    requires { ⌜ (p ≤ mostColumns) × (1 ≤ c) × (c ≤ 8) × (length (now inputs) ≤ 512) × (length (now taken) ≡ length (now inputs)) × (first ≤ mostSteps) × (2 * first ≤ length (now steps)) × ((g : ℕ) → weigh (group c g (now taken)) < 2 ^ (1 * length (group c g (now inputs)))) ⌝ }
-    requires { ⌜ Room p (now steps) n (parts p c (now inputs) (stepsIn (now steps) first) (now taken) (stepsIn (now steps) n) (groupCount c (length (now inputs))) .steps) ⌝ }
-    ensures { λ r. ⌜ Emitted (now (steps .entry)) (now (steps .exit)) (r .n) (r .value) (parts p c (now (inputs .entry)) (stepsIn (now (steps .entry)) first) (now (taken .entry)) (stepsIn (now (steps .entry)) n) (groupCount c (length (now (inputs .entry))))) ⌝ }
+    requires { ⌜ (p ≤ mostColumns) × (1 ≤ c) × (c ≤ 8) × (length (now inputs) ≤ 512) × (length (now numbers) ≡ groupCount c (length (now inputs))) × (first ≤ mostSteps) × (2 * first ≤ length (now steps)) × ((g : ℕ) → g < length (now numbers) → countsOf (now numbers) g < 2 ^ (1 * length (group c g (now inputs)))) ⌝ }
+    requires { ⌜ Room p (now steps) n (partsBy p c (now inputs) (stepsIn (now steps) first) (countsOf (now numbers)) (stepsIn (now steps) n) (length (now numbers)) .steps) ⌝ }
+    ensures { λ r. ⌜ Emitted (now (steps .entry)) (now (steps .exit)) (r .n) (r .value) (partsBy p c (now (inputs .entry)) (stepsIn (now (steps .entry)) first) (countsOf (now (numbers .entry))) (stepsIn (now (steps .entry)) n) (length (now (numbers .entry)))) ⌝ }
 {
-    let groups = group_count(c, inputs.len());
     let mut r = PartialProduct { n: n, value: 0 };
     let mut g: usize = 0;
-    while g < groups {
-        let y = part_value(p, c, inputs, first, g, part(c, taken, g));
+    while g < numbers.len() {
+        let y = part_value(p, c, inputs, first, g, numbers[g]);
         r = methods::times(p, r, y, steps);
         g += 1;
     }
     r
 }
 
-// Payslip i after n steps.
+// Payslip i after n steps; the cells are for the numbers of its parts.
 fn make_payslip(
     p: usize,
     q: usize,
@@ -291,17 +351,18 @@ fn make_payslip(
     c: usize,
     members: &[u32],
     first: usize,
+    groups: usize,
     i: usize,
     n: usize,
+    cells: &mut [u32],
     steps: &mut [u32],
 ) -> PartialProduct
-    requires { ⌜ (1 ≤ c) × (c ≤ 8) × (p ≤ mostColumns) × (length (now amounts) ≡ p * q) × (now bits ≡ powersOf p (columnBits p q (now amounts))) × (now members ≡ inputs p q (now amounts)) × (first ≡ squaringCount p q (now amounts)) × (2 * first ≤ length (now steps)) × (i < q) ⌝ }
+    requires { ⌜ (1 ≤ c) × (c ≤ 8) × (p ≤ mostColumns) × (length (now amounts) ≡ p * q) × (now bits ≡ powersOf p (columnBits p q (now amounts))) × (now members ≡ inputs p q (now amounts)) × (first ≡ squaringCount p q (now amounts)) × (2 * first ≤ length (now steps)) × (i < q) × (groups ≡ groupCount c (inputCount p q (now amounts))) × (groups ≤ 512) × (512 ≤ length (now cells)) ⌝ }
     requires { ⌜ Room p (now steps) n (parts p c (inputs p q (now amounts)) (squarings p (columnSquarings p q (now amounts)) p) (taken p q (now amounts) i) (stepsIn (now steps) n) (groupCount c (inputCount p q (now amounts))) .steps) ⌝ }
     ensures { λ r. ⌜ Emitted (now (steps .entry)) (now (steps .exit)) (r .n) (r .value) (parts p c (inputs p q (now (amounts .entry))) (squarings p (columnSquarings p q (now (amounts .entry))) p) (taken p q (now (amounts .entry)) i) (stepsIn (now (steps .entry)) n) (groupCount c (inputCount p q (now (amounts .entry))))) ⌝ }
 {
-    let mut cells = [0u32; 512];
-    take_inputs(p, amounts, bits, i, &mut cells);
-    make_parts(p, c, members, first, &cells[..members.len()], n, steps)
+    number_parts(p, q, amounts, bits, c, i, cells);
+    make_parts(p, c, members, first, &cells[..groups], n, steps)
 }
 
 // The payslips in order after n steps: their steps, and their products as outputs.
@@ -313,11 +374,13 @@ fn make_payslips(
     c: usize,
     members: &[u32],
     first: usize,
+    groups: usize,
     n: usize,
+    cells: &mut [u32],
     steps: &mut [u32],
     outputs: &mut [u32],
 )
-    requires { ⌜ (1 ≤ c) × (c ≤ 8) × (p ≤ mostColumns) × (length (now amounts) ≡ p * q) × (now bits ≡ powersOf p (columnBits p q (now amounts))) × (now members ≡ inputs p q (now amounts)) × (first ≡ squaringCount p q (now amounts)) × (2 * first ≤ length (now steps)) × (q ≤ length (now outputs)) ⌝ }
+    requires { ⌜ (1 ≤ c) × (c ≤ 8) × (p ≤ mostColumns) × (length (now amounts) ≡ p * q) × (now bits ≡ powersOf p (columnBits p q (now amounts))) × (now members ≡ inputs p q (now amounts)) × (first ≡ squaringCount p q (now amounts)) × (2 * first ≤ length (now steps)) × (q ≤ length (now outputs)) × (groups ≡ groupCount c (inputCount p q (now amounts))) × (groups ≤ 512) × (512 ≤ length (now cells)) ⌝ }
     requires { ⌜ Room p (now steps) n (payslips (λ i before. parts p c (inputs p q (now amounts)) (squarings p (columnSquarings p q (now amounts)) p) (taken p q (now amounts) i) before (groupCount c (inputCount p q (now amounts)))) (stepsIn (now steps) n) q .steps) ⌝ }
     ensures { λ r. ⌜ now (steps .exit) ≡ over (flat (payslips (λ i before. parts p c (inputs p q (now (amounts .entry))) (squarings p (columnSquarings p q (now (amounts .entry))) p) (taken p q (now (amounts .entry)) i) before (groupCount c (inputCount p q (now (amounts .entry))))) (stepsIn (now (steps .entry)) n) q .steps)) (now (steps .entry)) ⌝ }
     ensures { λ r. ⌜ now (outputs .exit) ≡ over (payslips (λ i before. parts p c (inputs p q (now (amounts .entry))) (squarings p (columnSquarings p q (now (amounts .entry))) p) (taken p q (now (amounts .entry)) i) before (groupCount c (inputCount p q (now (amounts .entry))))) (stepsIn (now (steps .entry)) n) q .outputs) (now (outputs .entry)) ⌝ }
@@ -325,7 +388,20 @@ fn make_payslips(
     let mut s = n;
     let mut i: usize = 0;
     while i < q {
-        let r = make_payslip(p, q, amounts, bits, c, members, first, i, s, steps);
+        let r = make_payslip(
+            p,
+            q,
+            amounts,
+            bits,
+            c,
+            members,
+            first,
+            groups,
+            i,
+            s,
+            cells,
+            steps,
+        );
         s = r.n;
         outputs[i] = r.value;
         i += 1;
@@ -341,17 +417,32 @@ fn make_chain(
     counts: &[u32],
     c: usize,
     members: &[u32],
+    cells: &mut [u32],
     steps: &mut [u32],
     outputs: &mut [u32],
 )
-    requires { ⌜ (1 ≤ c) × (c ≤ 8) × (p ≤ mostColumns) × (length (now amounts) ≡ p * q) × (now bits ≡ powersOf p (columnBits p q (now amounts))) × (now members ≡ inputs p q (now amounts)) × (now counts ≡ powersOf p (columnSquarings p q (now amounts))) ⌝ }
+    requires { ⌜ (1 ≤ c) × (c ≤ 8) × (p ≤ mostColumns) × (length (now amounts) ≡ p * q) × (now bits ≡ powersOf p (columnBits p q (now amounts))) × (now members ≡ inputs p q (now amounts)) × (now counts ≡ powersOf p (columnSquarings p q (now amounts))) × (512 ≤ length (now cells)) ⌝ }
     requires { ⌜ (partitionCount p q (now amounts) c ≤ mostSteps) × (2 * partitionCount p q (now amounts) c ≤ length (now steps)) × (q ≤ length (now outputs)) ⌝ }
     ensures { λ r. ⌜ now (steps .exit) ≡ over (flat (partition p q (now (amounts .entry)) c .steps)) (now (steps .entry)) ⌝ }
     ensures { λ r. ⌜ now (outputs .exit) ≡ over (partition p q (now (amounts .entry)) c .outputs) (now (outputs .entry)) ⌝ }
 {
     let first = methods::square_columns(p, counts, steps);
     let n = make_tables(p, c, members, first, steps);
-    make_payslips(p, q, amounts, bits, c, members, first, n, steps, outputs);
+    let groups = group_count(c, members.len());
+    make_payslips(
+        p,
+        q,
+        amounts,
+        bits,
+        c,
+        members,
+        first,
+        groups,
+        n,
+        cells,
+        steps,
+        outputs,
+    );
 }
 
 // The chain: its steps, first and second in turn, and its outputs.
@@ -365,9 +456,10 @@ pub fn emit(p: usize, q: usize, amounts: &[u32], c: usize, steps: &mut [u32], ou
     measure_columns(p, q, amounts, 0, &mut bits);
     let mut counts = [0u32; 16];
     measure_columns(p, q, amounts, 1, &mut counts);
-    let mut cells = [0u32; 512];
-    number_inputs(p, &bits[..p], &counts[..p], &mut cells);
+    let mut members = [0u32; 512];
+    number_inputs(p, &bits[..p], &counts[..p], &mut members);
     let w = column_sum(p, q, amounts, 0);
+    let mut cells = [0u32; 512];
     make_chain(
         p,
         q,
@@ -375,7 +467,8 @@ pub fn emit(p: usize, q: usize, amounts: &[u32], c: usize, steps: &mut [u32], ou
         &bits[..p],
         &counts[..p],
         c,
-        &cells[..w],
+        &members[..w],
+        &mut cells,
         steps,
         outputs,
     );

@@ -90,8 +90,8 @@ slice-aggregate-make-chain-2 c =
     let a = s .args in
     measured-long (a .p) (a .q) (a .amounts .now) _ _ 1 (told2 .measure-columns2 .ensures)
 
-array-share-prefix-cells : tie.Need-array-share-prefix-cells
-array-share-prefix-cells c = search needs
+array-share-prefix-members : tie.Need-array-share-prefix-members
+array-share-prefix-members c = search needs
 
 slice-aggregate-make-chain-3 : tie.Need-slice-aggregate-make-chain-3
 slice-aggregate-make-chain-3 c =
@@ -104,16 +104,19 @@ slice-aggregate-make-chain-3 c =
     let a = s .args in
     inputs-long (a .p) (a .q) (a .amounts .now) _ (measured-is (a .p) (a .q) (a .amounts .now) _ _ 1 (told2 .measure-columns2 .ensures)) _ _ _ (bits-are (a .p) (a .q) (a .amounts .now) _ _ (told1 .measure-columns .ensures)) _ (inputs-told (a .p) (a .q) (a .amounts .now) _ (summed .column-sum .ensures .0)) (numbered .number-inputs .ensures)
 
+slice-aggregate-make-chain-4 : tie.Need-slice-aggregate-make-chain-4
+slice-aggregate-make-chain-4 c = search needs
+
 make-chain-requires : tie.Need-make-chain-requires
 make-chain-requires c κs =
-    let summed = c .before .before .before .before .before in
+    let summed = c .before .before .before .before .before .before in
     let numbered = summed .before .before in
     let told2 = numbered .before .before .before .before .before in
     let told1 = told2 .before .before .before in
     let k = told1 .before .before .before .before in
     let s = k .before in
     let a = s .args in
-    ((search needs, search needs, search needs, search needs, bits-are (a .p) (a .q) (a .amounts .now) _ _ (told1 .measure-columns .ensures), inputs-are (a .p) (a .q) (a .amounts .now) _ (measured-is (a .p) (a .q) (a .amounts .now) _ _ 1 (told2 .measure-columns2 .ensures)) _ _ _ (bits-are (a .p) (a .q) (a .amounts .now) _ _ (told1 .measure-columns .ensures)) _ (inputs-told (a .p) (a .q) (a .amounts .now) _ (summed .column-sum .ensures .0)) (numbered .number-inputs .ensures), measured-is (a .p) (a .q) (a .amounts .now) _ _ 1 (told2 .measure-columns2 .ensures)), search needs)
+    ((search needs, search needs, search needs, search needs, bits-are (a .p) (a .q) (a .amounts .now) _ _ (told1 .measure-columns .ensures), inputs-are (a .p) (a .q) (a .amounts .now) _ (measured-is (a .p) (a .q) (a .amounts .now) _ _ 1 (told2 .measure-columns2 .ensures)) _ _ _ (bits-are (a .p) (a .q) (a .amounts .now) _ _ (told1 .measure-columns .ensures)) _ (inputs-told (a .p) (a .q) (a .amounts .now) _ (summed .column-sum .ensures .0)) (numbered .number-inputs .ensures), measured-is (a .p) (a .q) (a .amounts .now) _ _ 1 (told2 .measure-columns2 .ensures), search needs), search needs)
 
 same-length : tie.Need-same-length
 same-length c = search needs
@@ -143,8 +146,9 @@ emit-spec =
     slice-aggregate-make-chain
     array-share-prefix-counts-2
     slice-aggregate-make-chain-2
-    array-share-prefix-cells
+    array-share-prefix-members
     slice-aggregate-make-chain-3
+    slice-aggregate-make-chain-4
     make-chain-requires
     same-length
     same-length-2

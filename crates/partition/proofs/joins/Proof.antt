@@ -1,24 +1,25 @@
 use borrow.Author.Needs.{fits-under, needs}
 use mathlib.Core.Path.{_≡_}
 use Prim.Native.Nat.{_≤_, _-_}
-use Rattle.partition.proofs.Counting.{signsTo, group-inside, signs-on, sign-added, sign-fits, joins-none, joins-end}
+use lib.ListN.{length}
+use Rattle.partition.proofs.Counting.{signsTo, signs-on, sign-added, sign-fits, joins-none, joins-end}
 use Rattle.partition.proofs.joins.Statement.{statement}
 use Rattle.partition.proofs.joins.Tie as tie
 
 abbrev Inv-loop : tie.InvT-loop
-Inv-loop c taken groups n₀ g₀ n g = (g ≤ groups) × (n ≡ signsTo c taken g) × (n ≤ g)
+Inv-loop numbers n₀ g₀ n g = (g ≤ length numbers) × (n ≡ signsTo numbers g) × (n ≤ g)
 
 abbrev μ-loop : tie.MeasureT-loop
-μ-loop c taken groups n₀ g₀ n g = groups - g
-
-group-count-requires : tie.Need-group-count-requires Inv-loop μ-loop
-group-count-requires c κs = search needs
+μ-loop numbers n₀ g₀ n g = length numbers - g
 
 loop-holds : tie.Need-loop-holds Inv-loop μ-loop
 loop-holds c = search needs
 
-part-requires : tie.Need-part-requires Inv-loop μ-loop
-part-requires c κs = (search group-inside, c .before .before .before .before .pre .3 _)
+mul-sign : tie.Need-mul-sign Inv-loop μ-loop
+mul-sign c = search needs
+
+shared-slice-read-sign : tie.Need-shared-slice-read-sign Inv-loop μ-loop
+shared-slice-read-sign c = search needs
 
 sign-requires : tie.Need-sign-requires Inv-loop μ-loop
 sign-requires c κs = search needs
@@ -50,9 +51,9 @@ joins-spec =
     (tie.spec
     Inv-loop
     μ-loop
-    group-count-requires
     loop-holds
-    part-requires
+    mul-sign
+    shared-slice-read-sign
     sign-requires
     add-n
     add-g

@@ -12,20 +12,20 @@ use Rattle.partition.proofs.make_payslips.Statement.{statement}
 use Rattle.partition.proofs.make_payslips.Tie as tie
 
 abbrev Inv-loop : tie.InvT-loop
-Inv-loop p q amounts bits c members first n steps₀ outputs₀ s₀ i₀ steps outputs s i = (i ≤ q) × (length steps ≡ length steps₀) × (length outputs ≡ length outputs₀) × (q ≤ length outputs) × Stored steps₀ steps s (payslips (slip p q amounts c) (stepsIn steps₀ n) i .steps) × (outputs ≡ over (payslips (slip p q amounts c) (stepsIn steps₀ n) i .outputs) outputs₀)
+Inv-loop p q amounts bits c members first groups n cells₀ steps₀ outputs₀ s₀ i₀ cells steps outputs s i = (i ≤ q) × (length steps ≡ length steps₀) × (length outputs ≡ length outputs₀) × (q ≤ length outputs) × Stored steps₀ steps s (payslips (slip p q amounts c) (stepsIn steps₀ n) i .steps) × (outputs ≡ over (payslips (slip p q amounts c) (stepsIn steps₀ n) i .outputs) outputs₀) × (length cells ≡ length cells₀)
 
 abbrev μ-loop : tie.MeasureT-loop
-μ-loop p q amounts bits c members first n steps₀ outputs₀ s₀ i₀ steps outputs s i = q - i
+μ-loop p q amounts bits c members first groups n cells₀ steps₀ outputs₀ s₀ i₀ cells steps outputs s i = q - i
 
 loop-holds : tie.Need-loop-holds Inv-loop μ-loop
-loop-holds c = (search needs, search needs, search needs, search needs, search paid-none, search over-none)
+loop-holds c = (search needs, search needs, search needs, search needs, search paid-none, search over-none, search needs)
 
 make-payslip-requires : tie.Need-make-payslip-requires Inv-loop μ-loop
 make-payslip-requires c κs =
-    let start = c .before .before in
-    let s = start .before .before .before .before .before .before in
+    let start = c .before .before .before in
+    let s = start .before .before .before .before .before .before .before in
     let a = s .args in
-    ((search needs, search needs, search needs, search needs, search needs, search needs, search needs, omega (arith, start .loop .inv .1, s .pre .0 .7), search needs), pay-room (slip (a .p) (a .q) (a .amounts .now) (a .c)) (stepsIn (a .steps .now) (a .n)) (slip-begins (a .p) (a .q) (a .amounts .now) (a .c)) (a .steps .now) _ _ (start .loop .i) (start .loop .inv .4) (a .p) (a .n) (a .q) (s .pre .1) (c .before .loop-test .taken))
+    ((search needs, search needs, search needs, search needs, search needs, search needs, search needs, omega (arith, start .loop .inv .1, s .pre .0 .7), search needs, search needs, search needs, omega (arith, start .loop .inv .6, s .pre .0 .11)), pay-room (slip (a .p) (a .q) (a .amounts .now) (a .c)) (stepsIn (a .steps .now) (a .n)) (slip-begins (a .p) (a .q) (a .amounts .now) (a .c)) (a .steps .now) _ _ (start .loop .i) (start .loop .inv .4) (a .p) (a .n) (a .q) (s .pre .1) (c .before .before .loop-test .taken))
 
 mul-outputs : tie.Need-mul-outputs Inv-loop μ-loop
 mul-outputs c = search needs
@@ -41,11 +41,11 @@ loop-less c = search needs
 
 loop-again : tie.Need-loop-again Inv-loop μ-loop
 loop-again c =
-    let paid = c .before .before in
-    let start = paid .before .before .before in
-    let s = start .before .before .before .before .before .before in
+    let paid = c .before .before .before .before in
+    let start = paid .before .before .before .before in
+    let s = start .before .before .before .before .before .before .before in
     let a = s .args in
-    (search needs, search needs, simp length-set (search needs), simp length-set (search needs), pay-steps (slip (a .p) (a .q) (a .amounts .now) (a .c)) (stepsIn (a .steps .now) (a .n)) (slip-begins (a .p) (a .q) (a .amounts .now) (a .c)) (a .steps .now) _ _ (start .loop .i) (start .loop .inv .4) _ _ _ (paid .make-payslip .ensures), pay-output (slip (a .p) (a .q) (a .amounts .now) (a .c)) (stepsIn (a .steps .now) (a .n)) (slip-begins (a .p) (a .q) (a .amounts .now) (a .c)) (a .steps .now) _ _ (start .loop .i) (start .loop .inv .4) _ _ _ (paid .make-payslip .ensures) (a .outputs .now) _ (omega (arith, start .loop .inv .2, start .loop .inv .3, paid .before .before .loop-test .taken)) (start .loop .inv .5))
+    (search needs, search needs, simp length-set (search needs), simp length-set (search needs), pay-steps (slip (a .p) (a .q) (a .amounts .now) (a .c)) (stepsIn (a .steps .now) (a .n)) (slip-begins (a .p) (a .q) (a .amounts .now) (a .c)) (a .steps .now) _ _ (start .loop .i) (start .loop .inv .4) _ _ _ (paid .make-payslip .ensures), pay-output (slip (a .p) (a .q) (a .amounts .now) (a .c)) (stepsIn (a .steps .now) (a .n)) (slip-begins (a .p) (a .q) (a .amounts .now) (a .c)) (a .steps .now) _ _ (start .loop .i) (start .loop .inv .4) _ _ _ (paid .make-payslip .ensures) (a .outputs .now) _ (omega (arith, start .loop .inv .2, start .loop .inv .3, paid .before .before .before .loop-test .taken)) (start .loop .inv .5), search needs)
 
 same-length : tie.Need-same-length Inv-loop μ-loop
 same-length c = search needs
@@ -53,10 +53,13 @@ same-length c = search needs
 same-length-2 : tie.Need-same-length-2 Inv-loop μ-loop
 same-length-2 c = search needs
 
+same-length-3 : tie.Need-same-length-3 Inv-loop μ-loop
+same-length-3 c = search needs
+
 returns : tie.Need-returns Inv-loop μ-loop
 returns c =
     let start = c .before in
-    let s = start .before .before .before .before .before .before in
+    let s = start .before .before .before .before .before .before .before in
     let a = s .args in
     (paid-steps (slip (a .p) (a .q) (a .amounts .now) (a .c)) (stepsIn (a .steps .now) (a .n)) (start .loop .i) (a .q) (start .loop .inv .0) (c .loop-test .left) (a .steps .now) _ _ (start .loop .inv .4), paid-outputs (slip (a .p) (a .q) (a .amounts .now) (a .c)) (stepsIn (a .steps .now) (a .n)) (start .loop .i) (a .q) (start .loop .inv .0) (c .loop-test .left) (a .outputs .now) _ (start .loop .inv .5))
 
@@ -75,4 +78,5 @@ make-payslips-spec =
     loop-again
     same-length
     same-length-2
+    same-length-3
     returns)

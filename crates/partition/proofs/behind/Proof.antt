@@ -1,0 +1,15 @@
+use borrow.Author.Needs.{needs}
+use mathlib.Core.Path.{refl}
+use native.Mathlib.Omega.{arith}
+use Rattle.partition.proofs.Rows.{behind-word, behind-low}
+use Rattle.partition.proofs.behind.Statement.{statement}
+use Rattle.partition.proofs.behind.Tie as tie
+
+shl-result : tie.Need-shl-result
+shl-result c = search needs
+
+returns : tie.Need-returns
+returns c = rw (behind-word (c .args .x) (c .args .held) (omega arith) (c .pre)) (refl, behind-low _ _ (omega arith) (c .pre))
+
+pub behind-spec : {M : Type 1} → statement M
+behind-spec = tie.close (tie.spec shl-result returns)

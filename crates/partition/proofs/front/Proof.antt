@@ -1,0 +1,21 @@
+use borrow.Author.Needs.{needs, fits-under}
+use mathlib.Core.Path.{refl}
+use lib.Pow.{pow-pos}
+use Rattle.partition.proofs.Rows.{base-word, front-low}
+use Rattle.partition.proofs.front.Statement.{statement}
+use Rattle.partition.proofs.front.Tie as tie
+
+shl-result : tie.Need-shl-result
+shl-result c = search needs
+
+rem-result : tie.Need-rem-result
+rem-result c = rw (base-word (c .args .c) (c .pre)) (pow-pos _)
+
+cast-result : tie.Need-cast-result
+cast-result c = rw (base-word (c .args .c) (c .pre)) (fits-under _ _ 256 (front-low _ _ (c .pre)) tt)
+
+returns : tie.Need-returns
+returns c = rw (base-word (c .args .c) (c .pre))
+
+pub front-spec : {M : Type 1} → statement M
+front-spec = tie.close (tie.spec shl-result rem-result cast-result returns)

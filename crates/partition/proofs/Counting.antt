@@ -20,26 +20,26 @@ module _ (p q : ℕ) (amounts : List ℕ) (less col x b : ℕ) (is : x ≡ large
   unfolding columnBits bitLength
   bits-are = e ∙ ap (digitCount 1) is
 
-  pub bits-none : b < less → 0 ≡ columnBits p q amounts col - less
-  bits-none h = omega (arith, bits-are)
+  pub bits-left : (r : ℕ) → r ≡ b - less → r ≡ columnBits p q amounts col - less
+  bits-left r told = told ∙ ap (λ (n : ℕ). n - less) bits-are
 
-  pub bits-left : b - less ≡ columnBits p q amounts col - less
-  bits-left = ap (λ (n : ℕ). n - less) bits-are
-
-pub bits-few : (less x b : ℕ) → x < 2 ^ 32 → b ≡ digitCount 1 x → b - less ≤ 32
+pub bits-few : (less x b r : ℕ) → x < 2 ^ 32 → b ≡ digitCount 1 x → r ≡ b - less → r ≤ 32
 unfolding bitLength
-bits-few less x b low e = let few : bitLength x ≤ 32 = low-bits x 32 low in omega arith
+bits-few less x b r low e told = let few : bitLength x ≤ 32 = low-bits x 32 low in omega arith
 
 -- those of the first n columns together
 abbrev pub bitsTo : ℕ → ℕ → List ℕ → ℕ → ℕ → ℕ
 bitsTo p q amounts less n = sumTo n (λ col. columnBits p q amounts col - less)
 
-pub bits-on : (p q : ℕ) (amounts : List ℕ) (less col s r : ℕ) → r ≡ columnBits p q amounts col - less → s ≡ bitsTo p q amounts less col
-    → s + r ≡ bitsTo p q amounts less (col + 1)
-bits-on p q amounts less col s r is e = sum-on (λ k. columnBits p q amounts k - less) col s r is e
+-- the same of a slice of columns
+abbrev pub lessTo : List ℕ → ℕ → ℕ → ℕ
+lessTo bits less n = sumTo n (λ col. getD bits col 0 - less)
 
-pub bits-end : (p q : ℕ) (amounts : List ℕ) (less col s : ℕ) → s ≡ bitsTo p q amounts less col → col ≤ p → p ≤ col → s ≡ bitsTo p q amounts less p
-bits-end p q amounts less col s e h g = let last : col ≡ p = omega arith in e ∙ ap (bitsTo p q amounts less) last
+pub less-on : (bits : List ℕ) (less col s r : ℕ) → r ≡ getD bits col 0 - less → s ≡ lessTo bits less col → s + r ≡ lessTo bits less (col + 1)
+less-on bits less col s r is e = sum-on (λ k. getD bits k 0 - less) col s r is e
+
+pub less-end : (bits : List ℕ) (less col s : ℕ) → s ≡ lessTo bits less col → col ≤ length bits → length bits ≤ col → s ≡ lessTo bits less (length bits)
+less-end bits less col s e h g = let last : length bits ≡ col = omega arith in rw last e
 
 -- the groups: how many, and each one's first input
 pub groups-few : (c w : ℕ) → 1 ≤ c → c ≤ 8 → w ≤ 512 → groupCount c w ≤ 519

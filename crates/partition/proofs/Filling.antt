@@ -68,6 +68,9 @@ module _ (bits : List ℕ) (p col s : ℕ) (is : s ≡ sumTo col (countsOf bits)
   pub column-on : s + getD bits col 0 ≡ sumTo (col + 1) (countsOf bits)
   column-on = rw (add-one col) (ap (λ (n : ℕ). n + getD bits col 0) is)
 
+  pub columns-end : col ≤ p → p ≤ col → s ≡ sumTo p (countsOf bits)
+  columns-end h g = let last : col ≡ p = omega arith in is ∙ ap (λ (n : ℕ). sumTo n (countsOf bits)) last
+
 -- the numbers of a column's powers
 module _ (col first s : ℕ) (old : List ℕ) where
   pub number-on : (n j x : ℕ) (cells : List ℕ) → x ≡ powerAt col first j → j < n → s + n ≤ length old → cells ≡ laid s (powersOf j (powerAt col first)) old

@@ -15,7 +15,7 @@ use Rattle.partition.specs.Partition.{columnBits, powersOf, taken, input
 use Rattle.partition.specs.Bits.{numbersOf}
 use Rattle.partition.proofs.Inputs.{length-powers, getD-powers}
 use Rattle.partition.proofs.Members.{column-bits}
-use Rattle.partition.proofs.Counting.{signsTo}
+use Rattle.partition.proofs.Counting.{bitsTo, lessTo, signsTo}
 
 -- the inputs are few, for amounts of 32 bits
 module _ (p q : ℕ) (amounts : List ℕ) (low : (j : ℕ) → getD amounts j 0 < 2 ^ 32) where
@@ -35,6 +35,9 @@ module _ (p q : ℕ) (amounts bits : List ℕ) (is : bits ≡ powersOf p (column
 
   pub bits-sum : sumTo p (countsOf bits) ≡ inputCount p q amounts
   bits-sum = sum-same p _ _ bits-at
+
+  pub less-told : (less r : ℕ) → r ≡ lessTo bits less (length bits) → r ≡ bitsTo p q amounts less p
+  less-told less r e = e ∙ ap (lessTo bits less) bits-long ∙ sum-same p _ _ (λ col h. ap (λ (n : ℕ). n - less) (bits-at col h))
 
   pub bits-low : ((j : ℕ) → getD amounts j 0 < 2 ^ 32) → (col : ℕ) → getD bits col 0 ≤ 32
   bits-low low col = by-place (decLt col p)

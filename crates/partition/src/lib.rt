@@ -22,27 +22,34 @@ pub struct Row {
     pub g: usize,
 }
 
+// x less some, or 0.
+fn lessened(x: usize, less: usize) -> usize
+    ensures { λ r. ⌜ r ≡ x - less ⌝ }
+{
+    if x < less {
+        return 0;
+    }
+    x - less
+}
+
 // The bits of the largest amount of column col, less some.
 fn column_bits(p: usize, q: usize, amounts: &[u32], less: usize, col: usize) -> usize
     requires { ⌜ (col < p) × (length (now amounts) ≡ p * q) ⌝ }
     ensures { λ r. ⌜ (r ≡ columnBits p q (now (amounts .entry)) col - less) × (r ≤ 32) ⌝ }
 {
     let b = digits::digit_count(1, methods::largest_in(p, q, amounts, col));
-    if b < less {
-        return 0;
-    }
-    b - less
+    lessened(b, less)
 }
 
-// Each column's bits less some, added up.
-fn column_sum(p: usize, q: usize, amounts: &[u32], less: usize) -> usize
-    requires { ⌜ (p ≤ mostColumns) × (length (now amounts) ≡ p * q) ⌝ }
-    ensures { λ r. ⌜ (r ≡ sumTo p (λ col. columnBits p q (now (amounts .entry)) col - less)) × (r ≤ 32 * p) ⌝ }
+// The columns' bits less some each, added up.
+fn column_sum(bits: &[u32], less: usize) -> usize
+    requires { ⌜ (length (now bits) ≤ mostColumns) × ((col : ℕ) → getD (now bits) col 0 ≤ 32) ⌝ }
+    ensures { λ r. ⌜ (r ≡ sumTo (length (now (bits .entry))) (λ col. countsOf (now (bits .entry)) col - less)) × (r ≤ 512) ⌝ }
 {
     let mut s: usize = 0;
     let mut col: usize = 0;
-    while col < p {
-        s += column_bits(p, q, amounts, less, col);
+    while col < bits.len() {
+        s += lessened(bits[col] as usize, less);
         col += 1;
     }
     s
@@ -246,6 +253,18 @@ fn payslips_count(
     n
 }
 
+// The steps of the squarings, of the groups' tables and of the payslips.
+fn chain_count(p: usize, q: usize, amounts: &[u32], bits: &[u32], c: usize) -> usize
+    requires { ⌜ (p ≤ mostColumns) × (q ≤ mostPayslips) × (length (now amounts) ≡ p * q) × (1 ≤ c) × (c ≤ 8) × (now bits ≡ powersOf p (columnBits p q (now amounts))) ⌝ }
+    ensures { λ r. ⌜ r ≡ partitionCount p q (now (amounts .entry)) c ⌝ }
+{
+    let w = column_sum(bits, 0);
+    let n = column_sum(bits, 1) + tables_count(c, w);
+    let groups = group_count(c, w);
+    let mut cells = [0u32; 512];
+    n + payslips_count(p, q, amounts, bits, c, groups, &mut cells)
+}
+
 // The number of steps of the chain.
 pub fn count(p: usize, q: usize, amounts: &[u32], c: usize) -> usize
     requires { ⌜ (1 ≤ p) × (p ≤ mostColumns) × (q ≤ mostPayslips) × (length (now amounts) ≡ p * q) × (1 ≤ c) × (c ≤ 8) ⌝ }
@@ -253,11 +272,7 @@ pub fn count(p: usize, q: usize, amounts: &[u32], c: usize) -> usize
 {
     let mut bits = [0u32; 16];
     measure_columns(p, q, amounts, 0, &mut bits);
-    let w = column_sum(p, q, amounts, 0);
-    let n = column_sum(p, q, amounts, 1) + tables_count(c, w);
-    let groups = group_count(c, w);
-    let mut cells = [0u32; 512];
-    n + payslips_count(p, q, amounts, &bits[..p], c, groups, &mut cells)
+    chain_count(p, q, amounts, &bits[..p], c)
 }
 
 // The numbers of the first n powers of a column, from cell s on.
@@ -272,10 +287,11 @@ fn number_column(col: usize, first: usize, n: usize, s: usize, cells: &mut [u32]
     }
 }
 
-// The inputs' value numbers.
-fn number_inputs(p: usize, bits: &[u32], counts: &[u32], cells: &mut [u32])
+// The inputs' value numbers: how many they are.
+fn number_inputs(p: usize, bits: &[u32], counts: &[u32], cells: &mut [u32]) -> usize
     requires { ⌜ (p ≤ mostColumns) × (p ≤ length (now bits)) × (p ≤ length (now counts)) × (sumTo p (countsOf (now bits)) ≤ 512) × (sumTo p (countsOf (now counts)) ≤ 512) × (512 ≤ length (now cells)) ⌝ }
     ensures { λ r. ⌜ now (cells .exit) ≡ over (overInputs (countsOf (now (bits .entry))) (powerOf p (countsOf (now (counts .entry)))) p) (now (cells .entry)) ⌝ }
+    ensures { λ r. ⌜ (r ≡ sumTo p (countsOf (now (bits .entry)))) × (r ≤ 512) ⌝ }
 {
     let mut s: usize = 0;
     let mut first = p;
@@ -287,6 +303,7 @@ fn number_inputs(p: usize, bits: &[u32], counts: &[u32], cells: &mut [u32])
         first += counts[col] as usize;
         col += 1;
     }
+    s
 }
 
 // The tables of the groups after n steps.
@@ -457,8 +474,7 @@ pub fn emit(p: usize, q: usize, amounts: &[u32], c: usize, steps: &mut [u32], ou
     let mut counts = [0u32; 16];
     measure_columns(p, q, amounts, 1, &mut counts);
     let mut members = [0u32; 512];
-    number_inputs(p, &bits[..p], &counts[..p], &mut members);
-    let w = column_sum(p, q, amounts, 0);
+    let w = number_inputs(p, &bits[..p], &counts[..p], &mut members);
     let mut cells = [0u32; 512];
     make_chain(
         p,

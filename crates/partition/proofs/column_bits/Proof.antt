@@ -1,4 +1,4 @@
-use Rattle.partition.proofs.Counting.{bits-none, bits-left, bits-few}
+use Rattle.partition.proofs.Counting.{bits-left, bits-few}
 use borrow.Author.Needs.{needs}
 use Rattle.partition.proofs.column_bits.Statement.{statement}
 use Rattle.partition.proofs.column_bits.Tie as tie
@@ -9,11 +9,11 @@ largest-in-requires c κs = search needs
 digit-count-requires : tie.Need-digit-count-requires
 digit-count-requires c κs = search needs
 
-returns : tie.Need-returns
-returns c = (search bits-none, search needs)
+lessened-requires : tie.Need-lessened-requires
+lessened-requires c κs = search needs
 
-returns-2 : tie.Need-returns-2
-returns-2 c = (search bits-left, search bits-few)
+returns : tie.Need-returns
+returns c = (search bits-left, search bits-few)
 
 pub column-bits-spec : {M : Type 1} → statement M
-column-bits-spec = tie.close (tie.spec largest-in-requires digit-count-requires returns returns-2)
+column-bits-spec = tie.close (tie.spec largest-in-requires digit-count-requires lessened-requires returns)

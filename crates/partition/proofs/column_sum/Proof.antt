@@ -1,24 +1,37 @@
+use borrow.Author.Needs.{needs}
 use mathlib.Core.Path.{_≡_}
 use Prim.Native.Nat.{_*_, _≤_, _-_}
-use Rattle.partition.proofs.Counting.{bitsTo, bits-on, bits-end}
-use borrow.Author.Needs.{needs}
+use native.Mathlib.Omega.{arith}
+use lib.ListN.{length}
+use Rattle.partition.proofs.Counting.{lessTo, less-on, less-end}
 use Rattle.partition.proofs.column_sum.Statement.{statement}
 use Rattle.partition.proofs.column_sum.Tie as tie
 
 abbrev Inv-loop : tie.InvT-loop
-Inv-loop p q amounts less s₀ col₀ s col = (col ≤ p) × (s ≡ bitsTo p q amounts less col) × (s ≤ 32 * col)
+Inv-loop bits less s₀ col₀ s col = (col ≤ length bits) × (s ≡ lessTo bits less col) × (s ≤ 32 * col)
 
 abbrev μ-loop : tie.MeasureT-loop
-μ-loop p q amounts less s₀ col₀ s col = p - col
+μ-loop bits less s₀ col₀ s col = length bits - col
 
 loop-holds : tie.Need-loop-holds Inv-loop μ-loop
 loop-holds c = search needs
 
-column-bits-requires : tie.Need-column-bits-requires Inv-loop μ-loop
-column-bits-requires c κs = search needs
+mul-lessened : tie.Need-mul-lessened Inv-loop μ-loop
+mul-lessened c = search needs
+
+shared-slice-read-lessened : tie.Need-shared-slice-read-lessened Inv-loop μ-loop
+shared-slice-read-lessened c = search needs
+
+cast-lessened : tie.Need-cast-lessened Inv-loop μ-loop
+cast-lessened c = omega (arith, c .shared-slice-known2 .given (c .before .before .loop .col))
+
+lessened-requires : tie.Need-lessened-requires Inv-loop μ-loop
+lessened-requires c κs = search needs
 
 add-s : tie.Need-add-s Inv-loop μ-loop
-add-s c = search needs
+add-s c =
+    let start = c .before .before .before in
+    omega (arith, c .lessened .ensures, start .before .before .pre .1 (start .loop .col))
 
 add-col : tie.Need-add-col Inv-loop μ-loop
 add-col c = search needs
@@ -27,13 +40,15 @@ loop-less : tie.Need-loop-less Inv-loop μ-loop
 loop-less c = search needs
 
 loop-again : tie.Need-loop-again Inv-loop μ-loop
-loop-again c = (search needs, search bits-on, search needs)
+loop-again c =
+    let start = c .before .before .before in
+    (search needs, search less-on, omega (arith, c .lessened .ensures, start .before .before .pre .1 (start .loop .col)))
 
 returns : tie.Need-returns Inv-loop μ-loop
 returns c =
     let start = c .before in
     let s = start .before .before .args in
-    (bits-end (s .p) (s .q) (s .amounts .now) (s .less) (start .loop .col) _ (start .loop .inv .1) (start .loop .inv .0) (c .loop-test .left), search needs)
+    (less-end (s .bits .now) (s .less) (start .loop .col) _ (start .loop .inv .1) (start .loop .inv .0) (c .loop-test .left), search needs)
 
 pub column-sum-spec : {M : Type 1} → statement M
 column-sum-spec =
@@ -42,7 +57,10 @@ column-sum-spec =
     Inv-loop
     μ-loop
     loop-holds
-    column-bits-requires
+    mul-lessened
+    shared-slice-read-lessened
+    cast-lessened
+    lessened-requires
     add-s
     add-col
     loop-less

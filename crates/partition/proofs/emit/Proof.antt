@@ -1,8 +1,9 @@
+use mathlib.Core.Path.{_∙_}
 use native.Mathlib.Omega.{arith}
 use Prim.Native.Nat.{ℕ, _^_, _<_}
 use lib.ListN.{getD}
-use Rattle.partition.proofs.Taking.{bits-few}
-use Rattle.partition.proofs.Whole.{measured-is, measured-long, bits-are, inputs-told, counts-few, inputs-are, inputs-long}
+use Rattle.partition.proofs.Taking.{bits-sum, bits-few}
+use Rattle.partition.proofs.Whole.{measured-is, measured-long, bits-are, counts-few, inputs-are, inputs-long}
 use borrow.Author.Needs.{needs}
 use Rattle.partition.proofs.emit.Statement.{statement}
 use Rattle.partition.proofs.emit.Tie as tie
@@ -59,16 +60,12 @@ number-inputs-requires c κs =
     let a = s .args in
     (search needs, omega (arith, measured-long (a .p) (a .q) (a .amounts .now) _ _ 0 (told1 .measure-columns .ensures)), omega (arith, measured-long (a .p) (a .q) (a .amounts .now) _ _ 1 (told2 .measure-columns2 .ensures)), bits-few (a .p) (a .q) (a .amounts .now) _ (bits-are (a .p) (a .q) (a .amounts .now) _ _ (told1 .measure-columns .ensures)) (low k) (s .pre .0 .1), counts-few (a .p) (a .q) (a .amounts .now) _ (measured-is (a .p) (a .q) (a .amounts .now) _ _ 1 (told2 .measure-columns2 .ensures)) (low k) (s .pre .0 .1), search needs)
 
-column-sum-requires : tie.Need-column-sum-requires
-column-sum-requires c κs = search needs
-
 array-share-prefix-bits-2 : tie.Need-array-share-prefix-bits-2
 array-share-prefix-bits-2 c = search needs
 
 slice-aggregate-make-chain : tie.Need-slice-aggregate-make-chain
 slice-aggregate-make-chain c =
-    let summed = c .before in
-    let numbered = summed .before .before in
+    let numbered = c .before .before in
     let told2 = numbered .before .before .before .before .before in
     let told1 = told2 .before .before .before in
     let k = told1 .before .before .before .before in
@@ -81,8 +78,7 @@ array-share-prefix-counts-2 c = search needs
 
 slice-aggregate-make-chain-2 : tie.Need-slice-aggregate-make-chain-2
 slice-aggregate-make-chain-2 c =
-    let summed = c .before .before in
-    let numbered = summed .before .before in
+    let numbered = c .before .before .before in
     let told2 = numbered .before .before .before .before .before in
     let told1 = told2 .before .before .before in
     let k = told1 .before .before .before .before in
@@ -95,28 +91,26 @@ array-share-prefix-members c = search needs
 
 slice-aggregate-make-chain-3 : tie.Need-slice-aggregate-make-chain-3
 slice-aggregate-make-chain-3 c =
-    let summed = c .before .before .before in
-    let numbered = summed .before .before in
+    let numbered = c .before .before .before .before in
     let told2 = numbered .before .before .before .before .before in
     let told1 = told2 .before .before .before in
     let k = told1 .before .before .before .before in
     let s = k .before in
     let a = s .args in
-    inputs-long (a .p) (a .q) (a .amounts .now) _ (measured-is (a .p) (a .q) (a .amounts .now) _ _ 1 (told2 .measure-columns2 .ensures)) _ _ _ (bits-are (a .p) (a .q) (a .amounts .now) _ _ (told1 .measure-columns .ensures)) _ (inputs-told (a .p) (a .q) (a .amounts .now) _ (summed .column-sum .ensures .0)) (numbered .number-inputs .ensures)
+    inputs-long (a .p) (a .q) (a .amounts .now) _ (measured-is (a .p) (a .q) (a .amounts .now) _ _ 1 (told2 .measure-columns2 .ensures)) _ _ _ (bits-are (a .p) (a .q) (a .amounts .now) _ _ (told1 .measure-columns .ensures)) _ (numbered .number-inputs .ensures .1 .0 ∙ bits-sum (a .p) (a .q) (a .amounts .now) _ (bits-are (a .p) (a .q) (a .amounts .now) _ _ (told1 .measure-columns .ensures))) (numbered .number-inputs .ensures .0)
 
 slice-aggregate-make-chain-4 : tie.Need-slice-aggregate-make-chain-4
 slice-aggregate-make-chain-4 c = search needs
 
 make-chain-requires : tie.Need-make-chain-requires
 make-chain-requires c κs =
-    let summed = c .before .before .before .before .before .before in
-    let numbered = summed .before .before in
+    let numbered = c .before .before .before .before .before .before .before in
     let told2 = numbered .before .before .before .before .before in
     let told1 = told2 .before .before .before in
     let k = told1 .before .before .before .before in
     let s = k .before in
     let a = s .args in
-    ((search needs, search needs, search needs, search needs, bits-are (a .p) (a .q) (a .amounts .now) _ _ (told1 .measure-columns .ensures), inputs-are (a .p) (a .q) (a .amounts .now) _ (measured-is (a .p) (a .q) (a .amounts .now) _ _ 1 (told2 .measure-columns2 .ensures)) _ _ _ (bits-are (a .p) (a .q) (a .amounts .now) _ _ (told1 .measure-columns .ensures)) _ (inputs-told (a .p) (a .q) (a .amounts .now) _ (summed .column-sum .ensures .0)) (numbered .number-inputs .ensures), measured-is (a .p) (a .q) (a .amounts .now) _ _ 1 (told2 .measure-columns2 .ensures), search needs), search needs)
+    ((search needs, search needs, search needs, search needs, bits-are (a .p) (a .q) (a .amounts .now) _ _ (told1 .measure-columns .ensures), inputs-are (a .p) (a .q) (a .amounts .now) _ (measured-is (a .p) (a .q) (a .amounts .now) _ _ 1 (told2 .measure-columns2 .ensures)) _ _ _ (bits-are (a .p) (a .q) (a .amounts .now) _ _ (told1 .measure-columns .ensures)) _ (numbered .number-inputs .ensures .1 .0 ∙ bits-sum (a .p) (a .q) (a .amounts .now) _ (bits-are (a .p) (a .q) (a .amounts .now) _ _ (told1 .measure-columns .ensures))) (numbered .number-inputs .ensures .0), measured-is (a .p) (a .q) (a .amounts .now) _ _ 1 (told2 .measure-columns2 .ensures), search needs), search needs)
 
 same-length : tie.Need-same-length
 same-length c = search needs
@@ -141,7 +135,6 @@ emit-spec =
     slice-aggregate-number-inputs-2
     slice-aggregate-number-inputs-3
     number-inputs-requires
-    column-sum-requires
     array-share-prefix-bits-2
     slice-aggregate-make-chain
     array-share-prefix-counts-2

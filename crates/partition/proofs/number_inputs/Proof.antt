@@ -7,7 +7,7 @@ use Rattle.chain.specs.Written.{over}
 use Rattle.digits.specs.Range.{sumTo}
 use Rattle.methods.specs.Powers.{countsOf}
 use Rattle.methods.proofs.Paying.{over-none}
-use Rattle.partition.proofs.Filling.{inputsTo, column-room, column-number, column-on, first-number, first-on, number-room, inputs-on, inputs-end}
+use Rattle.partition.proofs.Filling.{inputsTo, column-room, column-number, column-on, columns-end, first-number, first-on, number-room, inputs-on, inputs-end}
 use Rattle.partition.proofs.number_inputs.Statement.{statement}
 use Rattle.partition.proofs.number_inputs.Tie as tie
 
@@ -67,7 +67,8 @@ returns : tie.Need-returns Inv-loop μ-loop
 returns c =
     let start = c .before in
     let a = start .before .before .before .before .args in
-    inputs-end (a .p) (a .bits .now) (a .counts .now) (a .cells .now) (start .loop .col) _ (start .loop .inv .4) (start .loop .inv .0) (c .loop-test .left)
+    let all = columns-end (a .bits .now) (a .p) (start .loop .col) _ (start .loop .inv .2) (start .loop .inv .0) (c .loop-test .left) in
+    (inputs-end (a .p) (a .bits .now) (a .counts .now) (a .cells .now) (start .loop .col) _ (start .loop .inv .4) (start .loop .inv .0) (c .loop-test .left), (all, omega (arith, start .before .before .before .before .pre .3)))
 
 pub number-inputs-spec : {M : Type 1} → statement M
 number-inputs-spec =

@@ -5,6 +5,7 @@ use Prim.Native.Nat.{ℕ, zero, suc, _+_, _≤_, _<_}
 use native.Mathlib.Decide.{decLt}
 use native.Mathlib.Omega.{arith}
 use lib.ListN.{length, getD, set, length-append, List·getD-eq-default}
+use Rattle.chain.specs.Written.{laid}
 use Rattle.listing.specs.Listing.{newline, decimal}
 use Rattle.listing.specs.Put.{Put}
 use Rattle.listing.proofs.Putting.{put-none, put-more, put-one}
@@ -72,3 +73,8 @@ module _ (text : List ℕ) (p : Parsed) (l : List ℕ) where
     pub put-full : p ≡ NoRoom place → Put 0 (spotText (spotOf text place) noRoom) l e l′ → Put 0 (faultText text p) l e l′
     unfolding faultText
     put-full is w = rw is w
+
+-- a message lies within its text
+pub message-within : (part old : List ℕ) (e : ℕ) (l : List ℕ) → Put 0 part old e l → e ≤ length l
+unfolding laid
+message-within part old e l w = rw (w .text, length-append, length-append) (omega (arith, w .place))

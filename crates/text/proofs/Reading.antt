@@ -112,6 +112,13 @@ Idle effect.the-variants.Unreadable = Unit {0}
 Idle effect.the-variants.TooLarge = Unit {0}
 Idle effect.the-variants.NoRoom = Unit {0}
 
+below : (c n : ℕ) → (n ≤ c → ⊥) → c < n
+below c n few = by-size (decLt c n)
+  where
+    by-size : Dec (c < n) → c < n
+    by-size (yes h) = h
+    by-size (no h) = absurd (few (omega arith))
+
 -- without room nothing is made
 idle : (c n : ℕ) (m : Making) (k : Kind) → Fits c n m → n ≤ c → Idle (effectOf (c <? n) m k)
 unfolding effectOf
@@ -122,11 +129,7 @@ idle c n (Number x) k f h = absurd (omega arith)
 
 module _ (n : ℕ) (text : List ℕ) (c : ℕ) (m : Making) (i : ℕ) (f : Fits c n m) (e : effect.Effect) (told : e ≡ next n text c m i) where
   room : (Idle e → ⊥) → c < n
-  room busy = by-room (decLt c n)
-    where
-      by-room : Dec (c < n) → c < n
-      by-room (yes h) = h
-      by-room (no h) = absurd (busy (rw (← told) at (idle c n m (kindOf (getD text i 0)) f (omega arith))))
+  room busy = below c n (λ h. busy (rw (← told) at (idle c n m (kindOf (getD text i 0)) f h)))
 
   pub room-grows : (x : ℕ) → e ≡ effect.the-variants.Grows x → c < n
   room-grows x is = room (λ z. rw is at z)
@@ -235,3 +238,26 @@ module _ (text old : List ℕ) (c : ℕ) (m : Making) (i : ℕ) (cells : List �
 
       pub on-ends : (x : ℕ) → e ≡ effect.the-variants.Ends x → cells′ ≡ set cells c x → c′ ≡ c + 1 → m′ ≡ Nothing → On text old c′ m′ (i + 1) cells′
       on-ends x is a b d = rw (a, b, d) (simp length-set (o .0), tt, reads-ends text old c m i cells (o .2) h e told x is (on-ends-room x is))
+
+-- the count of numbers that a text has is within the room for them
+read-within : (n : ℕ) (r : List ℕ) (c i : ℕ) (m : Making) (k : ℕ) → c ≤ n → Fits c n m → readFrom n c i m r .answer ≡ parsed.the-variants.Numbers k → k ≤ n
+unfolding readFrom follow before
+read-within n [] c i Nothing k h f e = let z : c ≡ k = cc in omega arith
+read-within n [] c i (Number x) k h f e = let z : suc c ≡ k = cc in omega arith
+read-within n (b ∷ r) c i m k h f e =
+    by-effect (effectOf (c <? n) m (kindOf b)) (idle c n m (kindOf b) f) (λ c′ m′. read-within n r c′ (i + 1) m′ k) (ap (λ (t : Found). t .answer) (sym (read-byte n c i m b r)) ∙ e)
+  where
+    by-effect : (t : effect.Effect) → (n ≤ c → Idle t)
+        → ((c′ : ℕ) (m′ : Making) → c′ ≤ n → Fits c′ n m′ → readFrom n c′ (i + 1) m′ r .answer ≡ parsed.the-variants.Numbers k → k ≤ n)
+        → follow i t (readFrom n c (i + 1) m r) (λ x. readFrom n c (i + 1) (Number x) r) (λ x. before x (readFrom n (c + 1) (i + 1) Nothing r)) .answer ≡ parsed.the-variants.Numbers k
+        → k ≤ n
+    by-effect effect.the-variants.Parts g ih e = ih c m h f e
+    by-effect (effect.the-variants.Grows x) g ih e = ih c (Number x) h (below c n g) e
+    by-effect (effect.the-variants.Ends x) g ih e = let s = below c n g in ih (c + 1) Nothing (omega arith) tt e
+    by-effect effect.the-variants.Unreadable g ih e = let z : _≡_ {A = ℕ} 0 1 = cc in absurd (omega arith)
+    by-effect effect.the-variants.TooLarge g ih e = let z : _≡_ {A = ℕ} 0 1 = cc in absurd (omega arith)
+    by-effect effect.the-variants.NoRoom g ih e = let z : _≡_ {A = ℕ} 0 1 = cc in absurd (omega arith)
+
+pub parsed-within : (text : List ℕ) (n k : ℕ) → readText text n .answer ≡ parsed.the-variants.Numbers k → k ≤ n
+unfolding readText
+parsed-within text n k e = read-within n text 0 1 Nothing k (omega arith) tt e

@@ -1,8 +1,5 @@
 // What the command line's tools share: arguments, files, and the lines that say why something was turned down. What is wrong is said on standard error.
 ghost use mathlib.Core.Path.{_≡_};
-ghost use Prim.Native.Nat.{ℕ, _≤_};
-ghost use lib.ListN.{length};
-ghost use Rattle.io.specs.Counts.{Counts};
 ghost use Rattle.desk.specs.Taken.{counted};
 use libc::STDERR_FILENO;
 use text::Parsed;

@@ -1,10 +1,10 @@
 -- Laws of messages, put together from their parts.
-use mathlib.Core.Path.{_≡_, refl, sym, ap, _∙_}
+use mathlib.Core.Path.{_≡_, refl}
 use mathlib.Core.List.{List, [], _∷_, _++_, append-assoc}
 use Prim.Native.Nat.{ℕ, zero, suc, _+_, _≤_, _<_}
 use native.Mathlib.Decide.{decLt}
 use native.Mathlib.Omega.{arith}
-use lib.ListN.{length, getD, set, length-append, List·getD-eq-default}
+use lib.ListN.{length, set, length-append, List·getD-eq-default}
 use Rattle.chain.specs.Written.{laid}
 use Rattle.listing.specs.Listing.{newline, decimal}
 use Rattle.listing.specs.Put.{Put}

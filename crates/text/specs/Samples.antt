@@ -1,12 +1,10 @@
 -- Samples of texts, computed.
 use mathlib.Core.Path.{_≡_, refl}
 use mathlib.Core.List.{List, [], _∷_}
-use mathlib.Core.Bool.{cond}
 use Prim.Native.Nat.{ℕ}
 use Rattle.chain.specs.Tests.{_<?_, _=?_, _or_}
 use Rattle.text.specs.declared.Parsed.the-variants.{Numbers, Unreadable, TooLarge, NoRoom}
-use Rattle.text.specs.declared.Spot.{Spot}
-use Rattle.text.specs.Text.{Found, found, kindOf, grown, effectOf, before, follow, readFrom, readText, afterByte, spotOf}
+use Rattle.text.specs.Text.{found, kindOf, grown, effectOf, before, follow, readFrom, readText, afterByte, spotOf}
 
 -- "2 1", a newline, "3 2" and a newline
 abbrev sheetA : List ℕ

@@ -11,8 +11,10 @@ use Rattle.text.specs.declared.Kind.{Kind}
 use Rattle.text.specs.declared.Kind.the-variants.{Blank, Digit, Other}
 use Rattle.text.specs.declared.Making.{Making}
 use Rattle.text.specs.declared.Making.the-variants.{Nothing, Number}
-use Rattle.text.specs.declared.Effect as effect
-use Rattle.text.specs.declared.Parsed as parsed
+use Rattle.text.specs.declared.Effect.{Effect}
+use Rattle.text.specs.declared.Effect.the-variants as effect
+use Rattle.text.specs.declared.Parsed.{Parsed}
+use Rattle.text.specs.declared.Parsed.the-variants as parsed
 use Rattle.text.specs.declared.Spot.{Spot}
 
 -- the bytes of a tab, a carriage return, and the digits 0 and 9
@@ -36,23 +38,23 @@ kindOf b =
     (Digit (b - firstDigit)))
 
 -- a digit more for the number x
-unfoldable pub grown : ℕ → ℕ → effect.Effect
-grown x d = cond (mostAmount <? 10 * x + d) effect.the-variants.TooLarge (effect.the-variants.Grows (10 * x + d))
+unfoldable pub grown : ℕ → ℕ → Effect
+grown x d = cond (mostAmount <? 10 * x + d) effect.TooLarge (effect.Grows (10 * x + d))
 
 -- what a byte of some kind does to the number in the making; the test says whether there is room for one more
-unfoldable pub effectOf : Bool → Making → Kind → effect.Effect
-effectOf room m Other = effect.the-variants.Unreadable
-effectOf room Nothing Blank = effect.the-variants.Parts
-effectOf room (Number x) Blank = effect.the-variants.Ends x
-effectOf room Nothing (Digit d) = cond room (effect.the-variants.Grows d) effect.the-variants.NoRoom
+unfoldable pub effectOf : Bool → Making → Kind → Effect
+effectOf room m Other = effect.Unreadable
+effectOf room Nothing Blank = effect.Parts
+effectOf room (Number x) Blank = effect.Ends x
+effectOf room Nothing (Digit d) = cond room (effect.Grows d) effect.NoRoom
 effectOf room (Number x) (Digit d) = grown x d
 
 -- what reading comes to: the answer, and the numbers that were read whole
 pub record Found : Type 0 where
-  pub answer : parsed.Parsed
+  pub answer : Parsed
   pub numbers : List ℕ
 
-abbrev pub found : parsed.Parsed → List ℕ → Found
+abbrev pub found : Parsed → List ℕ → Found
 found a l = record { answer = a; numbers = l }
 
 -- a number before those found
@@ -60,18 +62,18 @@ unfoldable pub before : ℕ → Found → Found
 before x f = found (f .answer) (x ∷ f .numbers)
 
 -- what follows the byte at place i by its effect: the text is read on as before, or with a number in the making; a number is whole; or reading stops
-unfoldable pub follow : ℕ → effect.Effect → Found → (ℕ → Found) → (ℕ → Found) → Found
-follow i effect.the-variants.Parts on making whole = on
-follow i (effect.the-variants.Grows x) on making whole = making x
-follow i (effect.the-variants.Ends x) on making whole = whole x
-follow i effect.the-variants.Unreadable on making whole = found (parsed.the-variants.Unreadable i) []
-follow i effect.the-variants.TooLarge on making whole = found (parsed.the-variants.TooLarge i) []
-follow i effect.the-variants.NoRoom on making whole = found (parsed.the-variants.NoRoom i) []
+unfoldable pub follow : ℕ → Effect → Found → (ℕ → Found) → (ℕ → Found) → Found
+follow i effect.Parts on making whole = on
+follow i (effect.Grows x) on making whole = making x
+follow i (effect.Ends x) on making whole = whole x
+follow i effect.Unreadable on making whole = found (parsed.Unreadable i) []
+follow i effect.TooLarge on making whole = found (parsed.TooLarge i) []
+follow i effect.NoRoom on making whole = found (parsed.NoRoom i) []
 
 -- what is read from place i on, where c numbers are read, there is room for n, and m is in the making
 unfoldable pub readFrom : ℕ → ℕ → ℕ → Making → List ℕ → Found
-readFrom n c i Nothing [] = found (parsed.the-variants.Numbers c) []
-readFrom n c i (Number x) [] = found (parsed.the-variants.Numbers (suc c)) (x ∷ [])
+readFrom n c i Nothing [] = found (parsed.Numbers c) []
+readFrom n c i (Number x) [] = found (parsed.Numbers (suc c)) (x ∷ [])
 readFrom n c i m (b ∷ r) =
     follow i (effectOf (c <? n) m (kindOf b)) (readFrom n c (suc i) m r) (λ x. readFrom n c (suc i) (Number x) r) (λ x. before x (readFrom n (suc c) (suc i) Nothing r))
 

@@ -1,7 +1,7 @@
 // A text of numbers, read; and the one line that says why something was turned down.
 ghost use mathlib.Core.Path.{_≡_};
 ghost use mathlib.Core.List.{_++_};
-ghost use Prim.Native.Nat.{ℕ, _+_, _^_, _≤_, _<_};
+ghost use Prim.Native.Nat.{_+_, _^_, _≤_, _<_};
 ghost use lib.ListN.{length};
 ghost use Rattle.chain.specs.Tests.{_<?_};
 ghost use Rattle.chain.specs.Written.{over};

@@ -13,7 +13,7 @@ use file::Reading;
 use verify::Verified;
 
 // A file's number of steps where it reads and passes, or a refusal.
-enum Judged {
+pub enum Judged {
     Passed(usize),
     Refused(u32, usize),
 }
@@ -78,7 +78,7 @@ fn better(x: Judged, y: Judged) -> Chosen
 }
 
 // Whether the file in the lent bytes reads and makes the sheet. The lent slices are large enough for any file.
-fn judge_file(
+pub fn judge_file(
     p: usize,
     q: usize,
     amounts: &[u32],

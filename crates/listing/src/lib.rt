@@ -25,7 +25,7 @@ pub const MOST_TEXT: usize = 11468;
 const MOST_BYTES: usize = 56116;
 
 // The digits of a number from a place of the text on; the place after them.
-fn put_decimal(x: u32, at: usize, text: &mut [u8]) -> usize
+pub fn put_decimal(x: usize, at: usize, text: &mut [u8]) -> usize
     requires { ⌜ at + length (decimal x) ≤ length (now text) ⌝ }
     ensures { λ r. ⌜ Put at (decimal x) (now (text .entry)) r (now (text .exit)) ⌝ }
 {
@@ -44,7 +44,7 @@ fn put_field(x: u32, at: usize, text: &mut [u8]) -> usize
     ensures { λ r. ⌜ Put at (blank ∷ decimal x) (now (text .entry)) r (now (text .exit)) ⌝ }
 {
     text[at] = b' ';
-    put_decimal(x, at + 1, text)
+    put_decimal(x as usize, at + 1, text)
 }
 
 // The amounts of payslip i, each after a blank. The table has a cell for each of 64 payslips, column after column.
@@ -68,7 +68,7 @@ fn put_payslip(i: usize, p: usize, table: &[u32], at: usize, text: &mut [u8]) ->
     ensures { λ r. ⌜ Put at (lineOf (i + 1) (inColumns p (amountIn (now (table .entry)) i))) (now (text .entry)) r (now (text .exit)) ⌝ }
     ensures { λ r. ⌜ r ≤ at + mostLine ⌝ }
 {
-    let first = put_decimal((i + 1) as u32, at, text);
+    let first = put_decimal(i + 1, at, text);
     let end = put_amounts(i, p, table, first, text);
     text[end] = b'\n';
     end + 1
@@ -94,7 +94,7 @@ fn put_sizes(p: usize, q: usize, n: usize, text: &mut [u8]) -> usize
     ensures { λ r. ⌜ Put 0 (lineOf p (q ∷ n ∷ [])) (now (text .entry)) r (now (text .exit)) ⌝ }
     ensures { λ r. ⌜ r ≤ mostSizes ⌝ }
 {
-    let first = put_decimal(p as u32, 0, text);
+    let first = put_decimal(p, 0, text);
     let second = put_field(q as u32, first, text);
     let end = put_field(n as u32, second, text);
     text[end] = b'\n';
@@ -111,7 +111,7 @@ fn put_chain(p: usize, q: usize, n: usize, table: &[u32], text: &mut [u8]) -> us
 }
 
 // Bytes as they are.
-fn put_word(word: &[u8], at: usize, text: &mut [u8]) -> usize
+pub fn put_word(word: &[u8], at: usize, text: &mut [u8]) -> usize
     requires { ⌜ at + length (now word) ≤ length (now text) ⌝ }
     ensures { λ r. ⌜ Put at (now (word .entry)) (now (text .entry)) r (now (text .exit)) ⌝ }
 {
@@ -129,7 +129,7 @@ fn put_refused(number: u32, text: &mut [u8]) -> usize
     ensures { λ r. ⌜ Put 0 (refusedText number) (now (text .entry)) r (now (text .exit)) ⌝ }
 {
     let first = put_word(b"refused ", 0, text);
-    let end = put_decimal(number, first, text);
+    let end = put_decimal(number as usize, first, text);
     text[end] = b'\n';
     end + 1
 }

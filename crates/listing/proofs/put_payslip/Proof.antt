@@ -11,9 +11,6 @@ use Rattle.listing.proofs.put_payslip.Tie as tie
 add-put-decimal : tie.Need-add-put-decimal
 add-put-decimal c = search needs
 
-cast-put-decimal : tie.Need-cast-put-decimal
-cast-put-decimal c = search needs
-
 put-decimal-requires : tie.Need-put-decimal-requires
 put-decimal-requires c κs =
     let s = c .before .before .before in
@@ -64,7 +61,6 @@ put-payslip-spec =
     tie.close
     (tie.spec
     add-put-decimal
-    cast-put-decimal
     put-decimal-requires
     put-amounts-requires
     slice-write-text

@@ -15,9 +15,6 @@ short : (s : tie.Start)
 short s =
     (decimal-short 1 (s .args .p) (omega (arith, s .pre .0)), decimal-short 1 (s .args .q) (omega (arith, s .pre .1)), decimal-short 4 (s .args .n) (omega (arith, s .pre .2)))
 
-cast-put-decimal : tie.Need-cast-put-decimal
-cast-put-decimal c = search needs
-
 put-decimal-requires : tie.Need-put-decimal-requires
 put-decimal-requires c κs = let s = c .before .before in omega (arith, short s .0, s .pre .3)
 
@@ -83,7 +80,6 @@ pub put-sizes-spec : {M : Type 1} → statement M
 put-sizes-spec =
     tie.close
     (tie.spec
-    cast-put-decimal
     put-decimal-requires
     cast-put-field
     put-field-requires

@@ -1,0 +1,112 @@
+use borrow.Author.Needs.{needs}
+use Prim.Native.Nat.{_≤_}
+use native.Mathlib.Omega.{arith}
+use Rattle.io.specs.Counts.{Counts}
+use Rattle.desk.proofs.Taking.{taken-count}
+use Rattle.compiler.proofs.main.Statement.{statement}
+use Rattle.compiler.proofs.main.Tie as tie
+
+number-given-requires : tie.Need-number-given-requires
+number-given-requires c κs = search needs
+
+enum-known-method : tie.Need-enum-known-method
+enum-known-method c = search needs
+
+enum-told : tie.Need-enum-told
+enum-told c = search needs
+
+returns : tie.Need-returns
+returns c = search needs
+
+number-given-requires-2 : tie.Need-number-given-requires-2
+number-given-requires-2 c κs = search needs
+
+enum-known-k : tie.Need-enum-known-k
+enum-known-k c = search needs
+
+enum-told-2 : tie.Need-enum-told-2
+enum-told-2 c = search needs
+
+returns-2 : tie.Need-returns-2
+returns-2 c = search needs
+
+large-buffer-requires : tie.Need-large-buffer-requires
+large-buffer-requires c κs = search needs
+
+slice-aggregate-read-full : tie.Need-slice-aggregate-read-full
+slice-aggregate-read-full c = search needs
+
+read-full-requires : tie.Need-read-full-requires
+read-full-requires c κs = search needs
+
+array-share-prefix-input : tie.Need-array-share-prefix-input
+array-share-prefix-input c = search needs
+
+slice-aggregate-sheet-in : tie.Need-slice-aggregate-sheet-in
+slice-aggregate-sheet-in c = search needs
+
+slice-aggregate-sheet-in-2 : tie.Need-slice-aggregate-sheet-in-2
+slice-aggregate-sheet-in-2 c = search needs
+
+sheet-in-requires : tie.Need-sheet-in-requires
+sheet-in-requires c κs = search needs
+
+enum-known-n : tie.Need-enum-known-n
+enum-known-n c = search needs
+
+enum-told-3 : tie.Need-enum-told-3
+enum-told-3 c = search needs
+
+returns-3 : tie.Need-returns-3
+returns-3 c = search needs
+
+-- the numbers are within the array, and p and q are there
+numbers-at : (c : tie.After-n) → (2 ≤ c .n .given .0 .0) × Counts (c .n .given .0 .0) (c .before .before .before .sheet-in .last .1 .0)
+numbers-at c = taken-count 2 _ _ _ (c .before .before .before .sheet-in .ensures) (c .n .given .1)
+
+array-share-prefix-numbers : tie.Need-array-share-prefix-numbers
+array-share-prefix-numbers c = numbers-at (c .before) .1 .0
+
+slice-aggregate-compile-sheet : tie.Need-slice-aggregate-compile-sheet
+slice-aggregate-compile-sheet c = numbers-at (c .before .before) .1 .1
+
+slice-aggregate-compile-sheet-2 : tie.Need-slice-aggregate-compile-sheet-2
+slice-aggregate-compile-sheet-2 c = search needs
+
+slice-aggregate-compile-sheet-3 : tie.Need-slice-aggregate-compile-sheet-3
+slice-aggregate-compile-sheet-3 c = search needs
+
+compile-sheet-requires : tie.Need-compile-sheet-requires
+compile-sheet-requires c κs = let h = numbers-at (c .before .before .before .before) in omega (arith, h .0, h .1 .1)
+
+returns-4 : tie.Need-returns-4
+returns-4 c = search needs
+
+pub main-spec : {M : Type 1} → statement M
+main-spec =
+    tie.close
+    (tie.spec
+    number-given-requires
+    enum-known-method
+    enum-told
+    returns
+    number-given-requires-2
+    enum-known-k
+    enum-told-2
+    returns-2
+    large-buffer-requires
+    slice-aggregate-read-full
+    read-full-requires
+    array-share-prefix-input
+    slice-aggregate-sheet-in
+    slice-aggregate-sheet-in-2
+    sheet-in-requires
+    enum-known-n
+    enum-told-3
+    returns-3
+    array-share-prefix-numbers
+    slice-aggregate-compile-sheet
+    slice-aggregate-compile-sheet-2
+    slice-aggregate-compile-sheet-3
+    compile-sheet-requires
+    returns-4)

@@ -1,0 +1,109 @@
+// What the command line's tools share: arguments, files, and the lines that say why something was turned down. What is wrong is said on standard error.
+ghost use mathlib.Core.Path.{_≡_};
+ghost use Rattle.desk.specs.Taken.{counted};
+use libc::STDERR_FILENO;
+use text::Parsed;
+
+// Room for the numbers of the largest sheet: p, q and the amounts.
+pub const MOST_NUMBERS: usize = 1026;
+
+// As many bytes as a sheet's text may not have.
+const MOST_TEXT: usize = 65536;
+
+// A number, or nothing where something was wrong and has been said.
+pub enum Given {
+    Number(u32),
+    Nothing,
+}
+
+// How many bytes or numbers were taken, or nothing where something was wrong and has been said.
+pub enum Taken {
+    Count(usize),
+    Nothing,
+}
+
+// A number as a size.
+pub fn size(number: u32) -> usize
+    ensures { λ r. ⌜ r ≡ number ⌝ }
+{
+    number as usize
+}
+
+// Writes the line of a refusal to an open file.
+pub fn tell_refusal(fd: i32, number: u32, place: usize) {
+    let mut message = [0u8; text::MOST_MESSAGE];
+    let n = text::put_refusal(number, place, &mut message);
+    io::write_all(fd, &message[..n]);
+}
+
+// Says why a text was not read; nothing where it was.
+fn tell_fault(input: &[u8], parsed: Parsed) {
+    let mut message = [0u8; text::MOST_MESSAGE];
+    let n = text::put_fault(input, parsed, &mut message);
+    io::write_all(STDERR_FILENO, &message[..n]);
+}
+
+// Says what argument i has to be.
+fn tell_argument(i: usize, wanted: &[u8]) {
+    io::write_all(STDERR_FILENO, b"argument ");
+    io::print_decimal(STDERR_FILENO, i as u64);
+    io::write_all(STDERR_FILENO, wanted);
+}
+
+// Argument i as a number.
+pub fn number_given(i: usize) -> Given {
+    let mut word = io::buffer();
+    let n = os::arg(i, &mut word);
+    let mut numbers = [0u32; 1];
+    let parsed = text::parse(&word[..n], &mut numbers);
+    if let Parsed::Numbers(count) = parsed {
+        if count == 1 {
+            return Given::Number(numbers[0]);
+        }
+    }
+    tell_argument(i, b": a number from 0 to 4,294,967,295 is wanted\n");
+    Given::Nothing
+}
+
+// The bytes of the file that argument i names, over the front of the lent ones.
+pub fn file_given(i: usize, bytes: &mut [u8]) -> Taken
+    ensures { λ r. ⌜ counted 0 r (now (bytes .exit)) ⌝ }
+{
+    let mut path = io::buffer();
+    let n = os::arg(i, &mut path);
+    if os::errno() != 0 {
+        tell_argument(i, b": a file's name is wanted\n");
+        return Taken::Nothing;
+    }
+    let fd = os::open_read(&path[..n]);
+    if fd < 0 {
+        os::fail(&path[..n]);
+        return Taken::Nothing;
+    }
+    let count = io::read_full(fd, bytes);
+    libc::close(fd);
+    Taken::Count(count)
+}
+
+// The numbers of a sheet's text, p and q before the amounts, over the front of the lent ones. Without p or q it is refused as with p or q 0.
+pub fn sheet_in(input: &[u8], numbers: &mut [u32]) -> Taken
+    ensures { λ r. ⌜ counted 2 r (now (numbers .exit)) ⌝ }
+{
+    if MOST_TEXT <= input.len() {
+        io::write_all(
+            STDERR_FILENO,
+            b"the sheet's text has 65,536 bytes or more\n",
+        );
+        return Taken::Nothing;
+    }
+    let parsed = text::parse(input, numbers);
+    tell_fault(input, parsed);
+    let Parsed::Numbers(count) = parsed else {
+        return Taken::Nothing;
+    };
+    if count < 2 {
+        tell_refusal(STDERR_FILENO, 1, 0);
+        return Taken::Nothing;
+    }
+    Taken::Count(count)
+}

@@ -1,6 +1,9 @@
 // compiler METHOD PARAMETER: compiles the sheet whose text is on standard input (p, q, then the amounts) and writes the chain's file to standard output.
-ghost use Prim.Native.Nat.{_≤_};
+ghost use mathlib.Core.Path.{_≡_};
+ghost use Prim.Native.Nat.{_/_, _≤_};
 ghost use lib.ListN.{length};
+ghost use Rattle.file.specs.Answers.{writtenOf};
+ghost use Rattle.compiler.specs.Made.{madeAnswer, madeBytes};
 use compile::Compiled;
 use desk::Given;
 use desk::Taken;
@@ -9,20 +12,18 @@ use libc::STDERR_FILENO;
 use libc::STDIN_FILENO;
 use libc::STDOUT_FILENO;
 
-// Writes the file of a chain.
-fn write_file(p: usize, steps: &[u32], outputs: &[u32]) {
-    let mut bytes = io::large_buffer();
-    match file::write(p, steps, outputs, &mut bytes) {
-        Written::Refused(number, place) => desk::tell_refusal(STDERR_FILENO, number, place),
-        Written::Bytes(n) => {
-            io::write_all(STDOUT_FILENO, &bytes[..n]);
-        }
-    }
-}
-
-// Compiles a sheet, whose p and q stand before its amounts, and writes the chain's file. The chain is made in the lent slices.
-fn compile_sheet(numbers: &[u32], method: u32, k: u32, steps: &mut [u32], outputs: &mut [u32])
+// Compiles a sheet, whose p and q stand before its amounts, and writes the chain's file into the lent bytes. The chain is made in the lent slices.
+fn make_file(
+    numbers: &[u32],
+    method: u32,
+    k: u32,
+    steps: &mut [u32],
+    outputs: &mut [u32],
+    bytes: &mut [u8],
+) -> Written
     requires { ⌜ 2 ≤ length (now numbers) ⌝ }
+    ensures { λ r. ⌜ writtenOf r ≡ madeAnswer (now (numbers .entry)) method k (length (now (steps .entry)) / 2) (length (now (outputs .entry))) (length (now (bytes .entry))) ⌝ }
+    ensures { λ r. ⌜ now (bytes .exit) ≡ madeBytes (now (numbers .entry)) method k (length (now (steps .entry)) / 2) (length (now (outputs .entry))) (now (bytes .entry)) ⌝ }
 {
     let p = desk::size(numbers[0]);
     let q = desk::size(numbers[1]);
@@ -35,8 +36,8 @@ fn compile_sheet(numbers: &[u32], method: u32, k: u32, steps: &mut [u32], output
         steps,
         outputs,
     ) {
-        Compiled::Refused(number, place) => desk::tell_refusal(STDERR_FILENO, number, place),
-        Compiled::Steps(n) => write_file(p, &steps[..2 * n], &outputs[..q]),
+        Compiled::Refused(number, place) => Written::Refused(number, place),
+        Compiled::Steps(n) => file::write(p, &steps[..2 * n], &outputs[..q], bytes),
     }
 }
 
@@ -55,5 +56,18 @@ fn main() {
     };
     let mut steps = [0u32; 2 * chain::MOST_STEPS];
     let mut outputs = [0u32; chain::MOST_PAYSLIPS];
-    compile_sheet(&numbers[..n], method, k, &mut steps, &mut outputs);
+    let mut bytes = io::large_buffer();
+    match make_file(
+        &numbers[..n],
+        method,
+        k,
+        &mut steps,
+        &mut outputs,
+        &mut bytes,
+    ) {
+        Written::Refused(number, place) => desk::tell_refusal(STDERR_FILENO, number, place),
+        Written::Bytes(size) => {
+            io::write_all(STDOUT_FILENO, &bytes[..size]);
+        }
+    }
 }

@@ -3,3 +3,6 @@ pub mod compiler;
 pub mod ffi;
 pub mod random;
 pub mod reference;
+mod tool;
+
+pub use tool::tool;

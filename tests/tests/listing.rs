@@ -3,8 +3,7 @@ use spoutbasket::LONGEST_LISTING;
 use spoutbasket_tests::ffi;
 use spoutbasket_tests::random::{legal_chain, Chain, Random};
 use spoutbasket_tests::reference::{self, LONGEST_FILE};
-use std::io::Write;
-use std::process::{Command, Stdio};
+use spoutbasket_tests::tool;
 
 fn file_of(chain: &Chain) -> Vec<u8> {
     let mut bytes = vec![0; LONGEST_FILE];
@@ -90,28 +89,14 @@ fn the_largest_listing() {
     );
 }
 
-/// What the program writes for an input.
-fn lister(input: &[u8]) -> Vec<u8> {
-    let program = concat!(env!("CARGO_MANIFEST_DIR"), "/../target/bin/lister");
-    let mut child = Command::new(program)
-        .stdin(Stdio::piped())
-        .stdout(Stdio::piped())
-        .spawn()
-        .expect("the program is built by `rt check lister`");
-    let mut stdin = child.stdin.take().unwrap();
-    let input = input.to_vec();
-    // the program stops reading an input that is too long
-    let writer = std::thread::spawn(move || stdin.write_all(&input).is_ok());
-    let output = child.wait_with_output().unwrap();
-    writer.join().unwrap();
-    assert!(output.status.success());
-    output.stdout
-}
-
 #[test]
 fn the_program() {
     for bytes in files().iter().take(60) {
         let expected = reference::listing(bytes);
-        assert_eq!(String::from_utf8_lossy(&lister(bytes)), expected);
+        let (said, silent) = tool("lister", &[], bytes);
+        assert_eq!(
+            (String::from_utf8(said).unwrap(), silent),
+            (expected, String::new())
+        );
     }
 }

@@ -18,5 +18,6 @@ pub fn tool(name: &str, arguments: &[String], input: &[u8]) -> (Vec<u8>, String)
     let writer = std::thread::spawn(move || stdin.write_all(&input).is_ok());
     let output = child.wait_with_output().unwrap();
     writer.join().unwrap();
+    assert!(output.status.success(), "{name} {arguments:?}");
     (output.stdout, String::from_utf8(output.stderr).unwrap())
 }

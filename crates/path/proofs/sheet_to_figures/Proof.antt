@@ -1,17 +1,17 @@
 use borrow.Author.Needs.{needs}
 use mathlib.Core.Path.{_≡_, sym, ap, _∙_}
-use mathlib.Core.List.{List}
 use Prim.Native.Nat.{ℕ, _≤_}
 use native.Mathlib.Omega.{arith}
 use lib.ListN.{getD}
 use lib.Seq.{length-take-le}
 use denote.Ref.{now}
+use Rattle.chain.specs.Verdict.{fine}
 use Rattle.chain.specs.Chain.{mostAmount, pairs}
 use Rattle.chain.proofs.Pairs.{pairs-flat}
+use Rattle.compile.specs.Compile.{count}
 use Rattle.compile.proofs.Filled.{Filled, filled, compile-stops, compile-passes, compile-counts}
-use Rattle.file.specs.File.{stepsOf, outputsOf}
 use Rattle.file.proofs.Taken.{Taken}
-use Rattle.path.specs.Path.{Lent, lent, written}
+use Rattle.path.specs.Path.{Lent, lent, written, compiles}
 use Rattle.path.proofs.Whole.{not-compiled, not-dispatched, read-alone, not-received, all-done}
 use Rattle.path.proofs.sheet_to_figures.Statement.{statement}
 use Rattle.path.proofs.sheet_to_figures.Tie as tie
@@ -41,6 +41,19 @@ slices s =
 low : (r : tie.After-compile) (j : ℕ) → getD (now (start r .args .amounts)) j 0 ≤ mostAmount
 low r j = omega (arith, r .before .before .before .before .before .before .before .before .before .before .before .before .shared-slice-known .given j)
 
+-- compile found nothing, and told the count
+accepted-at : (c : tie.After-compiled) → let s = start (compiling c) in fine ≡ compiles (s .args .p) (s .args .q) (now (s .args .amounts)) (s .args .method) (s .args .k) (slices s)
+accepted-at c =
+    let r = compiling c in
+    let s = start r in
+    compile-passes (s .args .p) (s .args .q) (now (s .args .amounts)) (s .args .method) (s .args .k) (now (s .args .steps)) (now (s .args .outputs)) _ (r .compile .ensures .0) _ (c .compiled .given .1)
+
+counted-at : (c : tie.After-compiled) → let s = start (compiling c) in c .compiled .given .0 .0 ≡ count (s .args .p) (s .args .q) (now (s .args .amounts)) (s .args .method) (s .args .k)
+counted-at c =
+    let r = compiling c in
+    let s = start r in
+    compile-counts (s .args .p) (s .args .q) (now (s .args .amounts)) (s .args .method) (s .args .k) (now (s .args .steps)) (now (s .args .outputs)) _ (r .compile .ensures .0) _ (c .compiled .given .1)
+
 -- the chain that compile filled
 filled-at : (c : tie.After-compiled)
     → let r = compiling c in
@@ -63,7 +76,7 @@ taken-at c =
     let s = start r in
     let f = filled-at n in
     read-alone (s .args .p) (s .args .q) (now (s .args .amounts)) (s .args .method) (s .args .k) (low r) (slices s) (s .args .m) (now (s .args .bases)) _ _ (r .compile .ensures .1 .0) (r .compile .ensures .1 .1)
-    (compile-passes (s .args .p) (s .args .q) (now (s .args .amounts)) (s .args .method) (s .args .k) (now (s .args .steps)) (now (s .args .outputs)) _ (r .compile .ensures .0) _ (n .compiled .given .1))
+    (accepted-at n)
     _ _ (f .steps-front) (f .outputs-front) _ (d .dispatch .ensures .0) _ _ _ (d .dispatch .ensures .1 .0) (d .dispatch .ensures .1 .1 .0) (d .dispatch .ensures .1 .1 .1)
     _ _ _ (c .columns .given .1)
 
@@ -160,7 +173,7 @@ returns-2 c =
     let s = start r in
     let f = filled-at n in
     not-dispatched (s .args .p) (s .args .q) (now (s .args .amounts)) (s .args .method) (s .args .k) (low r) (slices s) (s .args .m) (now (s .args .bases)) _ _ (r .compile .ensures .1 .0) (r .compile .ensures .1 .1)
-    (compile-passes (s .args .p) (s .args .q) (now (s .args .amounts)) (s .args .method) (s .args .k) (now (s .args .steps)) (now (s .args .outputs)) _ (r .compile .ensures .0) _ (n .compiled .given .1))
+    (accepted-at n)
     _ _ (f .steps-front) (f .outputs-front) _ (d .dispatch .ensures .0) _ _ _ (d .dispatch .ensures .1 .0) (d .dispatch .ensures .1 .1 .0) (d .dispatch .ensures .1 .1 .1)
     _ _ (c .before .number2 .given .1)
 
@@ -199,10 +212,10 @@ returns-3 c =
     let f = filled-at n in
     let t = taken-at w in
     not-received (s .args .p) (s .args .q) (now (s .args .amounts)) (s .args .method) (s .args .k) (low r) (slices s) (s .args .m) (now (s .args .bases)) _ _ (r .compile .ensures .1 .0) (r .compile .ensures .1 .1)
-    (compile-passes (s .args .p) (s .args .q) (now (s .args .amounts)) (s .args .method) (s .args .k) (now (s .args .steps)) (now (s .args .outputs)) _ (r .compile .ensures .0) _ (n .compiled .given .1))
+    (accepted-at n)
     _ _ (f .steps-front) (f .outputs-front) _ (d .dispatch .ensures .0) _ _ _ (d .dispatch .ensures .1 .0) (d .dispatch .ensures .1 .1 .0) (d .dispatch .ensures .1 .1 .1)
     _ _ _ (w .columns .given .1)
-    _ (compile-counts (s .args .p) (s .args .q) (now (s .args .amounts)) (s .args .method) (s .args .k) (now (s .args .steps)) (now (s .args .outputs)) _ (r .compile .ensures .0) _ (n .compiled .given .1))
+    _ (counted-at n)
     _ _ (t .columns) (ap pairs (t .steps-front) ∙ pairs-flat _) (t .outputs-front)
     _ (e .receive .ensures .0) _ _ _ (e .receive .ensures .1 .0) (e .receive .ensures .1 .1 .0) (e .receive .ensures .1 .1 .1)
     _ _ (c .before .number3 .given .1)
@@ -242,10 +255,10 @@ returns-4 c =
     let f = filled-at n in
     let t = taken-at w in
     all-done (s .args .p) (s .args .q) (now (s .args .amounts)) (s .args .method) (s .args .k) (low r) (slices s) (s .args .m) (now (s .args .bases)) _ _ (r .compile .ensures .1 .0) (r .compile .ensures .1 .1)
-    (compile-passes (s .args .p) (s .args .q) (now (s .args .amounts)) (s .args .method) (s .args .k) (now (s .args .steps)) (now (s .args .outputs)) _ (r .compile .ensures .0) _ (n .compiled .given .1))
+    (accepted-at n)
     _ _ (f .steps-front) (f .outputs-front) _ (d .dispatch .ensures .0) _ _ _ (d .dispatch .ensures .1 .0) (d .dispatch .ensures .1 .1 .0) (d .dispatch .ensures .1 .1 .1)
     _ _ _ (w .columns .given .1)
-    _ (compile-counts (s .args .p) (s .args .q) (now (s .args .amounts)) (s .args .method) (s .args .k) (now (s .args .steps)) (now (s .args .outputs)) _ (r .compile .ensures .0) _ (n .compiled .given .1))
+    _ (counted-at n)
     _ _ (t .columns) (ap pairs (t .steps-front) ∙ pairs-flat _) (t .outputs-front)
     _ (e .receive .ensures .0) _ _ _ (e .receive .ensures .1 .0) (e .receive .ensures .1 .1 .0) (e .receive .ensures .1 .1 .1)
     _ (c .before .made .given .1)

@@ -1,6 +1,6 @@
 -- What the answer of `compile` tells its caller.
 use mathlib.Core.Path.{_≡_, refl, sym, ap, _∙_}
-use mathlib.Core.List.{List, [], _∷_}
+use mathlib.Core.List.{List}
 use Prim.Native.Nat.{ℕ, _*_, _/_, _≤_}
 use native.Mathlib.Omega.{arith}
 use lib.ListN.{length, getD, take}
@@ -11,7 +11,7 @@ use Rattle.chain.proofs.Rules.{then-fine, refuseIf-fine, neither, not-lt, renew
 use Rattle.chain.proofs.Told.{verdictIn, told, told-values}
 use Rattle.chain.proofs.Pairs.{pairs-flat, length-flat}
 use Rattle.chain.proofs.Written.{take-over, over-length}
-use Rattle.compile.specs.Compile.{chainOf, count, acceptedRule, compileRule, compileAnswer, compileSteps, compileOutputs}
+use Rattle.compile.specs.Compile.{chainOf, count, compileRule, compileAnswer, compileSteps, compileOutputs}
 use Rattle.compile.specs.Compiled.{compiledOf}
 use Rattle.compile.specs.declared.Compiled.{Compiled}
 use Rattle.compile.specs.declared.Compiled.the-variants.{Steps, Refused}

@@ -5,7 +5,7 @@ use Prim.Native.Nat.{ℕ, _*_, _≤_}
 use native.Mathlib.Decide.{ℕ-discrete}
 use native.Mathlib.Omega.{arith}
 use lib.ListN.{length}
-use Rattle.chain.specs.Verdict.{fine, refused, _then_}
+use Rattle.chain.specs.Verdict.{fine, _then_}
 use Rattle.chain.specs.Chain.{mostColumns, mostPayslips, mostSteps}
 use Rattle.chain.proofs.Rules.{not-fine, then-fine, refuseIf-fine, refuse-yes, neither, not-lt}
 use Rattle.chain.proofs.Sizes.{Sizes, sizes-fit, length-fits}

@@ -1,10 +1,9 @@
 -- The theorems of a compiled chain, whatever its method: it is legal, each output makes its payslip, no exponent is too large, and its steps are as
 -- many as the method's count, which keeps to the ceiling.
-use mathlib.Core.Path.{_≡_, refl, sym, ap, subst, _∙_}
+use mathlib.Core.Path.{_≡_}
 use mathlib.Core.List.{List}
 use Prim.Native.Nat.{ℕ, _+_, _≤_, _<_}
 use native.Mathlib.Decide.{ℕ-discrete}
-use native.Mathlib.Omega.{arith}
 use lib.ListN.{length, getD}
 use Rattle.chain.specs.Verdict.{fine}
 use Rattle.chain.specs.Chain.{Chain, mostAmount, stepsRule, outputsRule}

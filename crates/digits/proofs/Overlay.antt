@@ -1,5 +1,5 @@
 -- Laws of numbers one over the other: their digits are 0 together, and they are as many as the largest has.
-use mathlib.Core.Path.{_≡_, refl, ap, ap₂, _∙_}
+use mathlib.Core.Path.{_≡_, ap, ap₂, _∙_}
 use Prim.Native.Nat.{ℕ, zero, suc, _+_, _*_, _%_, _^_, _≤_, _<_}
 use native.Mathlib.Nat.{le-refl, le-antisymm, lt-of-le-of-lt}
 use native.Mathlib.Numerals.{add-one}

@@ -1,5 +1,5 @@
 -- The inputs of a sheet: the powers of its columns. What each makes, and what sums over them come to.
-use mathlib.Core.Path.{_≡_, refl, sym, ap, _∙_}
+use mathlib.Core.Path.{_≡_, sym, ap, _∙_}
 use mathlib.Core.List.{List}
 use Prim.Native.Nat.{ℕ, zero, suc, _+_, _-_, _*_, _^_, _≤_, _<_}
 use native.Mathlib.Nat.{mul-comm, mul-assoc, one-mul, lt-of-le-of-lt, le-refl, pow-suc}
@@ -8,7 +8,7 @@ use lib.ListN.{length, getD}
 use lib.Pow.{pow-pos}
 use Rattle.chain.specs.Chain.{mostAmount}
 use Rattle.chain.proofs.Exponents.{Makes, makes-like}
-use Rattle.digits.specs.Digits.{bitLength, digit}
+use Rattle.digits.specs.Digits.{digit}
 use Rattle.digits.specs.Range.{sumTo}
 use Rattle.digits.proofs.Range.{sum-same, sum-mul, le-max, max-low}
 use Rattle.digits.proofs.Count.{bits-low, low-bits}

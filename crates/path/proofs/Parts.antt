@@ -1,9 +1,9 @@
 -- What write and read, and check and run, answer and leave in their lent slices.
 use mathlib.Core.Path.{_≡_, refl, sym, ap, _∙_}
-use mathlib.Core.List.{List, [], _∷_}
+use mathlib.Core.List.{List}
 use Prim.Native.Nat.{ℕ, _/_}
 use lib.ListN.{length, take}
-use Rattle.chain.specs.Verdict.{Verdict, fine, refused, _then_, Answer, refusal, answer, onFine}
+use Rattle.chain.specs.Verdict.{Verdict, fine, refused, _then_, Answer, refusal, answer}
 use Rattle.chain.specs.declared.Step.{Step}
 use Rattle.chain.proofs.Rules.{stop, pass, answer-refused, kept, renewed}
 use Rattle.chain.proofs.Told.{verdictIn, told}
@@ -12,7 +12,7 @@ use Rattle.verify.specs.Verified.{verifiedOf}
 use Rattle.verify.specs.declared.Verified.{Verified}
 use Rattle.verify.specs.declared.Verified.the-variants as verified
 use Rattle.run.specs.Run.{runAnswer, runValues, runFigures}
-use Rattle.file.specs.File.{fileOf, writeRule, writeAnswer, writeBytes, readAnswer, readSteps, readOutputs}
+use Rattle.file.specs.File.{fileOf, writeAnswer, writeBytes, readAnswer, readSteps, readOutputs}
 use Rattle.file.specs.Answers.{writtenOf}
 use Rattle.file.specs.declared.Written.{Written}
 use Rattle.file.specs.declared.Written.the-variants as written

@@ -1,5 +1,5 @@
 -- What the definitions promise of the chain of an accepted sheet, call by call.
-use mathlib.Core.Path.{_≡_, refl, sym, ap, subst, _∙_}
+use mathlib.Core.Path.{_≡_, sym, ap, subst, _∙_}
 use mathlib.Core.List.{List}
 use Prim.Native.Nat.{ℕ, _+_, _*_, _≤_, _<_}
 use native.Mathlib.Omega.{arith}
@@ -10,7 +10,7 @@ use Rattle.chain.specs.declared.Step.{Step}
 use Rattle.chain.proofs.Rules.{pass, refuse-no, or-none, lt-no}
 use Rattle.chain.proofs.Sizes.{Sizes}
 use Rattle.chain.proofs.Outputs.{outputs-low}
-use Rattle.chain.proofs.Legal.{LegalChain, parts-legal, parts-chain}
+use Rattle.chain.proofs.Legal.{parts-legal, parts-chain}
 use Rattle.residue.specs.Residue.{figure}
 use Rattle.verify.specs.Verify.{scratchSize, verifyRule}
 use Rattle.verify.proofs.Passing.{Passing, passes-verify}

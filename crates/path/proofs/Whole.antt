@@ -1,14 +1,13 @@
 -- What the five calls answer and leave in the lent slices, from what each call tells.
 use mathlib.Core.Path.{_≡_, refl, sym, ap, _∙_}
 use mathlib.Core.List.{List, [], _∷_}
-use Prim.Native.Nat.{ℕ, _*_, _/_, _≤_}
-use lib.ListN.{length, getD, take}
+use Prim.Native.Nat.{ℕ, _/_, _≤_}
+use lib.ListN.{length, getD}
 use Rattle.chain.specs.Verdict.{Verdict, fine, refused, _then_, Answer, done, refusal, answer, onFine}
-use Rattle.chain.specs.Chain.{mostAmount, pairs}
+use Rattle.chain.specs.Chain.{mostAmount}
 use Rattle.chain.specs.declared.Step.{Step}
 use Rattle.chain.proofs.Rules.{stop, pass, then-fine, then-assoc, answer-refused, answer-done, kept, renewed}
 use Rattle.chain.proofs.Told.{verdictIn, told, told-values}
-use Rattle.chain.proofs.Pairs.{pairs-flat}
 use Rattle.verify.specs.Verify.{verifyScratch}
 use Rattle.run.specs.Ran.{ranOf}
 use Rattle.run.specs.declared.Ran.{Ran}

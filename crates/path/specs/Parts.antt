@@ -1,8 +1,8 @@
 -- Two parts of the path: write and read, check and run. What each answers and leaves in its lent slices.
 use mathlib.Core.List.{List, [], _∷_}
-use Prim.Native.Nat.{ℕ, _/_}
+use Prim.Native.Nat.{ℕ}
 use lib.ListN.{length}
-use Rattle.chain.specs.Verdict.{Verdict, _then_, Answer, answer, onFine}
+use Rattle.chain.specs.Verdict.{_then_, Answer, answer, onFine}
 use Rattle.chain.specs.declared.Step.{Step}
 use Rattle.verify.specs.Verify.{verifyRule}
 use Rattle.run.specs.Run.{runRule, runValues, runFigures}

@@ -2,7 +2,7 @@
 use mathlib.Core.Path.{_≡_, refl, sym, ap, ap₂, _∙_}
 use mathlib.Core.List.{List}
 use Prim.Native.Nat.{ℕ, zero, suc, _+_, _-_, _*_, _^_, _≤_, _<_}
-use native.Mathlib.Nat.{add-mul, mul-comm, mul-one, one-mul, mul-zero, zero-mul, pow-suc, mul-le-mul-left, mul-le-mul-right, lt-of-lt-of-le}
+use native.Mathlib.Nat.{mul-comm, mul-one, mul-zero, zero-mul, pow-suc, mul-le-mul-left, mul-le-mul-right, lt-of-lt-of-le}
 use native.Mathlib.Omega.{arith}
 use lib.Bits.{bitOr}
 use lib.Pow.{pow-mono, pow-pos}

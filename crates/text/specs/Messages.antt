@@ -2,7 +2,7 @@
 use mathlib.Core.List.{List, [], _∷_, _++_}
 use Prim.Native.Nat.{ℕ, zero, suc}
 use lib.ListN.{getD}
-use Rattle.listing.specs.Listing.{blank, newline, decimal, refusedWord}
+use Rattle.listing.specs.Listing.{newline, decimal, refusedWord}
 use Rattle.text.specs.Text.{spotOf}
 use Rattle.text.specs.declared.Parsed.{Parsed}
 use Rattle.text.specs.declared.Parsed.the-variants.{Numbers, Unreadable, TooLarge, NoRoom}

@@ -1,7 +1,7 @@
 -- Tables of examples: a row is what the definitions give and what it should be, both as numbers. One computed test proves a whole table.
 use mathlib.Core.Path.{_≡_, refl, ap₂}
 use mathlib.Core.Bool.{Bool, true, false, _&&_}
-use mathlib.Core.List.{List, [], _∷_, _++_}
+use mathlib.Core.List.{List, [], _∷_}
 use Prim.Native.Nat.{ℕ, zero, suc, _<_}
 use lib.ListN.{length, getD}
 use lib.Dec.{T, eqb, eqb→eq}

@@ -1,5 +1,4 @@
 use borrow.Author.Needs.{needs, fits-under}
-use mathlib.Core.Path.{refl}
 use lib.Pow.{pow-pos}
 use Rattle.partition.proofs.Rows.{base-word, front-low}
 use Rattle.partition.proofs.front.Statement.{statement}

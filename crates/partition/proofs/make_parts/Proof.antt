@@ -1,6 +1,5 @@
 use mathlib.Core.Path.{_≡_}
 use Prim.Native.Nat.{_≤_, _-_}
-use native.Mathlib.Omega.{arith}
 use lib.ListN.{length}
 use Rattle.methods.specs.Emitted.{stepsIn, Emitted}
 use Rattle.methods.proofs.Emitted.{emitted-own, length-stepsIn}

@@ -231,6 +231,47 @@ pub fn read(bytes: &[u8], steps: &mut [u32], outputs: &mut [u32], answer: &mut [
     }
 }
 
+/// The check in one of its two forms: steps lent flat, or as pairs.
+type Verify<S> = unsafe extern "C" fn(
+    usize,
+    *const S,
+    usize,
+    *const u32,
+    usize,
+    *const u32,
+    usize,
+    *mut u32,
+    usize,
+    *mut [u64; 4],
+) -> u32;
+
+#[inline]
+fn verify_by<S>(
+    call: Verify<S>,
+    p: usize,
+    steps: &[S],
+    outputs: &[u32],
+    amounts: &[u32],
+    scratch: &mut [u32],
+    answer: &mut [u64; 4],
+) -> u32 {
+    // SAFETY: slices, each with its own length
+    unsafe {
+        call(
+            p,
+            steps.as_ptr(),
+            steps.len(),
+            outputs.as_ptr(),
+            outputs.len(),
+            amounts.as_ptr(),
+            amounts.len(),
+            scratch.as_mut_ptr(),
+            scratch.len(),
+            answer,
+        )
+    }
+}
+
 /// Checks a chain against the amounts of a sheet; answers nothing.
 #[inline]
 pub fn verify(
@@ -241,18 +282,82 @@ pub fn verify(
     scratch: &mut [u32],
     answer: &mut [u64; 4],
 ) -> u32 {
+    verify_by(
+        spoutbasket_verify,
+        p,
+        steps,
+        outputs,
+        amounts,
+        scratch,
+        answer,
+    )
+}
+
+/// As [`verify`], with the steps lent as pairs.
+#[inline]
+pub fn verify_pairs(
+    p: usize,
+    steps: &[[u32; 2]],
+    outputs: &[u32],
+    amounts: &[u32],
+    scratch: &mut [u32],
+    answer: &mut [u64; 4],
+) -> u32 {
+    verify_by(
+        spoutbasket_verify_pairs,
+        p,
+        steps,
+        outputs,
+        amounts,
+        scratch,
+        answer,
+    )
+}
+
+/// The run in one of its two forms.
+type Run<S> = unsafe extern "C" fn(
+    usize,
+    *const S,
+    usize,
+    *const u32,
+    usize,
+    u32,
+    *const u32,
+    usize,
+    *mut u32,
+    usize,
+    *mut u32,
+    usize,
+    *mut [u64; 4],
+) -> u32;
+
+#[inline]
+fn run_by<S>(
+    call: Run<S>,
+    p: usize,
+    steps: &[S],
+    outputs: &[u32],
+    modulus: u32,
+    bases: &[u32],
+    values: &mut [u32],
+    figures: &mut [u32],
+    answer: &mut [u64; 4],
+) -> u32 {
     // SAFETY: slices, each with its own length
     unsafe {
-        spoutbasket_verify(
+        call(
             p,
             steps.as_ptr(),
             steps.len(),
             outputs.as_ptr(),
             outputs.len(),
-            amounts.as_ptr(),
-            amounts.len(),
-            scratch.as_mut_ptr(),
-            scratch.len(),
+            modulus,
+            bases.as_ptr(),
+            bases.len(),
+            values.as_mut_ptr(),
+            values.len(),
+            figures.as_mut_ptr(),
+            figures.len(),
             answer,
         )
     }
@@ -270,51 +375,17 @@ pub fn run(
     figures: &mut [u32],
     answer: &mut [u64; 4],
 ) -> u32 {
-    // SAFETY: slices, each with its own length
-    unsafe {
-        spoutbasket_run(
-            p,
-            steps.as_ptr(),
-            steps.len(),
-            outputs.as_ptr(),
-            outputs.len(),
-            modulus,
-            bases.as_ptr(),
-            bases.len(),
-            values.as_mut_ptr(),
-            values.len(),
-            figures.as_mut_ptr(),
-            figures.len(),
-            answer,
-        )
-    }
-}
-
-/// As [`verify`], with the steps lent as pairs.
-#[inline]
-pub fn verify_pairs(
-    p: usize,
-    steps: &[[u32; 2]],
-    outputs: &[u32],
-    amounts: &[u32],
-    scratch: &mut [u32],
-    answer: &mut [u64; 4],
-) -> u32 {
-    // SAFETY: slices, each with its own length
-    unsafe {
-        spoutbasket_verify_pairs(
-            p,
-            steps.as_ptr(),
-            steps.len(),
-            outputs.as_ptr(),
-            outputs.len(),
-            amounts.as_ptr(),
-            amounts.len(),
-            scratch.as_mut_ptr(),
-            scratch.len(),
-            answer,
-        )
-    }
+    run_by(
+        spoutbasket_run,
+        p,
+        steps,
+        outputs,
+        modulus,
+        bases,
+        values,
+        figures,
+        answer,
+    )
 }
 
 /// As [`run`], with the steps lent as pairs.
@@ -329,24 +400,17 @@ pub fn run_pairs(
     figures: &mut [u32],
     answer: &mut [u64; 4],
 ) -> u32 {
-    // SAFETY: slices, each with its own length
-    unsafe {
-        spoutbasket_run_pairs(
-            p,
-            steps.as_ptr(),
-            steps.len(),
-            outputs.as_ptr(),
-            outputs.len(),
-            modulus,
-            bases.as_ptr(),
-            bases.len(),
-            values.as_mut_ptr(),
-            values.len(),
-            figures.as_mut_ptr(),
-            figures.len(),
-            answer,
-        )
-    }
+    run_by(
+        spoutbasket_run_pairs,
+        p,
+        steps,
+        outputs,
+        modulus,
+        bases,
+        values,
+        figures,
+        answer,
+    )
 }
 
 /// Chooses between two files for a sheet, with scratch for 16,000 steps, 64 outputs and 16,017 numbers; answers 1 or 2.

@@ -1,6 +1,7 @@
 // What the command line's tools share: arguments, files, and the lines that say why something was turned down. What is wrong is said on standard error.
 ghost use mathlib.Core.Path.{_≡_};
-ghost use Rattle.desk.specs.Taken.{counted};
+ghost use lib.ListN.{length};
+ghost use Rattle.desk.specs.Taken.{counted, sheetNumbers, sheetTaken, sheetCells};
 use libc::STDERR_FILENO;
 use text::Parsed;
 
@@ -85,9 +86,37 @@ pub fn file_given(i: usize, bytes: &mut [u8]) -> Taken
     Taken::Count(count)
 }
 
-// The numbers of a sheet's text, p and q before the amounts, over the front of the lent ones. Without p or q it is refused as with p or q 0.
+// How many numbers a sheet's text has, if it has p and q.
+fn sheet_count(parsed: Parsed) -> Taken
+    ensures { λ r. ⌜ r ≡ sheetNumbers parsed ⌝ }
+{
+    match parsed {
+        Parsed::Numbers(n) => {
+            if n < 2 {
+                return Taken::Nothing;
+            }
+            Taken::Count(n)
+        }
+        Parsed::Unreadable(_) => Taken::Nothing,
+        Parsed::TooLarge(_) => Taken::Nothing,
+        Parsed::NoRoom(_) => Taken::Nothing,
+    }
+}
+
+// Says that p or q is not there: refused as with p or q 0.
+fn tell_short(parsed: Parsed) {
+    if let Parsed::Numbers(n) = parsed {
+        if n < 2 {
+            tell_refusal(STDERR_FILENO, 1, 0);
+        }
+    }
+}
+
+// The numbers of a sheet's text, p and q before the amounts, over the front of the lent ones.
 pub fn sheet_in(input: &[u8], numbers: &mut [u32]) -> Taken
     ensures { λ r. ⌜ counted 2 r (now (numbers .exit)) ⌝ }
+    ensures { λ r. ⌜ r ≡ sheetTaken (now (input .entry)) (length (now (numbers .entry))) ⌝ }
+    ensures { λ r. ⌜ now (numbers .exit) ≡ sheetCells (now (input .entry)) (now (numbers .entry)) ⌝ }
 {
     if MOST_TEXT <= input.len() {
         io::write_all(
@@ -98,12 +127,6 @@ pub fn sheet_in(input: &[u8], numbers: &mut [u32]) -> Taken
     }
     let parsed = text::parse(input, numbers);
     tell_fault(input, parsed);
-    let Parsed::Numbers(count) = parsed else {
-        return Taken::Nothing;
-    };
-    if count < 2 {
-        tell_refusal(STDERR_FILENO, 1, 0);
-        return Taken::Nothing;
-    }
-    Taken::Count(count)
+    tell_short(parsed);
+    sheet_count(parsed)
 }

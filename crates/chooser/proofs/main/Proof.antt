@@ -29,7 +29,7 @@ input-at : (c : tie.After-length) → (0 ≤ c .length .given .0 .0) × Counts (
 input-at c = taken-count 0 _ _ _ (c .before .before .before .file-given .ensures) (c .length .given .1)
 
 numbers-at : (c : tie.After-n) → (2 ≤ c .n .given .0 .0) × Counts (c .n .given .0 .0) (c .before .before .before .sheet-in .last .1 .0)
-numbers-at c = taken-count 2 _ _ _ (c .before .before .before .sheet-in .ensures) (c .n .given .1)
+numbers-at c = taken-count 2 _ _ _ (c .before .before .before .sheet-in .ensures .0) (c .n .given .1)
 
 first-at : (c : tie.After-a) → (0 ≤ c .a .given .0 .0) × Counts (c .a .given .0 .0) (c .before .before .before .file-given2 .last .1 .0)
 first-at c = taken-count 0 _ _ _ (c .before .before .before .file-given2 .ensures) (c .a .given .1)

@@ -68,7 +68,7 @@ large-buffer-requires-2 c κs = search needs
 
 -- the numbers are within the array, and p and q are there
 numbers-at : (c : tie.After-n) → (2 ≤ c .n .given .0 .0) × Counts (c .n .given .0 .0) (c .before .before .before .sheet-in .last .1 .0)
-numbers-at c = taken-count 2 _ _ _ (c .before .before .before .sheet-in .ensures) (c .n .given .1)
+numbers-at c = taken-count 2 _ _ _ (c .before .before .before .sheet-in .ensures .0) (c .n .given .1)
 
 array-share-prefix-numbers : tie.Need-array-share-prefix-numbers
 array-share-prefix-numbers c = numbers-at (c .before .before) .1 .0

@@ -6,12 +6,17 @@ ghost use Rattle.chain.specs.Verdict.{_then_};
 ghost use Rattle.chain.specs.Chain.{mostColumns, by, pairs, sizesRule, lengthRule, stepRule, stepsRule, outputsRule, chainRule, legalRule};
 ghost use Rattle.chain.specs.Judgement.{verdictOf};
 
-// Limits of document 01: columns, payslips, steps.
+// Limits of document 01: columns, payslips, steps, amounts.
 pub const MOST_COLUMNS: usize = 16;
 
 pub const MOST_PAYSLIPS: usize = 64;
 
 pub const MOST_STEPS: usize = 16000;
+
+pub const MOST_AMOUNT: u32 = 4294967295;
+
+// How many values the longest chain has: the empty product, the bases and one for each step.
+pub const MOST_VALUES: usize = MOST_COLUMNS + MOST_STEPS + 1;
 
 // A step: the numbers of the two values that it multiplies. It is laid out as C does, since a slice of steps crosses the C interface.
 #[repr(C)]

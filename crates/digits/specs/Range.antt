@@ -1,4 +1,5 @@
--- Sums, maxima and overlays over the numbers below a bound.
+-- Sums, maxima, overlays and lists over the numbers below a bound.
+use mathlib.Core.List.{List, [], _∷_, _++_}
 use Prim.Native.Nat.{ℕ, zero, suc, _+_, max}
 use lib.Bits.{bitOr}
 
@@ -16,6 +17,11 @@ maxTo (suc n) f = max (maxTo n f) (f n)
 abbrev pub orTo : ℕ → (ℕ → ℕ) → ℕ
 orTo zero f = 0
 orTo (suc n) f = bitOr (orTo n f) (f n)
+
+-- f 0, .., f (n - 1), one after the other
+abbrev pub listTo : ℕ → (ℕ → ℕ) → List ℕ
+listTo zero f = []
+listTo (suc n) f = listTo n f ++ f n ∷ []
 
 -- 0 for 0, else 1: so a sum counts what is not 0
 abbrev pub sign : ℕ → ℕ

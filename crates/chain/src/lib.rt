@@ -170,8 +170,8 @@ pub fn show(outputs: &[u32], values: &[u32], figures: &mut [u32])
 {
     let mut i: usize = 0;
     while i < outputs.len() {
-        let o = outputs[i] as usize;
-        figures[i] = values[o];
+        let v = outputs[i] as usize;
+        figures[i] = values[v];
         i += 1;
     }
 }

@@ -1,4 +1,4 @@
--- What a function that writes a part of the text promises.
+-- Inner vocabulary: what a function that writes a part of a text leaves. Nobody has to believe it to believe an entry point's promise.
 use mathlib.Core.Path.{_≡_}
 use mathlib.Core.List.{List}
 use Prim.Native.Nat.{ℕ, _+_}

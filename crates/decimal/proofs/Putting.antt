@@ -8,9 +8,9 @@ use lib.ListN.{length, getD, take, set, length-append}
 use lib.Seq.{length-take-le, take-all, take-suc}
 use Rattle.chain.specs.Written.{laid}
 use Rattle.chain.proofs.Written.{laid-nil, laid-length, laid-one, laid-laid}
-use Rattle.listing.specs.Listing.{decimal}
-use Rattle.listing.specs.Put.{Put}
-use Rattle.listing.proofs.Decimal.{decimal-digit, decimal-more, digit-length, more-length}
+use Rattle.decimal.specs.Decimal.{decimal}
+use Rattle.decimal.specs.Inner.{Put}
+use Rattle.decimal.proofs.Decimal.{decimal-digit, decimal-more, digit-length, more-length}
 
 -- nothing yet
 pub put-none : (at : ℕ) (l : List ℕ) → Put at [] l at l

@@ -6,7 +6,7 @@ use native.Mathlib.Decide.{decLt}
 use native.Mathlib.Nat.{pow-succ'}
 use native.Mathlib.Omega.{arith}
 use lib.ListN.{length, length-append}
-use Rattle.listing.specs.Listing.{decimalOnto, decimal}
+use Rattle.decimal.specs.Decimal.{decimalOnto, decimal}
 
 onto-zero : (f : ℕ) (t : List ℕ) → decimalOnto f 0 t ≡ t
 onto-zero zero t = refl

@@ -3,13 +3,13 @@ use Prim.Native.Nat.{ℕ, _<_}
 use native.Mathlib.Omega.{arith}
 use borrow.Fn.Kinds.{In}
 use borrow.Fn.PlainCycle.{Measures, is, falls, and}
-use Rattle.listing.proofs.Decimal.{digit-length, more-length}
-use Rattle.listing.proofs.Putting.{put-digit, put-digits}
-use Rattle.listing.proofs.put_decimal.Reads as put-decimal
-use Rattle.listing.proofs.put_decimal.Kinds as put-decimal-kinds
-use Rattle.listing.proofs.+put_decimal.Lts-put_decimal as put-decimal-lts
-use Rattle.listing.proofs.+put_decimal.{statement}
-use Rattle.listing.proofs.+put_decimal.Tie.{close}
+use Rattle.decimal.proofs.Decimal.{digit-length, more-length}
+use Rattle.decimal.proofs.Putting.{put-digit, put-digits}
+use Rattle.decimal.proofs.put_decimal.Reads as put-decimal
+use Rattle.decimal.proofs.put_decimal.Kinds as put-decimal-kinds
+use Rattle.decimal.proofs.+put_decimal.Lts-put_decimal as put-decimal-lts
+use Rattle.decimal.proofs.+put_decimal.{statement}
+use Rattle.decimal.proofs.+put_decimal.Tie.{close}
 
 -- each call has a smaller number
 abbrev μ-put-decimal : Measures 1 put-decimal-kinds.ps ℕ

@@ -3,10 +3,10 @@ use mathlib.Core.Path.{_≡_, refl}
 use Prim.Native.Nat.{_+_, _-_, _≤_}
 use native.Mathlib.Omega.{arith}
 use lib.ListN.{length, take, length-set}
-use Rattle.listing.specs.Put.{Put}
-use Rattle.listing.proofs.Putting.{put-none, put-byte, put-bytes}
-use Rattle.listing.proofs.put_word.Statement.{statement}
-use Rattle.listing.proofs.put_word.Tie as tie
+use Rattle.decimal.specs.Inner.{Put}
+use Rattle.decimal.proofs.Putting.{put-none, put-byte, put-bytes}
+use Rattle.decimal.proofs.put_word.Statement.{statement}
+use Rattle.decimal.proofs.put_word.Tie as tie
 
 abbrev Inv-loop : tie.InvT-loop
 Inv-loop word at text₀ i₀ text i = (i ≤ length word) × (length text ≡ length text₀) × Put at (take i word) text₀ (at + i) text

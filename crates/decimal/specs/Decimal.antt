@@ -1,4 +1,4 @@
--- Numbers as decimal text (document 01, "Chooser and lister"), and the bytes that part them.
+-- Numbers as decimal text (document 01, "Chooser and lister"), the bytes that part them, and the word of a refusal.
 use mathlib.Core.List.{List, [], _∷_}
 use Prim.Native.Nat.{ℕ, zero, suc, _+_, _/_, _%_}
 
@@ -7,6 +7,10 @@ blank = 32
 
 abbrev pub newline : ℕ
 newline = 10
+
+-- the word "refused" and a blank
+abbrev pub refusedWord : List ℕ
+refusedWord = 114 ∷ 101 ∷ 102 ∷ 117 ∷ 115 ∷ 101 ∷ 100 ∷ blank ∷ []
 
 -- the decimal digits of x as text, before others, as far as the first argument allows
 abbrev pub decimalOnto : ℕ → ℕ → List ℕ → List ℕ

@@ -5,9 +5,9 @@ use Prim.Native.Nat.{ℕ, _+_, _≤_, _<_}
 use native.Mathlib.Numerals.{add-one}
 use native.Mathlib.Omega.{arith}
 use lib.ListN.{length, set, length-append}
-use Rattle.decimal.specs.Decimal.{blank, newline, decimal}
+use Rattle.decimal.specs.Decimal.{refusedWord, blank, newline, decimal}
 use Rattle.digits.specs.Range.{listTo}
-use Rattle.listing.specs.Listing.{moreFields, lineOf, payslipLines, chainText, refusedWord, refusedText}
+use Rattle.listing.specs.Listing.{moreFields, lineOf, payslipLines, chainText, refusedText}
 use Rattle.decimal.specs.Inner.{Put}
 use Rattle.decimal.proofs.Putting.{put-none, put-more, put-one}
 

@@ -7,7 +7,7 @@ use Rattle.chain.specs.Verdict.{Verdict, fine, refused, _then_, refuseIf}
 use Rattle.chain.specs.Chain.{mostPayslips, mostSteps, exponentOf}
 use Rattle.digits.specs.Range.{listTo}
 use Rattle.verify.specs.Verify.{exponentsRule}
-use Rattle.decimal.specs.Decimal.{blank, newline, decimal}
+use Rattle.decimal.specs.Decimal.{blank, newline, refusedWord, decimal}
 use Rattle.file.specs.File.{longestFile, columnsOf, payslipsOf, lengthOf, stepsOf, outputsOf, readRule}
 
 -- "One blank parts fields": the fields after a line's first
@@ -38,10 +38,6 @@ listingRule bytes =
 -- "a line p q n, then per payslip ..", for p columns, q payslips and n steps
 unfoldable pub chainText : ℕ → ℕ → ℕ → (ℕ → ℕ → ℕ) → List ℕ
 chainText p q n f = lineOf p (q ∷ n ∷ []) ++ payslipLines p f q
-
--- the word "refused" and a blank
-abbrev pub refusedWord : List ℕ
-refusedWord = 114 ∷ 101 ∷ 102 ∷ 117 ∷ 115 ∷ 101 ∷ 100 ∷ blank ∷ []
 
 -- "only one line, as refused 13, with the number"
 unfoldable pub refusedText : ℕ → List ℕ

@@ -1,10 +1,10 @@
 use borrow.Author.Needs.{needs}
 use mathlib.Core.Path.{refl}
 use native.Mathlib.Omega.{arith}
-use Rattle.text.specs.Messages.{phrase}
-use Rattle.text.proofs.Messages.{phrased, unphrased, past}
-use Rattle.text.proofs.put_phrase.Statement.{statement}
-use Rattle.text.proofs.put_phrase.Tie as tie
+use Rattle.messages.specs.Messages.{phrase}
+use Rattle.messages.proofs.Messages.{phrased, unphrased, past}
+use Rattle.messages.proofs.put_phrase.Statement.{statement}
+use Rattle.messages.proofs.put_phrase.Tie as tie
 
 slice-aggregate-put-reason : tie.Need-slice-aggregate-put-reason
 slice-aggregate-put-reason c = search needs

@@ -1,8 +1,8 @@
 use borrow.Author.Needs.{needs}
 use native.Mathlib.Omega.{arith}
-use Rattle.text.proofs.Messages.{put-no-place, put-some-place}
-use Rattle.text.proofs.put_place.Statement.{statement}
-use Rattle.text.proofs.put_place.Tie as tie
+use Rattle.messages.proofs.Messages.{put-no-place, put-some-place}
+use Rattle.messages.proofs.put_place.Statement.{statement}
+use Rattle.messages.proofs.put_place.Tie as tie
 
 returns : tie.Need-returns
 returns c = (put-no-place _ _ _ (c .if1 .taken), omega arith)

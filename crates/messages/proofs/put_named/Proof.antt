@@ -1,9 +1,9 @@
 use borrow.Author.Needs.{needs}
 use native.Mathlib.Omega.{arith}
-use Rattle.listing.proofs.Decimal.{decimal-short}
-use Rattle.listing.proofs.Putting.{put-more}
-use Rattle.text.proofs.put_named.Statement.{statement}
-use Rattle.text.proofs.put_named.Tie as tie
+use Rattle.decimal.proofs.Decimal.{decimal-short}
+use Rattle.decimal.proofs.Putting.{put-more}
+use Rattle.messages.proofs.put_named.Statement.{statement}
+use Rattle.messages.proofs.put_named.Tie as tie
 
 put-word-requires : tie.Need-put-word-requires
 put-word-requires c κs = search needs

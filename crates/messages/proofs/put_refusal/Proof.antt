@@ -1,9 +1,9 @@
 use borrow.Author.Needs.{needs}
 use native.Mathlib.Omega.{arith}
-use Rattle.text.specs.Messages.{refusalText}
-use Rattle.text.proofs.Messages.{put-three}
-use Rattle.text.proofs.put_refusal.Statement.{statement}
-use Rattle.text.proofs.put_refusal.Tie as tie
+use Rattle.messages.specs.Messages.{refusalText}
+use Rattle.messages.proofs.Messages.{put-three}
+use Rattle.messages.proofs.put_refusal.Statement.{statement}
+use Rattle.messages.proofs.put_refusal.Tie as tie
 
 slice-aggregate-put-named : tie.Need-slice-aggregate-put-named
 slice-aggregate-put-named c = search needs

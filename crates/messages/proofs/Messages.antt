@@ -6,13 +6,13 @@ use native.Mathlib.Decide.{decLt}
 use native.Mathlib.Omega.{arith}
 use lib.ListN.{length, set, length-append, List·getD-eq-default}
 use Rattle.chain.specs.Written.{laid}
-use Rattle.listing.specs.Listing.{newline, decimal}
-use Rattle.listing.specs.Put.{Put}
-use Rattle.listing.proofs.Putting.{put-none, put-more, put-one}
+use Rattle.decimal.specs.Decimal.{newline, decimal}
+use Rattle.decimal.specs.Inner.{Put}
+use Rattle.decimal.proofs.Putting.{put-none, put-more, put-one}
 use Rattle.text.specs.declared.Parsed.{Parsed}
 use Rattle.text.specs.declared.Parsed.the-variants.{Numbers, Unreadable, TooLarge, NoRoom}
 use Rattle.text.specs.Text.{spotOf}
-use Rattle.text.specs.Messages.{atWord, colonWord, noPhrase, phrases, phrase, reason, placeText, spotText, unreadable, tooLarge, noRoom, faultText}
+use Rattle.messages.specs.Messages.{atWord, colonWord, noPhrase, phrases, phrase, reason, placeText, spotText, unreadable, tooLarge, noRoom, faultText}
 
 -- a colon, words and a newline
 pub put-reasoned : (at : ℕ) (words l : List ℕ) (m : ℕ) (l′ : List ℕ) (e : ℕ) (l″ : List ℕ) → Put at colonWord l m l′ → Put m words l′ e l″ → at + length words + 3 ≤ length l

@@ -1,9 +1,9 @@
 use borrow.Author.Needs.{needs}
 use mathlib.Core.Path.{_∙_}
 use lib.ListN.{length-set}
-use Rattle.text.proofs.Messages.{put-reasoned}
-use Rattle.text.proofs.put_reason.Statement.{statement}
-use Rattle.text.proofs.put_reason.Tie as tie
+use Rattle.messages.proofs.Messages.{put-reasoned}
+use Rattle.messages.proofs.put_reason.Statement.{statement}
+use Rattle.messages.proofs.put_reason.Tie as tie
 
 slice-aggregate-put-word : tie.Need-slice-aggregate-put-word
 slice-aggregate-put-word c = search needs

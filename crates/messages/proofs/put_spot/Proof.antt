@@ -1,9 +1,9 @@
 use borrow.Author.Needs.{needs}
 use native.Mathlib.Omega.{arith}
-use Rattle.text.specs.Messages.{spotText}
-use Rattle.text.proofs.Messages.{put-three}
-use Rattle.text.proofs.put_spot.Statement.{statement}
-use Rattle.text.proofs.put_spot.Tie as tie
+use Rattle.messages.specs.Messages.{spotText}
+use Rattle.messages.proofs.Messages.{put-three}
+use Rattle.messages.proofs.put_spot.Statement.{statement}
+use Rattle.messages.proofs.put_spot.Tie as tie
 
 spot-of-requires : tie.Need-spot-of-requires
 spot-of-requires c κs = search needs

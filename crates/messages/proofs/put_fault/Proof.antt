@@ -1,7 +1,7 @@
 use borrow.Author.Needs.{needs}
-use Rattle.text.proofs.Messages.{put-no-fault, put-unreadable, put-large, put-full}
-use Rattle.text.proofs.put_fault.Statement.{statement}
-use Rattle.text.proofs.put_fault.Tie as tie
+use Rattle.messages.proofs.Messages.{put-no-fault, put-unreadable, put-large, put-full}
+use Rattle.messages.proofs.put_fault.Statement.{statement}
+use Rattle.messages.proofs.put_fault.Tie as tie
 
 enum-told : tie.Need-enum-told
 enum-told c = search needs

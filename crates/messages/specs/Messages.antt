@@ -2,11 +2,11 @@
 use mathlib.Core.List.{List, [], _∷_, _++_}
 use Prim.Native.Nat.{ℕ, zero, suc}
 use lib.ListN.{getD}
-use Rattle.listing.specs.Listing.{newline, decimal, refusedWord}
+use Rattle.decimal.specs.Decimal.{newline, decimal, refusedWord}
 use Rattle.text.specs.Text.{spotOf}
 use Rattle.text.specs.declared.Parsed.{Parsed}
 use Rattle.text.specs.declared.Parsed.the-variants.{Numbers, Unreadable, TooLarge, NoRoom}
 use Rattle.text.specs.declared.Spot.{Spot}
 
 -- room for every message
 abbrev pub mostMessage : ℕ

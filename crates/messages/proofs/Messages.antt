@@ -1,10 +1,9 @@
--- Laws of messages, put together from their parts.
+-- A message is put together from its parts, one after the other.
 use mathlib.Core.Path.{_≡_, refl}
 use mathlib.Core.List.{List, [], _∷_, _++_, append-assoc}
 use Prim.Native.Nat.{ℕ, zero, suc, _+_, _≤_, _<_}
-use native.Mathlib.Decide.{decLt}
 use native.Mathlib.Omega.{arith}
-use lib.ListN.{length, set, length-append, List·getD-eq-default}
+use lib.ListN.{length, set, length-append}
 use Rattle.chain.specs.Written.{laid}
 use Rattle.decimal.specs.Decimal.{newline, decimal}
 use Rattle.decimal.specs.Inner.{Put}
@@ -12,7 +11,7 @@ use Rattle.decimal.proofs.Putting.{put-none, put-more, put-one}
 use Rattle.text.specs.declared.Parsed.{Parsed}
 use Rattle.text.specs.declared.Parsed.the-variants.{Numbers, Unreadable, TooLarge, NoRoom}
 use Rattle.text.specs.Text.{spotOf}
-use Rattle.messages.specs.Messages.{atWord, colonWord, noPhrase, phrases, phrase, reason, placeText, spotText, unreadable, tooLarge, noRoom, faultText}
+use Rattle.messages.specs.Messages.{atWord, colonWord, reason, placeText, spotText, unreadable, tooLarge, noRoom, faultText}
 
 -- a colon, words and a newline
 pub put-reasoned : (at : ℕ) (words l : List ℕ) (m : ℕ) (l′ : List ℕ) (e : ℕ) (l″ : List ℕ) → Put at colonWord l m l′ → Put m words l′ e l″ → at + length words + 3 ≤ length l
@@ -37,23 +36,9 @@ pub put-three : (a b d l : List ℕ) (m : ℕ) (l′ : List ℕ) (n : ℕ) (l″
 put-three a b d l m l′ n l″ e l‴ room u v w =
     put-more 0 a l m l′ u (b ++ d) e l‴ (omega arith) (put-more m b l′ n l″ v d e l‴ room w)
 
--- the words for a number
-pub phrased : (number k at : ℕ) (words l : List ℕ) (e : ℕ) (l′ : List ℕ) → number ≡ k → phrase k ≡ words → Put at (reason words) l e l′ → Put at (reason (phrase number)) l e l′
-phrased number k at words l e l′ is says w = rw (is, says) w
-
--- a number that is not the least that is left
-pub past : (k number : ℕ) → k ≤ number → (number ≡ k → ⊥) → k + 1 ≤ number
-past k number h other = omega arith
-
--- and for any other number
-pub unphrased : (number at : ℕ) (l : List ℕ) (e : ℕ) (l′ : List ℕ) → (1 ≤ number → 17 ≤ number) → Put at (reason noPhrase) l e l′ → Put at (reason (phrase number)) l e l′
-unfolding phrase
-unphrased number at l e l′ none w = by-size (decLt 0 number) (decLt 16 number)
-  where
-    by-size : Dec (0 < number) → Dec (16 < number) → Put at (reason (phrase number)) l e l′
-    by-size (no h) g = let z : number ≡ 0 = omega arith in phrased number 0 at noPhrase l e l′ z refl w
-    by-size (yes h) (yes g) = let z : phrase number ≡ noPhrase = List·getD-eq-default phrases noPhrase g in rw z w
-    by-size (yes h) (no g) = let k = none (omega arith) in absurd (omega arith)
+-- words that are others
+pub put-same : (at : ℕ) (words others l : List ℕ) (e : ℕ) (l′ : List ℕ) → words ≡ others → Put at (reason words) l e l′ → Put at (reason others) l e l′
+put-same at words others l e l′ same w = rw (← same) w
 
 -- the fault of a text
 module _ (text : List ℕ) (p : Parsed) (l : List ℕ) where

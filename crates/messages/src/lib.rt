@@ -1,11 +1,13 @@
 // The one line that says why something was turned down.
+ghost use mathlib.Core.Path.{_≡_};
 ghost use mathlib.Core.List.{_++_};
-ghost use Prim.Native.Nat.{_+_, _≤_};
-ghost use lib.ListN.{length};
+ghost use Prim.Native.Nat.{_+_, _-_, _≤_};
+ghost use lib.ListN.{length, take, drop};
 ghost use Rattle.text.specs.Text.{spotOf};
 ghost use Rattle.decimal.specs.Decimal.{decimal};
 ghost use Rattle.decimal.specs.Inner.{Put};
-ghost use Rattle.messages.specs.Messages.{mostMessage, phrase, reason, placeText, refusalText, spotText, faultText};
+ghost use Rattle.messages.specs.Messages.{mostMessage, phrases, phrase, reason, placeText, refusalText, spotText, faultText};
+ghost use Rattle.messages.specs.Inner.{startOf, phraseNumber};
 use text::Parsed;
 
 // Room for every message.
@@ -44,30 +46,70 @@ fn put_reason(words: &[u8], at: usize, message: &mut [u8]) -> usize
     end + 1
 }
 
+// How many phrases there are: one for each refusal by its number, and number 0 for no refusal.
+const PHRASES: usize = 17;
+
+// Where each phrase begins in all of them one after the other, and where the last one ends.
+const STARTS: [usize; PHRASES + 1] = [
+    0,
+    15,
+    34,
+    59,
+    78,
+    100,
+    122,
+    166,
+    173,
+    190,
+    199,
+    230,
+    263,
+    290,
+    308,
+    349,
+    358,
+    399,
+];
+
+// Where phrase n begins.
+fn phrase_start(n: usize) -> usize
+    requires { ⌜ n ≤ length phrases ⌝ }
+    ensures { λ r. ⌜ r ≡ startOf phrases n ⌝ }
+{
+    STARTS[n]
+}
+
+// The number of a refusal's phrase.
+fn phrase_number(number: u32) -> usize
+    ensures { λ r. ⌜ r ≡ phraseNumber number ⌝ }
+{
+    let n = number as usize;
+    if n < PHRASES { n } else { 0 }
+}
+
+// A part of some words as a reason.
+fn put_part(words: &[u8], from: usize, end: usize, at: usize, message: &mut [u8]) -> usize
+    requires { ⌜ (from ≤ end) × (end ≤ length (now words)) × (at + (end - from) + 3 ≤ length (now message)) ⌝ }
+    ensures { λ r. ⌜ Put at (reason (take (end - from) (drop from (now (words .entry))))) (now (message .entry)) r (now (message .exit)) ⌝ }
+{
+    put_reason(&words[from..end], at, message)
+}
+
 // The reason of a refusal, in words.
 fn put_phrase(number: u32, at: usize, message: &mut [u8]) -> usize
     requires { ⌜ at + 50 ≤ length (now message) ⌝ }
     ensures { λ r. ⌜ Put at (reason (phrase number)) (now (message .entry)) r (now (message .exit)) ⌝ }
 {
-    match number {
-        1 => put_reason(b"p or q out of range", at, message),
-        2 => put_reason(b"amounts are not p times q", at, message),
-        3 => put_reason(b"method or parameter", at, message),
-        4 => put_reason(b"more than 16,000 steps", at, message),
-        5 => put_reason(b"a lent slice too short", at, message),
-        6 => put_reason(b"file under 4 bytes, or not its stated length", at, message),
-        7 => put_reason(b"edition", at, message),
-        8 => put_reason(b"a filling bit set", at, message),
-        9 => put_reason(b"operand 0", at, message),
-        10 => put_reason(b"operand not below its own value", at, message),
-        11 => put_reason(b"first operand smaller than second", at, message),
-        12 => put_reason(b"output above the last value", at, message),
-        13 => put_reason(b"exponent too large", at, message),
-        14 => put_reason(b"an output's exponents are not its payslip", at, message),
-        15 => put_reason(b"modulus 0", at, message),
-        16 => put_reason(b"bases not p, or one not below the modulus", at, message),
-        _ => put_reason(b"no such refusal", at, message),
-    }
+    let n = phrase_number(number);
+    let from = phrase_start(n);
+    let end = phrase_start(n + 1);
+    put_part(
+        b"no such refusalp or q out of rangeamounts are not p times qmethod or parametermore than 16,000 stepsa lent slice too shortfile under 4 bytes, or not its stated lengtheditiona filling bit setoperand 0operand not below its own valuefirst operand smaller than secondoutput above the last valueexponent too largean output's exponents are not its payslipmodulus 0bases not p, or one not below the modulus",
+        from,
+        end,
+        at,
+        message,
+    )
 }
 
 // The line of a refusal, over the front of the message; how many bytes it has.

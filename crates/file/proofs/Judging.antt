@@ -15,7 +15,7 @@ use Rattle.chain.specs.declared.Judgement.{Judgement}
 use Rattle.chain.specs.declared.Judgement.the-variants.{Fine, Refused}
 use Rattle.chain.proofs.Rules.{stop, pass, told-fine, told-refused, refuse-yes, refuse-no, lt-yes, lt-no}
 use Rattle.bits.specs.Bits.{fieldAt, fieldsAt}
-use Rattle.bits.specs.Cursor.{Room, Taken}
+use Rattle.bits.specs.Inner.{FieldRoom, FieldTaken}
 use Rattle.file.specs.File.{headerSize, longestFile}
 
 -- n fields of w bits from position at on may be read
@@ -34,7 +34,7 @@ pub outputs-within : (bytes : List ℕ) (at w q : ℕ) → (w ≤ 14) × (at + q
 outputs-within bytes at w q (hw, room, low) = record { narrow = hw; within = room; fits = omega arith }
 
 -- a field of w bits is taken, and n are left
-within-take : (bytes : List ℕ) (at w n : ℕ) → Within bytes at w (suc n) → Room bytes at w
+within-take : (bytes : List ℕ) (at w n : ℕ) → Within bytes at w (suc n) → FieldRoom bytes at w
 within-take bytes at w n ok =
     record {
       narrow = omega (arith, ok .narrow);
@@ -42,7 +42,7 @@ within-take bytes at w n ok =
       fits = omega (arith, ok .fits, suc-mul n w);
     }
 
-within-rest : (bytes : List ℕ) (at w n v next : ℕ) → Within bytes at w (suc n) → Taken bytes at w v next → Within bytes next w n
+within-rest : (bytes : List ℕ) (at w n v next : ℕ) → Within bytes at w (suc n) → FieldTaken bytes at w v next → Within bytes next w n
 within-rest bytes at w n v next ok t =
     record {
       narrow = ok .narrow;
@@ -79,14 +79,14 @@ module _ (whole : Verdict) (bytes : List ℕ) (p w n c s : ℕ) (inv : StepsLeft
     two : Within bytes c w (suc (suc (2 * (n - (s + 1)))))
     two = rw (← left) (inv .room)
 
-    pub first-room : Room bytes c w
+    pub first-room : FieldRoom bytes c w
     first-room = within-take bytes c w (suc (2 * (n - (s + 1)))) two
 
-    module _ (a m : ℕ) (one : Taken bytes c w a m) where
-      pub second-room : Room bytes m w
+    module _ (a m : ℕ) (one : FieldTaken bytes c w a m) where
+      pub second-room : FieldRoom bytes m w
       second-room = within-take bytes m w (2 * (n - (s + 1))) (within-rest bytes c w (suc (2 * (n - (s + 1)))) a m two one)
 
-      module _ (b next : ℕ) (other : Taken bytes m w b next) (j : Judgement) (told : verdictOf j ≡ stepRule (p + s + 1) (s + 1) (by a b)) where
+      module _ (b next : ℕ) (other : FieldTaken bytes m w b next) (j : Judgement) (told : verdictOf j ≡ stepRule (p + s + 1) (s + 1) (by a b)) where
         rest : Verdict
         rest = stepsRule p (s + 1 + 1) (pairs (fieldsAt bytes next w (2 * (n - (s + 1)))))
 
@@ -137,10 +137,10 @@ module _ (whole : Verdict) (bytes : List ℕ) (top w q c i : ℕ) (inv : Outputs
     more : Within bytes c w (suc (q - (i + 1)))
     more = rw (← one-more) (inv .room)
 
-    pub output-room : Room bytes c w
+    pub output-room : FieldRoom bytes c w
     output-room = within-take bytes c w (q - (i + 1)) more
 
-    module _ (o next : ℕ) (t : Taken bytes c w o next) where
+    module _ (o next : ℕ) (t : FieldTaken bytes c w o next) where
       now-left : whole ≡ (refuseIf (top <? o) 12 (i + 1) then outputsRule top (i + 1 + 1) (fieldsAt bytes next w (q - (i + 1))))
       unfolding fieldsAt
       now-left =

@@ -15,7 +15,7 @@ use Rattle.chain.specs.declared.Judgement.the-variants.{Fine, Refused}
 use Rattle.chain.proofs.Pairs.{length-pairs}
 use Rattle.digits.specs.Digits.{bitLength}
 use Rattle.bits.specs.Bits.{fieldAt, fieldsAt}
-use Rattle.bits.specs.Cursor.{Room}
+use Rattle.bits.specs.Inner.{FieldRoom}
 use Rattle.bits.proofs.Fields.{length-fieldsAt}
 use Rattle.file.specs.File.{edition, headerSize, width, bitCount, longestFile, columnsOf, payslipsOf, lengthOf, stepsOf, outputsOf, readRule, readAnswer, readSteps, readOutputs}
 use Rattle.file.proofs.Lengths.{width-low, count-parts, count-low}
@@ -33,7 +33,7 @@ pub total-low : (p q n : ℕ) → Sized p q n → bitCount p q n ≤ 8 * longest
 total-low p q n (h, hp, hq, hn) = omega (arith, count-low p q n hp hq hn)
 
 -- the filling bits of a file of the right length
-pub filling-room : (bytes : List ℕ) (t : ℕ) → t ≤ 8 * longestFile → length bytes ≡ (t + 7) / 8 → Room bytes t (8 * length bytes - t)
+pub filling-room : (bytes : List ℕ) (t : ℕ) → t ≤ 8 * longestFile → length bytes ≡ (t + 7) / 8 → FieldRoom bytes t (8 * length bytes - t)
 filling-room bytes t low e = record { narrow = omega arith; within = omega arith; fits = omega arith }
 
 -- the chain's fields, w being their width

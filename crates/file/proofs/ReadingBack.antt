@@ -12,7 +12,7 @@ use Rattle.chain.specs.Chain.{pairs, flat, Legal}
 use Rattle.chain.specs.declared.Step.{Step}
 use Rattle.chain.proofs.Pairs.{pairs-flat, length-flat}
 use Rattle.bits.specs.Bits.{bits, fields, pack, bytesFor, fieldAt, fieldsAt}
-use Rattle.bits.specs.Cursor.{filed}
+use Rattle.bits.specs.Inner.{filed}
 use Rattle.bits.proofs.Values.{length-bits}
 use Rattle.bits.proofs.Fields.{length-fields}
 use Rattle.bits.proofs.Filed.{field-back, fields-back, filling-zero}

@@ -8,7 +8,7 @@ use Rattle.chain.specs.Written.{over}
 use Rattle.chain.specs.Chain.{flat}
 use Rattle.digits.specs.Digits.{bitLength}
 use Rattle.bits.specs.Bits.{fieldsAt}
-use Rattle.fields.specs.Fields.{RoomAll}
+use Rattle.fields.specs.Inner.{FieldsRoom}
 use Rattle.file.specs.File.{headerSize, width, bitCount, editionOf, columnsOf, payslipsOf, lengthOf, widthOf, stepsOf, outputsOf}
 use Rattle.file.proofs.Lengths.{width-low, count-parts, count-low}
 use Rattle.file.proofs.Readable.{Readable, columns-low, payslips-low}
@@ -39,7 +39,7 @@ module _ (bytes steps outputs : List ℕ) (r : Readable bytes (length steps / 2)
   low : bitCount (columnsOf bytes) (payslipsOf bytes) (lengthOf bytes) ≤ 448924
   low = omega (arith, count-low (columnsOf bytes) (payslipsOf bytes) (lengthOf bytes) (columns-low bytes) (payslips-low bytes) (r .few))
 
-  pub steps-taking : RoomAll bytes headerSize w (2 * n) steps
+  pub steps-taking : FieldsRoom bytes headerSize w (2 * n) steps
   steps-taking =
       let (he, hp, hq, hn) = header in
       record {
@@ -49,7 +49,7 @@ module _ (bytes steps outputs : List ℕ) (r : Readable bytes (length steps / 2)
         room = omega (arith, r .pairs-room);
       }
 
-  pub outputs-taking : RoomAll bytes (headerSize + 2 * n * w) w q outputs
+  pub outputs-taking : FieldsRoom bytes (headerSize + 2 * n * w) w q outputs
   outputs-taking =
       let (he, hp, hq, hn) = header in
       record {

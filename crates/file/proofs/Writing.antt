@@ -12,11 +12,11 @@ use Rattle.chain.specs.Chain.{pairs, flat}
 use Rattle.chain.proofs.Rules.{then-fine, refuseIf-fine, not-lt}
 use Rattle.chain.proofs.Pairs.{length-pairs}
 use Rattle.bits.specs.Bits.{bits, fields, bytesBits, pack, bytesFor}
-use Rattle.bits.specs.Cursor.{filed, Stored}
+use Rattle.bits.specs.Inner.{filed, FieldStored}
 use Rattle.bits.proofs.Values.{length-bits}
 use Rattle.bits.proofs.Fields.{length-fields}
 use Rattle.bits.proofs.Filed.{put-next, filed-more}
-use Rattle.fields.specs.Fields.{Clean, FillAll}
+use Rattle.fields.specs.Inner.{Clean, FieldsFill}
 use Rattle.file.specs.File.{edition, headerBits, headerSize, width, fileBits, fileOf, bitCount, byteCount, writeRule}
 use Rattle.file.proofs.Lengths.{width-low, width-some, count-parts, count-low, length-header, length-fileBits}
 use Rattle.chain.proofs.Legal.{LegalChain, legal-parts}
@@ -24,8 +24,8 @@ use Rattle.file.proofs.Legal.{operands-small, outputs-small}
 
 -- the four fields of the header
 pub header-stored : (old m₁ m₂ m₃ m₄ : List ℕ) (a₁ a₂ a₃ a₄ p q n : ℕ)
-    → Stored old 0 4 (bits 4 edition) m₁ a₁ → Stored m₁ a₁ 4 (bits 4 (p - 1)) m₂ a₂ → Stored m₂ a₂ 6 (bits 6 (q - 1)) m₃ a₃ → Stored m₃ a₃ 14 (bits 14 n) m₄ a₄
-    → Stored old 0 headerSize (headerBits p q n) m₄ a₄
+    → FieldStored old 0 4 (bits 4 edition) m₁ a₁ → FieldStored m₁ a₁ 4 (bits 4 (p - 1)) m₂ a₂ → FieldStored m₂ a₂ 6 (bits 6 (q - 1)) m₃ a₃ → FieldStored m₃ a₃ 14 (bits 14 n) m₄ a₄
+    → FieldStored old 0 headerSize (headerBits p q n) m₄ a₄
 header-stored old m₁ m₂ m₃ m₄ a₁ a₂ a₃ a₄ p q n s t u v =
     let b₁ : List Bool = bits 4 edition in
     let b₂ : List Bool = b₁ ++ bits 4 (p - 1) in
@@ -100,8 +100,8 @@ module _ (p : ℕ) (l o old : List ℕ) (w : ℕ) (ok : Writable p l o (length o
   small : (x : ℕ) → x < 2 ^ width p (length (pairs l)) → x < 2 ^ w
   small x h = subst (λ (k : ℕ). x < 2 ^ k) (ap (width p) few ∙ sym ew) h
 
-  module _ (m : List ℕ) (a : ℕ) (s : Stored old 0 headerSize (headerBits p q n) m a) (same : length m ≡ length old) where
-    pub steps-room : (2 * n ≤ length l) × FillAll m a w (take (2 * n) l)
+  module _ (m : List ℕ) (a : ℕ) (s : FieldStored old 0 headerSize (headerBits p q n) m a) (same : length m ≡ length old) where
+    pub steps-room : (2 * n ≤ length l) × FieldsFill m a w (take (2 * n) l)
     steps-room =
         let len : length (take (2 * n) l) * w ≡ 2 * n * w = ap (λ (k : ℕ). k * w) (length-take-le (2 * n) l (omega arith)) in (
           omega arith,
@@ -115,7 +115,7 @@ module _ (p : ℕ) (l o old : List ℕ) (w : ℕ) (ok : Writable p l o (length o
           },
         )
 
-    module _ (m′ : List ℕ) (a′ : ℕ) (t : Stored m a (2 * n * w) (fields w (take (2 * n) l)) m′ a′) (same′ : length m′ ≡ length m) where
+    module _ (m′ : List ℕ) (a′ : ℕ) (t : FieldStored m a (2 * n * w) (fields w (take (2 * n) l)) m′ a′) (same′ : length m′ ≡ length m) where
       abbrev begun : List Bool
       begun = headerBits p q n ++ fields w (take (2 * n) l)
 
@@ -135,7 +135,7 @@ module _ (p : ℕ) (l o old : List ℕ) (w : ℕ) (ok : Writable p l o (length o
       filed-begun =
           put-next (headerBits p q n) (fields w (take (2 * n) l)) old m m′ a (2 * n * w) a′ (omega (arith, length-header p q n, s .moved)) (s .is) t
 
-      pub outputs-room : (q ≤ length o) × FillAll m′ a′ w (take q o)
+      pub outputs-room : (q ≤ length o) × FieldsFill m′ a′ w (take q o)
       outputs-room = (
         omega arith,
         record {
@@ -148,7 +148,7 @@ module _ (p : ℕ) (l o old : List ℕ) (w : ℕ) (ok : Writable p l o (length o
         },
       )
 
-      pub file-stored : (m″ : List ℕ) (a″ : ℕ) → Stored m′ a′ (q * w) (fields w (take q o)) m″ a″ → m″ ≡ over (fileOf p (pairs l) o) old
+      pub file-stored : (m″ : List ℕ) (a″ : ℕ) → FieldStored m′ a′ (q * w) (fields w (take q o)) m″ a″ → m″ ≡ over (fileOf p (pairs l) o) old
       unfolding fileOf fileBits
       file-stored m″ a″ u =
           put-next begun (fields w (take q o)) old m′ m″ a′ (q * w) a″ length-begun filed-begun u

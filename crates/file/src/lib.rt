@@ -7,8 +7,8 @@ ghost use Rattle.chain.specs.Judgement.{verdictOf};
 ghost use Rattle.chain.specs.Written.{over};
 ghost use Rattle.chain.specs.Chain.{mostColumns, mostPayslips, mostSteps, pairs, flat, stepsRule, outputsRule, chainRule};
 ghost use Rattle.bits.specs.Bits.{fieldsAt};
-ghost use Rattle.bits.specs.Cursor.{Stored};
-ghost use Rattle.fields.specs.Fields.{RoomAll};
+ghost use Rattle.bits.specs.Inner.{FieldStored};
+ghost use Rattle.fields.specs.Inner.{FieldsRoom};
 ghost use Rattle.file.specs.File.{headerBits, headerSize, width, bitCount, byteCount, longestFile, fileOf, writeRule, writeAnswer, writeBytes, editionOf, columnsOf, payslipsOf, lengthOf, stepsOf, outputsOf, readRule, readAnswer, readSteps, readOutputs};
 ghost use Rattle.file.specs.Answers.{writtenOf, readOf};
 use bits::BitReader;
@@ -66,7 +66,7 @@ fn judge_write(p: usize, steps: &[u32], outputs: &[u32], lent: usize) -> Judgeme
 
 fn put_header(bytes: &mut [u8], p: usize, q: usize, n: usize) -> Cursor
     requires { ⌜ (4 ≤ length (now bytes)) × (1 ≤ p) × (p ≤ mostColumns) × (1 ≤ q) × (q ≤ mostPayslips) × (n ≤ mostSteps) ⌝ }
-    ensures { λ r. ⌜ Stored (now (bytes .entry)) 0 headerSize (headerBits p q n) (now (bytes .exit)) (r .at) ⌝ }
+    ensures { λ r. ⌜ FieldStored (now (bytes .entry)) 0 headerSize (headerBits p q n) (now (bytes .exit)) (r .at) ⌝ }
 {
     let start = Cursor { at: 0 };
     let c = start.put(bytes, 4, EDITION as u64);
@@ -229,7 +229,7 @@ fn judge_read(bytes: &[u8], room: usize, places: usize) -> Judgement
 
 // Reads n steps and q outputs, fields of w bits that follow the header.
 fn take_lists(bytes: &[u8], w: usize, n: usize, q: usize, steps: &mut [u32], outputs: &mut [u32])
-    requires { ⌜ RoomAll (now bytes) headerSize w (2 * n) (now steps) × RoomAll (now bytes) (headerSize + 2 * n * w) w q (now outputs) ⌝ }
+    requires { ⌜ FieldsRoom (now bytes) headerSize w (2 * n) (now steps) × FieldsRoom (now bytes) (headerSize + 2 * n * w) w q (now outputs) ⌝ }
     ensures { λ _. ⌜ (now (steps .exit) ≡ over (fieldsAt (now (bytes .entry)) headerSize w (2 * n)) (now (steps .entry))) × (now (outputs .exit) ≡ over (fieldsAt (now (bytes .entry)) (headerSize + 2 * n * w) w q) (now (outputs .entry))) ⌝ }
 {
     let start = BitReader {

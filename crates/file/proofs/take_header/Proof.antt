@@ -36,7 +36,7 @@ use denote.Triple.Spec.{Meets, tripleOf}
 use denote.Triple.Table.{entered, cited}
 use denote.Triple.Walked.{says, needs, Stays, stay-dropped, walkOf, goes-dropped, Walks, ends-at, walked, walk-meets}
 use denote.Exit.{yes}
-use Rattle.bits.specs.Cursor.{Room}
+use Rattle.bits.specs.Inner.{FieldRoom}
 use Rattle.bits.proofs.Fields.{field-lt}
 use Rattle.bits.proofs.Reader.{Take, Token, Bytes, bytesVal, next-typed, read-typed, takes}
 use Rattle.bits.proofs.BitReader.take.Symbol as take-def
@@ -58,19 +58,19 @@ stayed = (stay-dropped (shrSliceOf (0 ∷ []) tt (plain (λ _. u8))) yes, tt)
 module _ (bytes : List ℕ) where
   -- the header's four fields lie in the first four bytes
   module _ (long : 4 ≤ length bytes) where
-    room : (at w : ℕ) → w ≤ 14 → at + w ≤ headerSize → Room bytes at w
+    room : (at w : ℕ) → w ≤ 14 → at + w ≤ headerSize → FieldRoom bytes at w
     room at w narrow within = record { narrow = omega arith; within = omega (arith, long); fits = omega arith }
 
-    edition-room : Room bytes 0 4
+    edition-room : FieldRoom bytes 0 4
     edition-room = room 0 4 (omega arith) (omega arith)
 
-    columns-room : Room bytes 4 4
+    columns-room : FieldRoom bytes 4 4
     columns-room = room 4 4 (omega arith) (omega arith)
 
-    payslips-room : Room bytes 8 6
+    payslips-room : FieldRoom bytes 8 6
     payslips-room = room 8 6 (omega arith) (omega arith)
 
-    steps-room : Room bytes 14 14
+    steps-room : FieldRoom bytes 14 14
     steps-room = room 14 14 (omega arith) (omega arith)
 
   -- its numbers fit

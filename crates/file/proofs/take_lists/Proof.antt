@@ -38,7 +38,7 @@ use denote.Exit.{yes}
 use Rattle.chain.specs.Written.{over}
 use Rattle.bits.specs.Bits.{fieldsAt}
 use Rattle.bits.proofs.Reader.{bytesVal}
-use Rattle.fields.specs.Fields.{RoomAll}
+use Rattle.fields.specs.Inner.{FieldsRoom}
 use Rattle.fields.proofs.Reading.{Read, cellsVal, Last, reads}
 use Rattle.fields.proofs.read_fields.Symbol as read-def
 use Rattle.fields.proofs.read_fields.Symbol.{name as #fields·read-fields}
@@ -92,7 +92,7 @@ module _ {M : Type 1} (𝓤 : URA M) (H : Heap 𝓤) (A : Atoms 𝓤) (W : Given
 
   module _ (C : Calls 𝓤 H) (Λ : Loops 𝓤 H) (fm : FmC 𝓤 H (W .laws) C) (known : Triple 𝓤 (C #fields·read-fields) (Read 𝓤 H A mem run)) where
     walk : Holds (hasTy (sliceTy (tyRef (named 0) imm (tyInt w8))) (bytesVal s)) × WT (bytesVal s) → w < 2 ^ 64 → n < 2 ^ 64 → m < 2 ^ 64 → 2 * n < 2 ^ 64 → Room u32 (length (now x)) → Room u32 (length (now y))
-        → RoomAll (now s) headerSize w (2 * n) (now x) × RoomAll (now s) middle w m (now y)
+        → FieldsRoom (now s) headerSize w (2 * n) (now x) × FieldsRoom (now s) middle w m (now y)
         → ent 𝓤 (onEntry 𝓤 H A this.signature (κ, (κ₁, (κ₂, tt))) (q, (q₁, (q₂, tt))) a vs) (WpFn 𝓤 H C Λ code.function args Post)
     walk wt w-fits n-fits m-fits twice-fits g g₂ rooms =
         qed W ((‵ (flft κ q) ⊛ ‵ (flft κ₁ q₁) ⊛ ‵ (flft κ₂ q₂) ⊛ ‵ ftrue) ∷ ‵ (owns (ShrSlice (named 0) κ u8 ∷ usize ∷ usize ∷ usize ∷ MutSlice (named 1) κ₁ u32 ∷ MutSlice (named 2) κ₂ u32 ∷ []) a vs) ∷ []) ∵

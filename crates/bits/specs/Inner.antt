@@ -1,4 +1,4 @@
--- What the cursor's methods ask for and promise.
+-- Inner vocabulary: what the cursor, the reader and their helpers ask of a buffer and leave in it. Nobody has to believe it to believe an entry point's promise.
 use mathlib.Core.Path.{_≡_}
 use mathlib.Core.Bool.{Bool}
 use mathlib.Core.List.{List, [], _∷_, _++_}
@@ -7,21 +7,25 @@ use lib.ListN.{length, take, getD}
 use Rattle.chain.specs.Written.{over}
 use Rattle.bits.specs.Bits.{value, bytesBits, pack, bytesFor, fieldAt}
 
+-- how wide a field may be, so that four bytes cover it from any bit on
+abbrev pub widestField : ℕ
+widestField = 25
+
 -- a field of w bits at position at is short enough, lies within the file, and its end is a usize
-pub record Room (file : List ℕ) (at w : ℕ) : Type 0 where
-  pub narrow : w ≤ 25
+pub record FieldRoom (file : List ℕ) (at w : ℕ) : Type 0 where
+  pub narrow : w ≤ widestField
   pub within : at + w ≤ 8 * length file
   pub fits : at + w < 2 ^ 64
 
 -- v is the field, and next the position past it
-pub record Taken (file : List ℕ) (at w v next : ℕ) : Type 0 where
+pub record FieldTaken (file : List ℕ) (at w v next : ℕ) : Type 0 where
   pub is : v ≡ fieldAt file at w
   pub small : v < 2 ^ w
   pub moved : next ≡ at + w
 
 -- a field of w bits, one at least, whose value is v, has room at position at
-pub record Fill (buf : List ℕ) (at w v : ℕ) : Type 0 where
-  pub room : Room buf at w
+pub record FieldFill (buf : List ℕ) (at w v : ℕ) : Type 0 where
+  pub room : FieldRoom buf at w
   pub some : 0 < w
   pub small : v < 2 ^ w
 
@@ -30,7 +34,7 @@ abbrev pub filed : List Bool → List ℕ → List ℕ
 filed b old = over (pack (bytesFor (length b)) b) old
 
 -- w bits b were added to the bits before position at, with zero bits after them to the end of their last byte
-pub record Stored (old : List ℕ) (at w : ℕ) (b : List Bool) (new : List ℕ) (next : ℕ) : Type 0 where
+pub record FieldStored (old : List ℕ) (at w : ℕ) (b : List Bool) (new : List ℕ) (next : ℕ) : Type 0 where
   pub is : new ≡ filed (take at (bytesBits old) ++ b) old
   pub moved : next ≡ at + w
 

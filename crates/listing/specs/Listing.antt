@@ -6,7 +6,8 @@ use Rattle.chain.specs.Tests.{_<?_}
 use Rattle.chain.specs.Verdict.{Verdict, fine, refused, _then_, refuseIf}
 use Rattle.chain.specs.Chain.{mostPayslips, mostSteps, exponentOf}
 use Rattle.verify.specs.Verify.{exponentsRule}
-use Rattle.file.specs.File.{longestFile, columnsOf, payslipsOf, lengthOf, stepsOf, outputsOf, readRule}
+use Rattle.layout.specs.Layout.{edition1}
+use Rattle.layout.specs.File.{longestFile, columnsOf, payslipsOf, lengthOf, stepsOf, outputsOf, readRule}
 
 abbrev pub blank : ℕ
 blank = 32
@@ -46,14 +47,14 @@ payslipLines p f (suc i) = payslipLines p f i ++ lineOf (suc i) (inColumns p (f 
 
 -- the amount that a file gives payslip i in column c: the exponent of the payslip's output
 abbrev pub amountOf : List ℕ → ℕ → ℕ → ℕ
-amountOf bytes i c = exponentOf (columnsOf bytes) (stepsOf bytes) c (getD (outputsOf bytes) i 0)
+amountOf bytes i c = exponentOf (columnsOf bytes) (stepsOf edition1 bytes) c (getD (outputsOf edition1 bytes) i 0)
 
 -- "input over the longest file is 6"; then as the file is read; "13 judged as in the check"
 unfoldable pub listingRule : List ℕ → Verdict
 listingRule bytes =
     refuseIf (longestFile <? length bytes) 6 0
-    then readRule bytes mostSteps mostPayslips
-    then exponentsRule (columnsOf bytes) (stepsOf bytes)
+    then readRule edition1 bytes (edition1 .limit) mostPayslips
+    then exponentsRule (columnsOf bytes) (stepsOf edition1 bytes)
 
 -- "a line p q n, then per payslip ..", for p columns, q payslips and n steps
 unfoldable pub chainText : ℕ → ℕ → ℕ → (ℕ → ℕ → ℕ) → List ℕ
@@ -68,7 +69,7 @@ unfoldable pub refusedText : ℕ → List ℕ
 refusedText k = refusedWord ++ lineOf k []
 
 unfoldable pub textFor : Verdict → List ℕ → List ℕ
-textFor fine bytes = chainText (columnsOf bytes) (payslipsOf bytes) (lengthOf bytes) (amountOf bytes)
+textFor fine bytes = chainText (columnsOf bytes) (payslipsOf bytes) (lengthOf edition1 bytes) (amountOf bytes)
 textFor (refused k s) bytes = refusedText k
 
 unfoldable pub listing : List ℕ → List ℕ

@@ -8,15 +8,16 @@ ghost use Rattle.chain.specs.Written.{over, laid};
 ghost use Rattle.chain.specs.Chain.{mostColumns, mostPayslips, mostSteps, pairs, stepsRule, outputsRule, exponentOf};
 ghost use Rattle.chain.specs.Judgement.{verdictOf};
 ghost use Rattle.verify.specs.Verify.{exponentsRule};
-ghost use Rattle.file.specs.File.{columnsOf, payslipsOf, lengthOf};
-ghost use Rattle.file.specs.Answers.{readOf};
+ghost use Rattle.layout.specs.Layout.{edition1};
+ghost use Rattle.layout.specs.File.{columnsOf, payslipsOf, lengthOf};
+ghost use Rattle.reading.specs.Answers.{readOf};
 ghost use Rattle.run.specs.Run.{pick};
 ghost use Rattle.listing.specs.Listing.{blank, decimal, moreFields, lineOf, inColumns, payslipLines, amountOf, listingRule, chainText, refusedText, listing};
 ghost use Rattle.listing.specs.Table.{tableSize, amountIn, Holds};
 ghost use Rattle.listing.specs.Room.{mostField, mostSizes, mostLine, mostText};
 ghost use Rattle.listing.specs.Put.{Put};
 use chain::Judgement;
-use file::Reading;
+use reading::Reading;
 
 // Room for every listing.
 pub const MOST_TEXT: usize = 11468;
@@ -177,13 +178,13 @@ fn measure_file(
     table: &mut [u32],
 ) -> Reading
     requires { ⌜ (length (now steps) ≡ 2 * mostSteps) × (length (now outputs) ≡ mostPayslips) × (length (now scratch) ≡ mostColumns + mostSteps + 1) × (length (now table) ≡ tableSize) ⌝ }
-    ensures { λ r. ⌜ readOf r ≡ answer (listingRule (now (bytes .entry))) (columnsOf (now (bytes .entry)) ∷ payslipsOf (now (bytes .entry)) ∷ lengthOf (now (bytes .entry)) ∷ []) ⌝ }
+    ensures { λ r. ⌜ readOf r ≡ answer (listingRule (now (bytes .entry))) (columnsOf (now (bytes .entry)) ∷ payslipsOf (now (bytes .entry)) ∷ lengthOf edition1 (now (bytes .entry)) ∷ []) ⌝ }
     ensures { λ r. ⌜ (listingRule (now (bytes .entry)) ≡ fine → Holds (now (table .exit)) (payslipsOf (now (bytes .entry))) (columnsOf (now (bytes .entry))) (amountOf (now (bytes .entry)))) ⌝ }
 {
     if MOST_BYTES < bytes.len() {
         return Reading::Refused(6, 0);
     }
-    match file::read(bytes, steps, outputs) {
+    match reading::read(bytes, steps, outputs) {
         Reading::Refused(number, place) => Reading::Refused(number, place),
         Reading::Chain { p, q, n } => {
             match measure(p, &steps[..2 * n], &outputs[..q], scratch, table) {

@@ -14,7 +14,8 @@ use Rattle.residue.specs.Residue.{figure}
 use Rattle.verify.specs.Verify.{verifyRule}
 use Rattle.run.specs.Run.{residues, pick, runRule, runFigures}
 use Rattle.run.proofs.Figures.{length-pick}
-use Rattle.file.specs.File.{lengthOf, stepsOf, columnsOf, outputsOf}
+use Rattle.layout.specs.Layout.{edition1}
+use Rattle.layout.specs.File.{lengthOf, stepsOf, columnsOf, outputsOf}
 use Rattle.compile.specs.Compile.{count, ceiling, acceptedRule}
 use Rattle.path.specs.Path.{Lent, compiled, written, compiles, writes, reads, checks, beforeRun, runs, pathAnswer, pathLeaves}
 use Rattle.path.specs.Demand3.{LongEnough, Receivable, Demand3}
@@ -27,7 +28,7 @@ module _ (p q : ℕ) (amounts : List ℕ) (method k : ℕ) (low : (j : ℕ) → 
   -- a chain as it was read, where the chain compiled was meant
   as-compiled : Promised p q amounts method k (compiled p q amounts method k) n (ceiling p q amounts method k) → (v : Verdict) (f : ℕ → List Step → List ℕ → Verdict)
       → f p (compiled p q amounts method k .steps) (compiled p q amounts method k .outputs) ≡ v
-      → f (columnsOf (written p q amounts method k)) (stepsOf (written p q amounts method k)) (outputsOf (written p q amounts method k)) ≡ v
+      → f (columnsOf (written p q amounts method k)) (stepsOf edition1 (written p q amounts method k)) (outputsOf edition1 (written p q amounts method k)) ≡ v
   as-compiled ok v f e = rw (ok .read-back .columns, ok .read-back .steps-same, ok .read-back .outputs-same) e
 
   module _ (accepted : acceptedRule p q amounts method k ≡ fine) (long : LongEnough p q n l) where
@@ -57,9 +58,9 @@ module _ (p q : ℕ) (amounts : List ℕ) (method k : ℕ) (low : (j : ℕ) → 
       unfolding pathAnswer
       all-counted =
           sym
-          (answer-done _ (n ∷ lengthOf (written p q amounts method k) ∷ length (stepsOf (written p q amounts method k)) ∷ [])
+          (answer-done _ (n ∷ lengthOf edition1 (written p q amounts method k) ∷ length (stepsOf edition1 (written p q amounts method k)) ∷ [])
           (three-calls fine _ (pass _ _ fine checks-too runs-too)))
-          ∙ ap (λ (x : ℕ). done (n ∷ x ∷ length (stepsOf (written p q amounts method k)) ∷ [])) (ok .read-back .long ∙ ok .multiplications)
+          ∙ ap (λ (x : ℕ). done (n ∷ x ∷ length (stepsOf edition1 (written p q amounts method k)) ∷ [])) (ok .read-back .long ∙ ok .multiplications)
           ∙ ap (λ (x : ℕ). done (n ∷ n ∷ x ∷ [])) (ap length (ok .read-back .steps-same) ∙ ok .multiplications)
 
       all-figured : (i : ℕ) → i < q → getD (pathLeaves p q amounts method k l m bases .figures) i 0 ≡ figure p m bases amounts i
@@ -67,7 +68,7 @@ module _ (p q : ℕ) (amounts : List ℕ) (method k : ℕ) (low : (j : ℕ) → 
       all-figured i h =
           let f = written p q amounts method k in
           let c = compiled p q amounts method k in
-          let vs : List ℕ = pick (residues m bases (stepsOf f)) (outputsOf f) in
+          let vs : List ℕ = pick (residues m bases (stepsOf edition1 f)) (outputsOf edition1 f) in
           let same : vs ≡ pick (residues m bases (c .steps)) (c .outputs) = rw (ok .read-back .steps-same, ok .read-back .outputs-same) in
           let count-same : length vs ≡ q = ap length same ∙ length-pick (residues m bases (c .steps)) (c .outputs) ∙ ok .payslips in
           let left = sym (renewed _ _ (l .figures) (over vs (l .figures)) all-checked (renewed _ _ (l .figures) (over vs (l .figures)) runs-too refl)) in

@@ -12,11 +12,12 @@ use Rattle.verify.specs.Verified.{verifiedOf}
 use Rattle.verify.specs.declared.Verified.{Verified}
 use Rattle.verify.specs.declared.Verified.the-variants as verified
 use Rattle.run.specs.Run.{runAnswer, runValues, runFigures}
-use Rattle.file.specs.File.{fileOf, writeAnswer, writeBytes, readAnswer, readSteps, readOutputs}
-use Rattle.file.specs.Answers.{writtenOf}
-use Rattle.file.specs.declared.Written.{Written}
-use Rattle.file.specs.declared.Written.the-variants as written
-use Rattle.file.proofs.Taken.{write-stops, write-passes, write-front}
+use Rattle.layout.specs.Layout.{edition1}
+use Rattle.layout.specs.File.{fileOf, writeAnswer, writeBytes, readAnswer, readSteps, readOutputs}
+use Rattle.writing.specs.Answers.{writtenOf}
+use Rattle.writing.specs.declared.Written.{Written}
+use Rattle.writing.specs.declared.Written.the-variants as written
+use Rattle.writing.proofs.Told.{write-stops, write-passes, write-front}
 use Rattle.path.specs.Parts.{dispatchAnswer, dispatchSteps, dispatchOutputs, receiveAnswer, receiveValues, receiveFigures}
 
 -- the answer of a call after one that found nothing
@@ -24,35 +25,35 @@ pub after-answer : (a b : Verdict) (vs : List ℕ) → fine ≡ a → answer b v
 after-answer a b vs e = ap (λ (v : Verdict). answer v vs) (pass a b b e refl)
 
 module _ (p : ℕ) (steps : List Step) (outputs bytes received results : List ℕ) (w : Written)
-    (answered : writtenOf w ≡ writeAnswer p steps outputs (length bytes)) (bytes′ : List ℕ) (wrote : bytes′ ≡ writeBytes p steps outputs bytes) where
+    (answered : writtenOf w ≡ writeAnswer edition1 p steps outputs (length bytes)) (bytes′ : List ℕ) (wrote : bytes′ ≡ writeBytes edition1 p steps outputs bytes) where
   abbrev Dispatched : Answer → List ℕ → List ℕ → Type 0
   Dispatched a received′ results′ =
       (a ≡ dispatchAnswer p steps outputs (length bytes) (length received / 2) (length results))
-      × ((bytes′ ≡ writeBytes p steps outputs bytes)
+      × ((bytes′ ≡ writeBytes edition1 p steps outputs bytes)
       × ((received′ ≡ dispatchSteps p steps outputs (length bytes) (length results) received)
       × (results′ ≡ dispatchOutputs p steps outputs (length bytes) (length received / 2) results)))
 
   pub not-written : (k s : ℕ) → w ≡ written.Refused k s → Dispatched (refusal k s) received results
   unfolding dispatchAnswer dispatchSteps dispatchOutputs
   not-written k s e =
-      let v = write-stops p steps outputs bytes w answered k s e in
+      let v = write-stops edition1 p steps outputs bytes w answered k s e in
       (answer-refused _ _ k s (stop _ _ k s v), (wrote, (kept _ _ received k s v, kept _ _ results k s v)))
 
   pub then-read : (n : ℕ) → w ≡ written.Bytes n → (a : Answer) (received′ results′ : List ℕ)
-      → a ≡ readAnswer (take n bytes′) (length received / 2) (length results)
-      → received′ ≡ readSteps (take n bytes′) (length results) received
-      → results′ ≡ readOutputs (take n bytes′) (length received / 2) results
+      → a ≡ readAnswer edition1 (take n bytes′) (length received / 2) (length results)
+      → received′ ≡ readSteps edition1 (take n bytes′) (length results) received
+      → results′ ≡ readOutputs edition1 (take n bytes′) (length received / 2) results
       → Dispatched a received′ results′
   unfolding dispatchAnswer dispatchSteps dispatchOutputs readAnswer
   then-read n e a received′ results′ read es eo =
-      let v = write-passes p steps outputs bytes w answered n e in
-      let f : take n bytes′ ≡ fileOf p steps outputs = write-front p steps outputs bytes w answered n e bytes′ wrote in (
-        (read ∙ ap (λ (b : List ℕ). readAnswer b (length received / 2) (length results)) f) ∙ after-answer _ _ _ v,
+      let v = write-passes edition1 p steps outputs bytes w answered n e in
+      let f : take n bytes′ ≡ fileOf edition1 p steps outputs = write-front edition1 p steps outputs bytes w answered n e bytes′ wrote in (
+        (read ∙ ap (λ (b : List ℕ). readAnswer edition1 b (length received / 2) (length results)) f) ∙ after-answer _ _ _ v,
         (
           wrote,
           (
-            renewed _ _ received received′ v (es ∙ ap (λ (b : List ℕ). readSteps b (length results) received) f),
-            renewed _ _ results results′ v (eo ∙ ap (λ (b : List ℕ). readOutputs b (length received / 2) results) f),
+            renewed _ _ received received′ v (es ∙ ap (λ (b : List ℕ). readSteps edition1 b (length results) received) f),
+            renewed _ _ results results′ v (eo ∙ ap (λ (b : List ℕ). readOutputs edition1 b (length received / 2) results) f),
           ),
         ),
       )

@@ -17,8 +17,9 @@ use Rattle.verify.proofs.Passing.{Passing, passes-verify}
 use Rattle.run.specs.Run.{residues, pick, runRule}
 use Rattle.run.proofs.Accepted.{accepting}
 use Rattle.run.proofs.Residues.{figure-law}
-use Rattle.file.specs.File.{byteCount, fileOf, writeRule, readRule}
-use Rattle.file.proofs.ReadingBack.{ReadBack, reading-gives, reading-back}
+use Rattle.layout.specs.Layout.{edition1}
+use Rattle.layout.specs.File.{byteCount, fileOf, writeRule, readRule}
+use Rattle.layout.proofs.ReadingBack.{ReadBack, reading-gives, reading-back}
 use Rattle.compile.specs.Compile.{chainOf, count, ceiling, acceptedRule, compileRule}
 use Rattle.compile.proofs.Fits.{Accepted, accepted}
 use Rattle.compile.proofs.Right.{Right, compiled-right}
@@ -27,9 +28,9 @@ use Rattle.compile.proofs.Right.{Right, compiled-right}
 pub record Promised (p q : ℕ) (amounts : List ℕ) (method k : ℕ) (c : Chain) (n most : ℕ) : Type 0 where
   -- compile, write and read succeed where the lent slices are long enough, and reading gives the chain
   pub compiles : (pairsLent outputsLent : ℕ) → n ≤ pairsLent → q ≤ outputsLent → compileRule p q amounts method k pairsLent outputsLent ≡ fine
-  pub writes : (bytesLent : ℕ) → byteCount p q n ≤ bytesLent → writeRule p (c .steps) (c .outputs) bytesLent ≡ fine
-  pub reads : (pairsLent outputsLent : ℕ) → n ≤ pairsLent → q ≤ outputsLent → readRule (fileOf p (c .steps) (c .outputs)) pairsLent outputsLent ≡ fine
-  pub read-back : ReadBack p (c .steps) (c .outputs) (fileOf p (c .steps) (c .outputs))
+  pub writes : (bytesLent : ℕ) → byteCount edition1 p q n ≤ bytesLent → writeRule edition1 p (c .steps) (c .outputs) bytesLent ≡ fine
+  pub reads : (pairsLent outputsLent : ℕ) → n ≤ pairsLent → q ≤ outputsLent → readRule edition1 (fileOf edition1 p (c .steps) (c .outputs)) pairsLent outputsLent ≡ fine
+  pub read-back : ReadBack edition1 p (c .steps) (c .outputs) (fileOf edition1 p (c .steps) (c .outputs))
   -- the check passes
   pub passes : (scratch : ℕ) → scratchSize p n ≤ scratch → verifyRule p (c .steps) (c .outputs) amounts scratch ≡ fine
   -- the run succeeds for every modulus from 1 on and every list of bases below it, and its figures are the products of powers
@@ -78,8 +79,8 @@ module _ (p q : ℕ) (amounts : List ℕ) (method k : ℕ) (low : (j : ℕ) → 
       record {
         compiles = λ x y h g. sym (pass _ _ fine (sym ok) (refuse-no _ 5 0 (or-none _ _ (lt-no _ _ h) (lt-no _ _ g))));
         writes = λ x h. sym (pass _ _ fine (sym legal) (refuse-no _ 5 0 (lt-no _ _ (rw (right .outputs, right .counted) h))));
-        reads = λ x y h g. reading-back p (c .steps) (c .outputs) legal x y (omega (arith, right .counted)) (omega (arith, right .outputs));
-        read-back = reading-gives p (c .steps) (c .outputs) legal;
+        reads = λ x y h g. reading-back edition1 p (c .steps) (c .outputs) legal x y (omega (arith, right .counted)) (omega (arith, right .outputs));
+        read-back = reading-gives edition1 p (c .steps) (c .outputs) legal;
         passes = λ x h. passes-verify p (c .steps) (c .outputs) amounts x made (omega (arith, right .counted));
         runs =
             λ m bases some len under room places h g.

@@ -12,11 +12,12 @@ use Rattle.verify.specs.Verify.{verifyScratch}
 use Rattle.run.specs.Ran.{ranOf}
 use Rattle.run.specs.declared.Ran.{Ran}
 use Rattle.run.specs.declared.Ran.the-variants as ran
-use Rattle.file.specs.File.{columnsOf, lengthOf, stepsOf, outputsOf, writeBytes, readAnswer}
-use Rattle.file.specs.Answers.{readOf}
-use Rattle.file.specs.declared.Reading.{Reading}
-use Rattle.file.specs.declared.Reading.the-variants as reading
-use Rattle.file.proofs.Taken.{Taken, taken}
+use Rattle.layout.specs.Layout.{edition1}
+use Rattle.layout.specs.File.{columnsOf, lengthOf, stepsOf, outputsOf, writeBytes, readAnswer}
+use Rattle.reading.specs.Answers.{readOf}
+use Rattle.reading.specs.declared.Reading.{Reading}
+use Rattle.reading.specs.declared.Reading.the-variants as reading
+use Rattle.reading.proofs.Told.{ChainTaken, taken}
 use Rattle.compile.specs.Compile.{count, compileSteps, compileOutputs}
 use Rattle.path.specs.Path.{Lent, lent, compiled, written, compiles, writes, reads, checks, runs, pathAnswer, pathLeaves}
 use Rattle.path.specs.Parts.{dispatchAnswer, dispatchSteps, dispatchOutputs, receiveAnswer, receiveValues, receiveFigures}
@@ -62,9 +63,9 @@ module _ (p q : ℕ) (amounts : List ℕ) (method k : ℕ) (low : (j : ℕ) → 
     module _ (v : fine ≡ compiles p q amounts method k l) (s : List Step) (o : List ℕ) (s-is : s ≡ compiled p q amounts method k .steps)
         (o-is : o ≡ compiled p q amounts method k .outputs) (r : Reading)
         (answered : readOf r ≡ dispatchAnswer p s o (length (l .bytes)) (length (l .stepsRead) / 2) (length (l .outputsRead))) (bytes′ stepsRead′ outputsRead′ : List ℕ)
-        (eb : bytes′ ≡ writeBytes p s o (l .bytes)) (er : stepsRead′ ≡ dispatchSteps p s o (length (l .bytes)) (length (l .outputsRead)) (l .stepsRead))
+        (eb : bytes′ ≡ writeBytes edition1 p s o (l .bytes)) (er : stepsRead′ ≡ dispatchSteps p s o (length (l .bytes)) (length (l .outputsRead)) (l .stepsRead))
         (eu : outputsRead′ ≡ dispatchOutputs p s o (length (l .bytes)) (length (l .stepsRead) / 2) (l .outputsRead)) where
-      bytes-left : bytes′ ≡ onFine (compiles p q amounts method k l) (writeBytes p (compiled p q amounts method k .steps) (compiled p q amounts method k .outputs) (l .bytes)) (l .bytes)
+      bytes-left : bytes′ ≡ onFine (compiles p q amounts method k l) (writeBytes edition1 p (compiled p q amounts method k .steps) (compiled p q amounts method k .outputs) (l .bytes)) (l .bytes)
       bytes-left = renewed _ _ (l .bytes) bytes′ v (rw (s-is, o-is) at eb)
 
       found : verdictIn (readOf r) ≡ (writes p q amounts method k l then reads p q amounts method k l)
@@ -109,7 +110,7 @@ module _ (p q : ℕ) (amounts : List ℕ) (method k : ℕ) (low : (j : ℕ) → 
 
         -- s′ and o′ are the chain that read filled
         module _ (compiled′ : ℕ) (counted : compiled′ ≡ count p q amounts method k) (s′ : List Step) (o′ : List ℕ) (p-is : columns ≡ columnsOf file)
-            (s-is′ : s′ ≡ stepsOf file) (o-is′ : o′ ≡ outputsOf file) (a : Ran)
+            (s-is′ : s′ ≡ stepsOf edition1 file) (o-is′ : o′ ≡ outputsOf edition1 file) (a : Ran)
             (ran-answered : ranOf a ≡ receiveAnswer columns s′ o′ amounts (length (l .scratch)) m bases (length (l .values)) (length (l .figures)))
             (scratch′ values′ figures′ : List ℕ) (ec : scratch′ ≡ verifyScratch columns s′ o′ amounts (l .scratch))
             (ev : values′ ≡ receiveValues columns s′ o′ amounts (length (l .scratch)) m bases (length (l .figures)) (l .values))
@@ -138,8 +139,8 @@ module _ (p q : ℕ) (amounts : List ℕ) (method k : ℕ) (low : (j : ℕ) → 
               → Held (done (compiled′ ∷ n ∷ made ∷ [])) (lent steps′ outputs′ bytes′ stepsRead′ outputsRead′ scratch′ values′ figures′)
           unfolding pathAnswer receiveAnswer
           all-done made e =
-              let long : n ≡ lengthOf file = read-alone .long in
-              let said : made ≡ length (stepsOf file) = ap (λ (x : List ℕ). getD x 0 0) (told-values _ _ _ (sym (ap ranOf e) ∙ (rw (p-is, s-is′, o-is′) at ran-answered))) in
+              let long : n ≡ lengthOf edition1 file = read-alone .long in
+              let said : made ≡ length (stepsOf edition1 file) = ap (λ (x : List ℕ). getD x 0 0) (told-values _ _ _ (sym (ap ranOf e) ∙ (rw (p-is, s-is′, o-is′) at ran-answered))) in
               held _ _
               (rw (counted, long, said) (answer-done _ _ (three-calls _ _ (sym (ap (λ (x : Ran). verdictIn (ranOf x)) e) ∙ received))))
               all-left

@@ -5,17 +5,18 @@ ghost use lib.ListN.{length};
 ghost use Rattle.chain.specs.Chain.{pairs};
 ghost use Rattle.verify.specs.Verify.{verifyScratch};
 ghost use Rattle.run.specs.Ran.{ranOf};
-ghost use Rattle.file.specs.File.{writeBytes};
-ghost use Rattle.file.specs.Answers.{readOf};
+ghost use Rattle.layout.specs.Layout.{edition1};
+ghost use Rattle.layout.specs.File.{writeBytes};
+ghost use Rattle.reading.specs.Answers.{readOf};
 ghost use Rattle.path.specs.Path.{lent, pathAnswer, pathLeaves};
 ghost use Rattle.path.specs.Parts.{dispatchAnswer, dispatchSteps, dispatchOutputs, receiveAnswer, receiveValues, receiveFigures};
 ghost use Rattle.path.specs.Demand3.{Demand3};
 ghost use Rattle.path.specs.Figured.{figuredOf};
 use compile::Compiled;
-use file::Reading;
-use file::Written;
+use reading::Reading;
 use run::Ran;
 use verify::Verified;
+use writing::Written;
 
 // The steps that compile and read return and the multiplications made, or the refusal of the first call that refuses.
 pub enum Figured {
@@ -37,13 +38,13 @@ fn dispatch(
     results: &mut [u32],
 ) -> Reading
     ensures { λ r. ⌜ readOf r ≡ dispatchAnswer p (pairs (now (steps .entry))) (now (outputs .entry)) (length (now (bytes .entry))) (length (now (received .entry)) / 2) (length (now (results .entry))) ⌝ }
-    ensures { λ r. ⌜ now (bytes .exit) ≡ writeBytes p (pairs (now (steps .entry))) (now (outputs .entry)) (now (bytes .entry)) ⌝ }
+    ensures { λ r. ⌜ now (bytes .exit) ≡ writeBytes edition1 p (pairs (now (steps .entry))) (now (outputs .entry)) (now (bytes .entry)) ⌝ }
     ensures { λ r. ⌜ now (received .exit) ≡ dispatchSteps p (pairs (now (steps .entry))) (now (outputs .entry)) (length (now (bytes .entry))) (length (now (results .entry))) (now (received .entry)) ⌝ }
     ensures { λ r. ⌜ now (results .exit) ≡ dispatchOutputs p (pairs (now (steps .entry))) (now (outputs .entry)) (length (now (bytes .entry))) (length (now (received .entry)) / 2) (now (results .entry)) ⌝ }
 {
-    match file::write(p, steps, outputs, bytes) {
+    match writing::write(p, steps, outputs, bytes) {
         Written::Refused(number, place) => Reading::Refused(number, place),
-        Written::Bytes(count) => file::read(&bytes[..count], received, results),
+        Written::Bytes(count) => reading::read(&bytes[..count], received, results),
     }
 }
 

@@ -8,7 +8,8 @@ ghost use Rattle.chain.specs.Verdict.{Answer, done, refusal};
 ghost use Rattle.chain.specs.Chain.{pairs};
 ghost use Rattle.chain.specs.Written.{over};
 ghost use Rattle.compile.specs.Compile.{compileAnswer, compileSteps, compileOutputs};
-ghost use Rattle.file.specs.File.{writeAnswer, writeBytes, readAnswer, readSteps, readOutputs};
+ghost use Rattle.layout.specs.Layout.{edition1};
+ghost use Rattle.layout.specs.File.{writeAnswer, writeBytes, readAnswer, readSteps, readOutputs};
 ghost use Rattle.verify.specs.Verify.{verifyAnswer, verifyScratch};
 ghost use Rattle.verify.specs.Verified.{verifiedOf};
 ghost use Rattle.run.specs.Run.{runAnswer, runValues, runFigures};
@@ -20,11 +21,11 @@ ghost use Rattle.spoutbasket.specs.Told.{numberOf, wordsOf, chosen};
 use chain::Step;
 use choose::Chosen;
 use compile::Compiled;
-use file::Reading;
-use file::Written;
 use path::Figured;
+use reading::Reading;
 use run::Ran;
 use verify::Verified;
+use writing::Written;
 
 // The number returned, and the four words.
 fn tell(number: u32, a: usize, b: usize, c: usize, answer: &mut [u64; 4]) -> u32
@@ -86,11 +87,11 @@ pub extern "C" fn spoutbasket_write(
     bytes: &mut [u8],
     answer: &mut [u64; 4],
 ) -> u32
-    ensures { λ r. ⌜ r ≡ numberOf (writeAnswer p (pairs (now (steps .entry))) (now (outputs .entry)) (length (now (bytes .entry)))) ⌝ }
-    ensures { λ r. ⌜ now (answer .exit) ≡ wordsOf (writeAnswer p (pairs (now (steps .entry))) (now (outputs .entry)) (length (now (bytes .entry)))) ⌝ }
-    ensures { λ r. ⌜ now (bytes .exit) ≡ writeBytes p (pairs (now (steps .entry))) (now (outputs .entry)) (now (bytes .entry)) ⌝ }
+    ensures { λ r. ⌜ r ≡ numberOf (writeAnswer edition1 p (pairs (now (steps .entry))) (now (outputs .entry)) (length (now (bytes .entry)))) ⌝ }
+    ensures { λ r. ⌜ now (answer .exit) ≡ wordsOf (writeAnswer edition1 p (pairs (now (steps .entry))) (now (outputs .entry)) (length (now (bytes .entry)))) ⌝ }
+    ensures { λ r. ⌜ now (bytes .exit) ≡ writeBytes edition1 p (pairs (now (steps .entry))) (now (outputs .entry)) (now (bytes .entry)) ⌝ }
 {
-    match file::write(p, steps, outputs, bytes) {
+    match writing::write(p, steps, outputs, bytes) {
         Written::Refused(number, place) => tell(number, place, 0, 0, answer),
         Written::Bytes(n) => tell(0, n, 0, 0, answer),
     }
@@ -104,12 +105,12 @@ pub extern "C" fn spoutbasket_read(
     outputs: &mut [u32],
     answer: &mut [u64; 4],
 ) -> u32
-    ensures { λ r. ⌜ r ≡ numberOf (readAnswer (now (bytes .entry)) (length (now (steps .entry)) / 2) (length (now (outputs .entry)))) ⌝ }
-    ensures { λ r. ⌜ now (answer .exit) ≡ wordsOf (readAnswer (now (bytes .entry)) (length (now (steps .entry)) / 2) (length (now (outputs .entry)))) ⌝ }
-    ensures { λ r. ⌜ now (steps .exit) ≡ readSteps (now (bytes .entry)) (length (now (outputs .entry))) (now (steps .entry)) ⌝ }
-    ensures { λ r. ⌜ now (outputs .exit) ≡ readOutputs (now (bytes .entry)) (length (now (steps .entry)) / 2) (now (outputs .entry)) ⌝ }
+    ensures { λ r. ⌜ r ≡ numberOf (readAnswer edition1 (now (bytes .entry)) (length (now (steps .entry)) / 2) (length (now (outputs .entry)))) ⌝ }
+    ensures { λ r. ⌜ now (answer .exit) ≡ wordsOf (readAnswer edition1 (now (bytes .entry)) (length (now (steps .entry)) / 2) (length (now (outputs .entry)))) ⌝ }
+    ensures { λ r. ⌜ now (steps .exit) ≡ readSteps edition1 (now (bytes .entry)) (length (now (outputs .entry))) (now (steps .entry)) ⌝ }
+    ensures { λ r. ⌜ now (outputs .exit) ≡ readOutputs edition1 (now (bytes .entry)) (length (now (steps .entry)) / 2) (now (outputs .entry)) ⌝ }
 {
-    match file::read(bytes, steps, outputs) {
+    match reading::read(bytes, steps, outputs) {
         Reading::Refused(number, place) => tell(number, place, 0, 0, answer),
         Reading::Chain { p, q, n } => tell(0, p, q, n, answer),
     }

@@ -3,7 +3,8 @@ use mathlib.Core.Path.{sym}
 use lib.Seq.{length-take-le}
 use denote.Ref.{now}
 use Rattle.chain.specs.Chain.{pairs}
-use Rattle.file.proofs.Taken.{write-room}
+use Rattle.layout.specs.Layout.{edition1}
+use Rattle.writing.proofs.Told.{write-room}
 use Rattle.path.proofs.Parts.{not-written, then-read}
 use Rattle.path.proofs.dispatch.Statement.{statement}
 use Rattle.path.proofs.dispatch.Tie as tie
@@ -22,7 +23,7 @@ slice-reshare-prefix-read c =
     let n = c .before in
     let w = n .before .before .before .before in
     let a = w .before .before .before .before .before .before .before .args in
-    write-room (a .p) (pairs (now (a .steps))) (now (a .outputs)) (now (a .bytes)) _ (w .write .ensures .0) _ (n .count .given .1) _ (w .write .ensures .1)
+    write-room edition1 (a .p) (pairs (now (a .steps))) (now (a .outputs)) (now (a .bytes)) _ (w .write .ensures .0) _ (n .count .given .1) _ (w .write .ensures .1)
 
 slice-aggregate-read : tie.Need-slice-aggregate-read
 slice-aggregate-read c = sym (length-take-le _ _ (slice-reshare-prefix-read (c .before)))

@@ -10,7 +10,7 @@ use Rattle.chain.specs.Chain.{mostAmount, pairs}
 use Rattle.chain.proofs.Pairs.{pairs-flat}
 use Rattle.compile.specs.Compile.{count}
 use Rattle.compile.proofs.Filled.{Filled, filled, compile-stops, compile-passes, compile-counts}
-use Rattle.file.proofs.Taken.{Taken}
+use Rattle.reading.proofs.Told.{ChainTaken}
 use Rattle.path.specs.Path.{Lent, lent, written, compiles}
 use Rattle.path.proofs.Whole.{not-compiled, not-dispatched, read-alone, not-received, all-done}
 use Rattle.path.proofs.sheet_to_figures.Statement.{statement}

@@ -168,10 +168,10 @@ pub fn show(outputs: &[u32], values: &[u32], figures: &mut [u32])
     requires { ⌜ (length (now outputs) ≤ length (now figures)) × ((i : ℕ) → i < length (now outputs) → getD (now outputs) i 0 < length (now values)) ⌝ }
     ensures { λ r. ⌜ now (figures .exit) ≡ over (pick (now (values .entry)) (now (outputs .entry))) (now (figures .entry)) ⌝ }
 {
-    let mut i: usize = 0;
-    while i < outputs.len() {
-        let v = outputs[i] as usize;
-        figures[i] = values[v];
-        i += 1;
+    let mut j: usize = 0;
+    while j < outputs.len() {
+        let v = outputs[j] as usize;
+        figures[j] = values[v];
+        j += 1;
     }
 }

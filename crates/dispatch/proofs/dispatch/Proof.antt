@@ -1,3 +1,4 @@
+-- Write refuses, or the bytes that it counted are lent to read; each return is one law of `Dispatching`.
 use borrow.Author.Needs.{needs}
 use mathlib.Core.Path.{sym}
 use lib.Seq.{length-take-le}
@@ -5,9 +6,9 @@ use denote.Ref.{now}
 use Rattle.chain.specs.Chain.{pairs}
 use Rattle.layout.specs.Layout.{edition1}
 use Rattle.writing.proofs.Told.{write-room}
-use Rattle.path.proofs.Parts.{not-written, then-read}
-use Rattle.path.proofs.dispatch.Statement.{statement}
-use Rattle.path.proofs.dispatch.Tie as tie
+use Rattle.dispatch.proofs.Dispatching.{not-written, then-read}
+use Rattle.dispatch.proofs.dispatch.Statement.{statement}
+use Rattle.dispatch.proofs.dispatch.Tie as tie
 
 write-requires : tie.Need-write-requires
 write-requires c κs = search needs
@@ -23,7 +24,8 @@ slice-reshare-prefix-read c =
     let n = c .before in
     let w = n .before .before .before .before in
     let a = w .before .before .before .before .before .before .before .args in
-    write-room edition1 (a .p) (pairs (now (a .steps))) (now (a .outputs)) (now (a .bytes)) _ (w .write .ensures .0) _ (n .count .given .1) _ (w .write .ensures .1)
+    write-room edition1 (a .p) (pairs (now (a .steps))) (now (a .outputs)) (now (a .bytes)) _ (w .write .ensures .0) _ (n .count .given .1) _
+    (w .write .ensures .1)
 
 slice-aggregate-read : tie.Need-slice-aggregate-read
 slice-aggregate-read c = sym (length-take-le _ _ (slice-reshare-prefix-read (c .before)))
@@ -38,7 +40,8 @@ returns : tie.Need-returns
 returns c =
     let w = c .before .before .before .before .before in
     let a = w .before .before .before .before .before .before .before .args in
-    not-written (a .p) (pairs (now (a .steps))) (now (a .outputs)) (now (a .bytes)) (now (a .received)) (now (a .results)) _ (w .write .ensures .0) _ (w .write .ensures .1)
+    not-written (a .p) (pairs (now (a .steps))) (now (a .outputs)) (now (a .bytes)) (now (a .received)) (now (a .results)) _ (w .write .ensures .0) _
+    (w .write .ensures .1)
     _ _ (c .before .number .given .1)
 
 same-length-2 : tie.Need-same-length-2
@@ -56,7 +59,8 @@ returns-2 c =
     let n = r .before .before .before .before .before in
     let w = n .before .before .before .before in
     let a = w .before .before .before .before .before .before .before .args in
-    then-read (a .p) (pairs (now (a .steps))) (now (a .outputs)) (now (a .bytes)) (now (a .received)) (now (a .results)) _ (w .write .ensures .0) _ (w .write .ensures .1)
+    then-read (a .p) (pairs (now (a .steps))) (now (a .outputs)) (now (a .bytes)) (now (a .received)) (now (a .results)) _ (w .write .ensures .0) _
+    (w .write .ensures .1)
     _ (n .count .given .1) _ _ _ (r .read .ensures .0) (r .read .ensures .1 .0) (r .read .ensures .1 .1)
 
 pub dispatch-spec : {M : Type 1} → statement M

@@ -1,9 +1,10 @@
+-- The check refuses, or the chain is run; each return is one law of `Receiving`.
 use borrow.Author.Needs.{needs}
 use denote.Ref.{now}
 use Rattle.chain.specs.Chain.{pairs}
-use Rattle.path.proofs.Parts.{not-passed, then-run}
-use Rattle.path.proofs.receive.Statement.{statement}
-use Rattle.path.proofs.receive.Tie as tie
+use Rattle.receive.proofs.Receiving.{not-passed, then-run}
+use Rattle.receive.proofs.receive.Statement.{statement}
+use Rattle.receive.proofs.receive.Tie as tie
 
 verify-requires : tie.Need-verify-requires
 verify-requires c κs = search needs
@@ -24,7 +25,8 @@ returns : tie.Need-returns
 returns c =
     let w = c .before .before .before .before .before in
     let a = w .before .before .before .before .before .before .before .before .before .args in
-    not-passed (a .p) (pairs (now (a .steps))) (now (a .outputs)) (now (a .amounts)) (now (a .scratch)) (a .m) (now (a .bases)) (now (a .values)) (now (a .figures)) _
+    not-passed (a .p) (pairs (now (a .steps))) (now (a .outputs)) (now (a .amounts)) (a .m) (now (a .bases)) (now (a .scratch)) (now (a .values))
+    (now (a .figures)) _
     (w .verify .ensures .0) _ (w .verify .ensures .1) _ _ (c .before .number .given .1)
 
 same-length-2 : tie.Need-same-length-2
@@ -42,7 +44,8 @@ returns-2 c =
     let e = r .before .before .before in
     let w = e .before .before .before .before in
     let a = w .before .before .before .before .before .before .before .before .before .args in
-    then-run (a .p) (pairs (now (a .steps))) (now (a .outputs)) (now (a .amounts)) (now (a .scratch)) (a .m) (now (a .bases)) (now (a .values)) (now (a .figures)) _
+    then-run (a .p) (pairs (now (a .steps))) (now (a .outputs)) (now (a .amounts)) (a .m) (now (a .bases)) (now (a .scratch)) (now (a .values))
+    (now (a .figures)) _
     (w .verify .ensures .0) _ (w .verify .ensures .1) (e .enum-told .given .1) _ _ _ (r .run .ensures .0) (r .run .ensures .1 .0) (r .run .ensures .1 .1)
 
 pub receive-spec : {M : Type 1} → statement M

@@ -1,4 +1,4 @@
--- The verdict on a file that is to be listed, from what reading it and measuring its columns find.
+-- The verdict on a file that is to be listed is its length's, then reading's, then the columns', each told by the call that finds it.
 use mathlib.Core.Path.{_≡_, sym, ap, ap₂, _∙_}
 use mathlib.Core.List.{List, [], _∷_}
 use Prim.Native.Nat.{ℕ, _+_, _*_, _/_, _≤_, _<_}

@@ -1,4 +1,4 @@
--- The text that was written is the listing.
+-- The verdict decides the text, and a table that holds the file's amounts gives the same lines as the file.
 use mathlib.Core.Path.{_≡_, refl, sym, ap, ap₂, subst, _∙_}
 use mathlib.Core.List.{List, [], _∷_, _++_}
 use Prim.Native.Nat.{ℕ, zero, suc, _+_, _≤_, _<_}

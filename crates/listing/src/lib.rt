@@ -30,7 +30,7 @@ const MOST_LINE: usize = 2 + MOST_FIELD * chain::MOST_COLUMNS + 1;
 pub const MOST_TEXT: usize = MOST_SIZES + MOST_LINE * chain::MOST_PAYSLIPS;
 
 // The longest file.
-const MOST_BYTES: usize = 56116;
+const MOST_BYTES: usize = layout::LONGEST_FILE;
 
 // A blank and a number.
 fn put_field(x: u32, at: usize, text: &mut [u8]) -> usize

@@ -1,3 +1,4 @@
+-- The length, what reading finds and what the columns' sums find, in this order, are the listing's rule.
 use borrow.Author.Needs.{needs}
 use mathlib.Core.Path.{sym, ap}
 use native.Mathlib.Omega.{arith}

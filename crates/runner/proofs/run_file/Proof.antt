@@ -1,3 +1,4 @@
+-- The chain read stands at the front of its slices, so the run is given exactly it.
 use borrow.Author.Needs.{needs}
 use mathlib.Core.Path.{sym}
 use native.Mathlib.Omega.{arith}

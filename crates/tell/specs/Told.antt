@@ -16,7 +16,7 @@ wordsOf (done vs) = take 4 (vs ++ 0 ∷ 0 ∷ 0 ∷ 0 ∷ [])
 wordsOf (refusal n s) = s ∷ 0 ∷ 0 ∷ 0 ∷ []
 
 -- what the chooser answers: the file handed back, 1 or 2, or the refusal
-abbrev pub chosen : Choice → Answer
-chosen first = done (1 ∷ [])
-chosen second = done (2 ∷ [])
-chosen (neither n s) = refusal n s
+abbrev pub choiceAnswer : Choice → Answer
+choiceAnswer first = done (1 ∷ [])
+choiceAnswer second = done (2 ∷ [])
+choiceAnswer (neither n s) = refusal n s

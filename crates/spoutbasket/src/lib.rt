@@ -7,7 +7,8 @@ ghost use lib.ListN.{length};
 ghost use Rattle.chain.specs.Chain.{pairs};
 ghost use Rattle.chain.specs.Written.{over};
 ghost use Rattle.compile.specs.Compile.{compileAnswer, compileSteps, compileOutputs};
-ghost use Rattle.file.specs.File.{writeAnswer, writeBytes, readAnswer, readSteps, readOutputs};
+ghost use Rattle.layout.specs.Layout.{edition1};
+ghost use Rattle.layout.specs.File.{writeAnswer, writeBytes, readAnswer, readSteps, readOutputs};
 ghost use Rattle.verify.specs.Verify.{verifyAnswer, verifyScratch};
 ghost use Rattle.run.specs.Run.{runAnswer, runValues, runFigures};
 ghost use Rattle.choose.specs.Choose.{choice};
@@ -46,11 +47,11 @@ pub extern "C" fn spoutbasket_write(
     bytes: &mut [u8],
     answer: &mut [u64; 4],
 ) -> u32
-    ensures { λ r. ⌜ r ≡ numberOf (writeAnswer p (pairs (now (steps .entry))) (now (outputs .entry)) (length (now (bytes .entry)))) ⌝ }
-    ensures { λ r. ⌜ now (answer .exit) ≡ wordsOf (writeAnswer p (pairs (now (steps .entry))) (now (outputs .entry)) (length (now (bytes .entry)))) ⌝ }
-    ensures { λ r. ⌜ now (bytes .exit) ≡ writeBytes p (pairs (now (steps .entry))) (now (outputs .entry)) (now (bytes .entry)) ⌝ }
+    ensures { λ r. ⌜ r ≡ numberOf (writeAnswer edition1 p (pairs (now (steps .entry))) (now (outputs .entry)) (length (now (bytes .entry)))) ⌝ }
+    ensures { λ r. ⌜ now (answer .exit) ≡ wordsOf (writeAnswer edition1 p (pairs (now (steps .entry))) (now (outputs .entry)) (length (now (bytes .entry)))) ⌝ }
+    ensures { λ r. ⌜ now (bytes .exit) ≡ writeBytes edition1 p (pairs (now (steps .entry))) (now (outputs .entry)) (now (bytes .entry)) ⌝ }
 {
-    let written = file::write(p, steps, outputs, bytes);
+    let written = writing::write(p, steps, outputs, bytes);
     tell::tell_written(written, answer)
 }
 
@@ -62,12 +63,12 @@ pub extern "C" fn spoutbasket_read(
     outputs: &mut [u32],
     answer: &mut [u64; 4],
 ) -> u32
-    ensures { λ r. ⌜ r ≡ numberOf (readAnswer (now (bytes .entry)) (length (now (steps .entry)) / 2) (length (now (outputs .entry)))) ⌝ }
-    ensures { λ r. ⌜ now (answer .exit) ≡ wordsOf (readAnswer (now (bytes .entry)) (length (now (steps .entry)) / 2) (length (now (outputs .entry)))) ⌝ }
-    ensures { λ r. ⌜ now (steps .exit) ≡ readSteps (now (bytes .entry)) (length (now (outputs .entry))) (now (steps .entry)) ⌝ }
-    ensures { λ r. ⌜ now (outputs .exit) ≡ readOutputs (now (bytes .entry)) (length (now (steps .entry)) / 2) (now (outputs .entry)) ⌝ }
+    ensures { λ r. ⌜ r ≡ numberOf (readAnswer edition1 (now (bytes .entry)) (length (now (steps .entry)) / 2) (length (now (outputs .entry)))) ⌝ }
+    ensures { λ r. ⌜ now (answer .exit) ≡ wordsOf (readAnswer edition1 (now (bytes .entry)) (length (now (steps .entry)) / 2) (length (now (outputs .entry)))) ⌝ }
+    ensures { λ r. ⌜ now (steps .exit) ≡ readSteps edition1 (now (bytes .entry)) (length (now (outputs .entry))) (now (steps .entry)) ⌝ }
+    ensures { λ r. ⌜ now (outputs .exit) ≡ readOutputs edition1 (now (bytes .entry)) (length (now (steps .entry)) / 2) (now (outputs .entry)) ⌝ }
 {
-    let reading = file::read(bytes, steps, outputs);
+    let reading = reading::read(bytes, steps, outputs);
     tell::tell_read(reading, answer)
 }
 

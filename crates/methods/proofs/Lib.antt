@@ -1,4 +1,5 @@
 pub mod Payslips
+pub mod Right
 pub mod Powers
 pub mod Paying
 pub mod Columns

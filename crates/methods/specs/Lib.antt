@@ -1,1 +1,2 @@
 pub mod Powers
+pub mod Method

@@ -1,5 +1,4 @@
--- The theorems of method 1: its chain is legal, each output makes its payslip, no exponent is too large, and the steps are as many as the count,
--- which keeps to the ceiling.
+-- Method 1 is right: the table is sound, each payslip made after it makes its amounts, and the steps of table and payslips add up to the count.
 use mathlib.Core.Path.{_≡_, refl, ap₂, _∙_}
 use mathlib.Core.List.{List}
 use Prim.Native.Nat.{ℕ, _+_, _-_, _*_, _^_, _≤_, _<_}
@@ -7,14 +6,13 @@ use native.Mathlib.Nat.{mul-add, mul-one, le-refl, le-trans, add-le-add}
 use native.Mathlib.Omega.{arith}
 use lib.ListN.{length, getD}
 use lib.Pow.{pow-mono}
-use Rattle.chain.specs.Verdict.{fine}
-use Rattle.chain.specs.Chain.{mostAmount, stepsRule, outputsRule}
-use Rattle.chain.proofs.Exponents.{Makes, Within}
+use Rattle.chain.specs.Chain.{mostAmount}
 use Rattle.digits.specs.Range.{sumTo, sign}
 use Rattle.digits.proofs.Range.{sum-le, signs-low}
 use Rattle.sheet.specs.Sheet.{amount}
-use Rattle.methods.proofs.Payslips.{Pays, pays-legal, payslips-make, payslips-count}
-use Rattle.straus.specs.Straus.{strausTable, strausDigits, digitVector, strausPayslip, straus, strausCount, strausCeiling}
+use Rattle.methods.proofs.Payslips.{Pays, payslips-make, payslips-count}
+use Rattle.methods.proofs.Right.{Right, pays-right}
+use Rattle.straus.specs.Straus.{strausTable, strausDigits, digitVector, strausPayslip, straus, strausCount, strausCeiling, strausMethod}
 use Rattle.straus.proofs.Bases.{straus-table-count, straus-table-sound}
 use Rattle.straus.proofs.Payslip.{payslip-count, payslip-makes}
 
@@ -43,19 +41,6 @@ module _ (p q : ℕ) (amounts : List ℕ) (k : ℕ) (some : 1 ≤ k) where
         payslips-make p mostAmount (strausPayslip p k amounts) (strausTable p k) (amount p amounts) q (straus-table-sound p k some mostAmount room)
         (λ i h. payslip-makes p k some amounts i mostAmount room (λ c g. low (i * p + c)))
 
-    -- the steps are legal and the outputs are values' numbers
-    pub straus-legal : (stepsRule p 1 (straus p q amounts k .steps) ≡ fine)
-        × (outputsRule (p + length (straus p q amounts k .steps)) 1 (straus p q amounts k .outputs) ≡ fine)
-    straus-legal = (pays .sound .legal, pays-legal pays)
-
-    -- each output makes its payslip
-    pub straus-makes : (i : ℕ) → i < q → Makes p (straus p q amounts k .steps) (getD (straus p q amounts k .outputs) i 0) (λ c. amount p amounts i c)
-    straus-makes = pays .makes
-
-    -- no exponent is above 4,294,967,295
-    pub straus-within : Within p (straus p q amounts k .steps) mostAmount
-    straus-within = pays .sound .within
-
-    -- an output for each payslip
-    pub straus-outputs : length (straus p q amounts k .outputs) ≡ q
-    straus-outputs = pays .outputs
+    -- all that is asked of a method
+    pub straus-right : Right p q amounts (strausMethod p q amounts k)
+    straus-right = pays-right _ pays straus-count (straus-ceiling p q amounts k)

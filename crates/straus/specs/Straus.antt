@@ -8,6 +8,7 @@ use Rattle.digits.specs.Range.{sumTo, maxTo, sign}
 use Rattle.sheet.specs.Sheet.{amount}
 use Rattle.products.specs.Product.{Made, made, times, squared, payslips}
 use Rattle.tables.specs.Table.{entry, table}
+use Rattle.methods.specs.Method.{Method}
 
 -- the bases: values 1 to p
 abbrev pub bases : ℕ → List ℕ
@@ -50,3 +51,6 @@ strausCount p q amounts k =
 -- "Ceiling: 2^(pk) − p − 1 + sum over nonzero payslips of (J−1)(k+1)."
 unfoldable pub strausCeiling : ℕ → ℕ → List ℕ → ℕ → ℕ
 strausCeiling p q amounts k = 2 ^ (p * k) - p - 1 + sumTo q (λ i. (strausDigits p k amounts i - 1) * (k + 1))
+
+abbrev pub strausMethod : ℕ → ℕ → List ℕ → ℕ → Method
+strausMethod p q amounts k = record { chain = straus p q amounts k; count = strausCount p q amounts k; ceiling = strausCeiling p q amounts k }

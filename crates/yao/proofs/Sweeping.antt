@@ -1,4 +1,4 @@
--- Running from the largest digit down: what a and b make after the first n rounds.
+-- By induction on the rounds: after n of them each power is in a once for each round in which it was in b, and in the end that makes the amount.
 use mathlib.Core.Path.{_≡_, sym, ap, _∙_}
 use mathlib.Core.List.{List}
 use Prim.Native.Nat.{ℕ, zero, suc, _+_, _-_, _*_, _^_, _≤_, _<_}
@@ -13,12 +13,12 @@ use Rattle.digits.proofs.Vector.{vector, vector-zero, digit-low, delta, delta-p
 use Rattle.products.specs.Product.{Made, made, times}
 use Rattle.products.proofs.Sound.{Begins, begins-own, begins-on, makes-on, Sound}
 use Rattle.products.proofs.Product.{Result, result-value, result-like, result-times}
-use Rattle.yao.specs.Yao.{gather, Running, running}
+use Rattle.yao.specs.Yao.{gather, Sweep, sweep}
 use Rattle.yao.proofs.Gather.{gather-makes}
 use Rattle.yao.proofs.Rounds.{each, in-b, rounds-none, b-next, a-next, a-all, a-low}
 
 -- After n rounds: each power is in a once for each round in which it was in b.
-pub record Runs (p limit k column x J : ℕ) (before : List Step) (n : ℕ) (r : Running) : Type 0 where
+pub record Swept (p limit k column x J : ℕ) (before : List Step) (n : ℕ) (r : Sweep) : Type 0 where
   pub sound : Sound p limit (r .steps)
   pub begins : Begins before (r .steps)
   pub makes-a : Makes p (r .steps) (r .a) (λ c. delta column c * vector k (each k x n) J)
@@ -27,8 +27,8 @@ pub record Runs (p limit k column x J : ℕ) (before : List Step) (n : ℕ) (r :
 module _ (p limit k column : ℕ) (power : ℕ → ℕ) (x J : ℕ) {before : List Step} (sound : Sound p limit before)
     (given : (j : ℕ) → j < J → Makes p before (power j) (λ c. delta column c * 2 ^ (k * j)))
     (short : x < 2 ^ (k * J)) (low : x ≤ limit) where
-  runs : (n : ℕ) → n < 2 ^ k → Runs p limit k column x J before n (running p k power J x before n)
-  runs zero h =
+  swept : (n : ℕ) → n < 2 ^ k → Swept p limit k column x J before n (sweep p k power J x before n)
+  swept zero h =
       let none : (j : ℕ) → each k x 0 j ≡ 0 = λ j. rounds-none k (digit k x j) (digit-low k x j) in
       let nothing : (f : ℕ → ℕ) → ((j : ℕ) → f j ≡ 0) → (c : ℕ) → 0 ≡ delta column c * vector k f J =
       λ f e c. sym (ap (λ (s : ℕ). delta column c * s) (vector-zero k f J (λ j g. e j)) ∙ mul-zero (delta column c)) in
@@ -38,10 +38,10 @@ module _ (p limit k column : ℕ) (power : ℕ → ℕ) (x J : ℕ) {before : Li
         makes-a = makes-like p _ _ _ _ (λ c g. nothing (each k x 0) none c) (makes-zero p before);
         makes-b = makes-like p _ _ _ _ (λ c g. nothing (in-b k x 0) (λ j. ap sign (none j)) c) (makes-zero p before);
       }
-  runs (suc n) h = more (runs n (omega arith))
+  swept (suc n) h = more (swept n (omega arith))
     where
-      r : Running
-      r = running p k power J x before n
+      r : Sweep
+      r = sweep p k power J x before n
 
       g : Made
       g = gather p k power x (2 ^ k - suc n) J (made (r .steps) (r .b))
@@ -58,7 +58,7 @@ module _ (p limit k column : ℕ) (power : ℕ → ℕ) (x J : ℕ) {before : Li
       within : a + b ≤ limit
       within = omega (arith, sum, a-low k x J short (suc n) h)
 
-      more : Runs p limit k column x J before n r → Runs p limit k column x J before (suc n) (running p k power J x before (suc n))
+      more : Swept p limit k column x J before n r → Swept p limit k column x J before (suc n) (sweep p k power J x before (suc n))
       more s =
           record {
             sound = t .sound;
@@ -82,9 +82,9 @@ module _ (p limit k column : ℕ) (power : ℕ → ℕ) (x J : ℕ) {before : Li
               (λ c i. rw (join c) (le-trans (delta-part column c (a + b)) within)))
 
   -- all rounds: a makes the amount
-  pub running-makes : Result p limit before (made (running p k power J x before (2 ^ k - 1) .steps) (running p k power J x before (2 ^ k - 1) .a)) (λ c. delta column c * x)
-  running-makes =
-      let r = runs (2 ^ k - 1) (omega (arith, pow-pos k)) in
+  pub sweep-makes : Result p limit before (made (sweep p k power J x before (2 ^ k - 1) .steps) (sweep p k power J x before (2 ^ k - 1) .a)) (λ c. delta column c * x)
+  sweep-makes =
+      let r = swept (2 ^ k - 1) (omega (arith, pow-pos k)) in
       record {
         sound = r .sound;
         begins = r .begins;

@@ -9,12 +9,12 @@ use Rattle.chain.specs.declared.Step.{Step}
 use Rattle.chain.proofs.Exponents.{makes-like}
 use Rattle.digits.specs.Range.{sumTo, sign}
 use Rattle.digits.proofs.Range.{sum-same, sum-split, sum-more, sign-some, sign-add, sign-sign}
-use Rattle.methods.specs.Table.{entry}
-use Rattle.methods.specs.Product.{Made, made, times}
-use Rattle.methods.proofs.Sound.{Begins, begins-on, makes-on, Sound}
-use Rattle.methods.proofs.Product.{times-cost, times-spent, Result, result-empty, result-like, result-times}
-use Rattle.methods.proofs.Table.{entry-sign}
-use Rattle.methods.proofs.Entries.{combined}
+use Rattle.tables.specs.Table.{entry}
+use Rattle.products.specs.Product.{Made, made, times}
+use Rattle.products.proofs.Sound.{Begins, begins-on, makes-on, Sound}
+use Rattle.products.proofs.Product.{times-cost, times-spent, Result, result-empty, result-like, result-times}
+use Rattle.tables.proofs.Table.{entry-sign}
+use Rattle.tables.proofs.Entries.{combined}
 use Rattle.partition.specs.Partition.{group, groupSize, groupTables, weigh, parts}
 use Rattle.partition.proofs.Groups.{length-group, getD-group, group-within, reached, reached-next, weigh-low, digit-weigh}
 use Rattle.partition.proofs.Tables.{partOf, Grouped}

@@ -23,9 +23,9 @@ module _ (p q : ℕ) (amounts : List ℕ) (less col x b : ℕ) (is : x ≡ large
   pub bits-left : (r : ℕ) → r ≡ b - less → r ≡ columnBits p q amounts col - less
   bits-left r told = told ∙ ap (λ (n : ℕ). n - less) bits-are
 
-pub bits-few : (less x b r : ℕ) → x < 2 ^ 32 → b ≡ digitCount 1 x → r ≡ b - less → r ≤ 32
+pub bits-narrow : (less x b r : ℕ) → x < 2 ^ 32 → b ≡ digitCount 1 x → r ≡ b - less → r ≤ 32
 unfolding bitLength
-bits-few less x b r low e told = let few : bitLength x ≤ 32 = low-bits x 32 low in omega arith
+bits-narrow less x b r low e told = let few : bitLength x ≤ 32 = low-bits x 32 low in omega arith
 
 -- those of the first n columns together
 abbrev pub bitsTo : ℕ → ℕ → List ℕ → ℕ → ℕ → ℕ
@@ -83,8 +83,8 @@ pub tables-on : (c w n g s r : ℕ) → s ≡ groupSize c w g → r ≡ 2 ^ s - 
 tables-on c w n g s r size is e =
     sum-on (λ k. 2 ^ groupSize c w k - groupSize c w k - 1) g n r (is ∙ ap (λ (m : ℕ). 2 ^ m - m - 1) size) e
 
-pub tables-end : (c w G g n : ℕ) → G ≡ groupCount c w → g ≤ G → G ≤ g → n ≡ tablesTo c w g → n ≡ tablesTo c w (groupCount c w)
-tables-end c w G g n is h k e = let last : groupCount c w ≡ g = omega arith in rw last e
+pub tables-all : (c w G g n : ℕ) → G ≡ groupCount c w → g ≤ G → G ≤ g → n ≡ tablesTo c w g → n ≡ tablesTo c w (groupCount c w)
+tables-all c w G g n is h k e = let last : groupCount c w ≡ g = omega arith in rw last e
 
 -- how many parts are not empty, of the first n
 abbrev pub signsTo : List ℕ → ℕ → ℕ

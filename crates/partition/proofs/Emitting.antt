@@ -18,8 +18,8 @@ use Rattle.methods.specs.Emitted.{stepsIn, Room, Stored, Emitted}
 use Rattle.methods.proofs.Sound.{Begins, begins-more, begins-rise, begins-length}
 use Rattle.methods.proofs.Product.{times-begins}
 use Rattle.methods.proofs.Emitted.{stored-is, stored-on, stored-room, emits-room, emits-on}
-use Rattle.partition.specs.Partition.{group, groupCount, groupSize, groupTables}
-use Rattle.partition.specs.Bits.{partsBy}
+use Rattle.partition.specs.Inner.{partsBy}
+use Rattle.partition.specs.Partition.{group, groupCount, groupSize, groupTables, inputs}
 use Rattle.partition.proofs.Groups.{length-group}
 use Rattle.partition.proofs.Tables.{tables-count}
 

@@ -17,8 +17,8 @@ use Rattle.sheet.specs.Sheet.{amount}
 use Rattle.methods.specs.Powers.{largestIn, squarings, powerOf}
 use Rattle.methods.proofs.Powers.{Powers, power-some}
 use Rattle.methods.proofs.Entries.{Inputs}
-use Rattle.partition.specs.Partition.{columnBits, columnSquarings, overInputs, inputs, taken, inputCount}
-use Rattle.partition.proofs.Inputs.{length-over, getD-over, Place, place, sum-over}
+use Rattle.partition.specs.Partition.{columnBits, columnSquarings, inputCount, inputs, overInputs, selection}
+use Rattle.partition.proofs.Inputs.{Place, getD-over, length-over, place, sum-over}
 
 module _ (p q : ℕ) (amounts : List ℕ) where
   abbrev bits : ℕ → ℕ
@@ -33,14 +33,14 @@ module _ (p q : ℕ) (amounts : List ℕ) where
   unfolding inputs
   members-count = length-over bits (powerOf p (columnSquarings p q amounts)) p
 
-  pub taken-count : (i : ℕ) → length (taken p q amounts i) ≡ inputCount p q amounts
-  unfolding taken
-  taken-count i = length-over bits (λ col j. digit 1 (amount p amounts i col) j) p
+  pub selection-count : (i : ℕ) → length (selection p q amounts i) ≡ inputCount p q amounts
+  unfolding selection
+  selection-count i = length-over bits (λ col j. digit 1 (amount p amounts i col) j) p
 
   -- an input is 1 or 0 in what a payslip takes
-  pub taken-two : (i j : ℕ) → j < length (taken p q amounts i) → getD (taken p q amounts i) j 0 < 2 ^ 1
-  unfolding taken
-  taken-two i j h =
+  pub selection-two : (i j : ℕ) → j < length (selection p q amounts i) → getD (selection p q amounts i) j 0 < 2 ^ 1
+  unfolding selection
+  selection-two i j h =
       let f : ℕ → ℕ → ℕ = λ col k. digit 1 (amount p amounts i col) k in
       let r : Place bits p j = place bits p j (omega (arith, length-over bits f p)) in
       rw (r .here, getD-over bits f p (r .column) (r .power) (r .column-low) (r .power-low)) (digit-low 1 (amount p amounts i (r .column)) (r .power))
@@ -114,9 +114,9 @@ module _ (p q : ℕ) (amounts : List ℕ) where
   amount-fits i d h = lt-of-le-of-lt (le-max q (λ i. amount p amounts i d) i h) (column-fits d)
 
   -- what a payslip takes is its amount
-  pub taken-sum : (i d : ℕ) → i < q → d < p → sumTo (inputCount p q amounts) (λ j. getD (taken p q amounts i) j 0 * exponentIn j d) ≡ amount p amounts i d
-  unfolding taken
-  taken-sum i d h g =
+  pub selection-sum : (i d : ℕ) → i < q → d < p → sumTo (inputCount p q amounts) (λ j. getD (selection p q amounts i) j 0 * exponentIn j d) ≡ amount p amounts i d
+  unfolding selection
+  selection-sum i d h g =
       one-column (λ col j. digit 1 (amount p amounts i col) j) d g
       ∙ sum-same (bits d) _ _ (λ j k. ap (λ (e : ℕ). digit 1 (amount p amounts i d) j * 2 ^ e) (sym (one-mul j)))
       ∙ vector-own 1 (amount p amounts i d) (bits d) (rw (one-mul (bits d)) (amount-fits i d h))

@@ -1,9 +1,9 @@
 -- The theorems of method 3: its chain is legal, each output makes its payslip, no exponent is too large, and the steps are as many as the count,
 -- which keeps to the ceiling.
-use mathlib.Core.Path.{_≡_, refl, sym, ap, ap₂, _∙_}
+use mathlib.Core.Path.{_≡_, sym, ap, ap₂, _∙_}
 use mathlib.Core.List.{List}
-use Prim.Native.Nat.{ℕ, zero, suc, _+_, _-_, _*_, _^_, _≤_, _<_, min}
-use native.Mathlib.Nat.{le-refl, le-trans, add-le-add, pow-suc}
+use Prim.Native.Nat.{ℕ, zero, suc, _+_, _-_, _*_, _^_, _≤_, _<_}
+use native.Mathlib.Nat.{le-refl, le-trans, pow-suc}
 use native.Mathlib.Decide.{decLe}
 use native.Mathlib.Omega.{arith}
 use lib.ListN.{length, getD}
@@ -13,18 +13,18 @@ use Rattle.chain.specs.Chain.{mostAmount, stepsRule, outputsRule}
 use Rattle.chain.specs.declared.Step.{Step}
 use Rattle.chain.proofs.Exponents.{Makes, Within}
 use Rattle.digits.specs.Range.{sumTo, sign}
-use Rattle.digits.proofs.Range.{sum-same, sum-low, signs-low}
+use Rattle.digits.proofs.Range.{sum-low, signs-low}
 use Rattle.sheet.specs.Sheet.{amount}
 use Rattle.methods.specs.Powers.{squarings}
 use Rattle.methods.proofs.Sound.{Begins, Sound}
 use Rattle.methods.proofs.Product.{Result, result-like}
 use Rattle.methods.proofs.Powers.{Powers, powers, squarings-count}
 use Rattle.methods.proofs.Payslips.{Pays, pays-legal, payslips-make, payslips-count}
-use Rattle.partition.specs.Partition.{columnBits, columnSquarings, inputs, taken, inputCount, group, groupCount, groupSize, weigh, groupTables, parts, partition, squaringCount, partitionCount, groupCeiling, partitionCeiling}
+use Rattle.partition.specs.Partition.{columnSquarings, group, groupCount, groupSize, groupTables, inputCount, inputs, partition, partitionCeiling, partitionCount, parts, selection, weigh}
 use Rattle.partition.proofs.Groups.{inputs-below, reached, reached-all}
+use Rattle.partition.proofs.Members.{column-bits, exponentIn, members-count, members-make, members-some, members-sum, selection-count, selection-sum, selection-two}
+use Rattle.partition.proofs.Parts.{parts-count, parts-make}
 use Rattle.partition.proofs.Tables.{Grouped, tables-count, tables-make}
-use Rattle.partition.proofs.Parts.{parts-make, parts-count}
-use Rattle.partition.proofs.Members.{exponentIn, members-count, taken-count, taken-two, members-some, members-make, members-sum, column-bits, taken-sum}
 
 -- a table of more inputs has no fewer steps
 table-more : (g c : ℕ) → g ≤ c → 2 ^ g - g - 1 ≤ 2 ^ c - c - 1
@@ -43,13 +43,13 @@ partition-ceiling p q amounts c =
     let G : ℕ = groupCount c w in
     let tables = sum-low G (λ g. 2 ^ groupSize c w g - groupSize c w g - 1) (2 ^ c - c - 1) (λ g h. table-more (groupSize c w g) c (omega arith)) in
     let joins =
-    sum-low q (λ i. sumTo G (λ g. sign (weigh (group c g (taken p q amounts i)))) - 1) (G - 1)
-    (λ i h. omega (arith, signs-low G (λ g. weigh (group c g (taken p q amounts i))))) in
+    sum-low q (λ i. sumTo G (λ g. sign (weigh (group c g (selection p q amounts i)))) - 1) (G - 1)
+    (λ i h. omega (arith, signs-low G (λ g. weigh (group c g (selection p q amounts i))))) in
     omega arith
 
 module _ (p q : ℕ) (amounts : List ℕ) (c : ℕ) (some : 1 ≤ c) where
-  same-length : (i : ℕ) → length (taken p q amounts i) ≡ length (inputs p q amounts)
-  same-length i = taken-count p q amounts i ∙ sym (members-count p q amounts)
+  same-length : (i : ℕ) → length (selection p q amounts i) ≡ length (inputs p q amounts)
+  same-length i = selection-count p q amounts i ∙ sym (members-count p q amounts)
 
   -- the steps are as many as the count
   pub partition-count : length (partition p q amounts c .steps) ≡ partitionCount p q amounts c
@@ -58,8 +58,8 @@ module _ (p q : ℕ) (amounts : List ℕ) (c : ℕ) (some : 1 ≤ c) where
       let n : ℕ → ℕ = columnSquarings p q amounts in
       let G : ℕ = groupCount c (inputCount p q amounts) in
       payslips-count _ (groupTables p c (inputs p q amounts) (squarings p n p) G) _ q
-      (λ i h before. parts-count p c (inputs p q amounts) (squarings p n p) (taken p q amounts i) (same-length i) (taken-two p q amounts i) (members-some p q amounts) before G)
-      ∙ ap (λ (s : ℕ). s + sumTo q (λ i. sumTo G (λ g. sign (weigh (group c g (taken p q amounts i)))) - 1))
+      (λ i h before. parts-count p c (inputs p q amounts) (squarings p n p) (selection p q amounts i) (same-length i) (selection-two p q amounts i) (members-some p q amounts) before G)
+      ∙ ap (λ (s : ℕ). s + sumTo q (λ i. sumTo G (λ g. sign (weigh (group c g (selection p q amounts i)))) - 1))
       (tables-count p c (inputs p q amounts) (squarings p n p) G
       ∙ ap₂ _+_ (squarings-count p n p)
       (ap (λ (w : ℕ). sumTo G (λ g. 2 ^ groupSize c w g - groupSize c w g - 1)) (members-count p q amounts)))
@@ -92,19 +92,19 @@ module _ (p q : ℕ) (amounts : List ℕ) (c : ℕ) (some : 1 ≤ c) where
         G = groupCount c (inputCount p q amounts)
 
         total : (i d : ℕ) → i < q → d < p
-            → sumTo (length (inputs p q amounts)) (λ j. getD (taken p q amounts i) j 0 * exponentIn p q amounts j d) ≡ amount p amounts i d
-        total i d h g = rw (members-count p q amounts) (taken-sum p q amounts i d h g)
+            → sumTo (length (inputs p q amounts)) (λ j. getD (selection p q amounts i) j 0 * exponentIn p q amounts j d) ≡ amount p amounts i d
+        total i d h g = rw (members-count p q amounts) (selection-sum p q amounts i d h g)
 
         all : reached c (length (inputs p q amounts)) G ≡ length (inputs p q amounts)
         all = rw (← members-count p q amounts) (reached-all c (length (inputs p q amounts)) some)
 
         each : (i : ℕ) → i < q → (before : List Step) → Sound p mostAmount before
             → Begins (groupTables p c (inputs p q amounts) (squarings p n p) G) before
-            → Result p mostAmount before (parts p c (inputs p q amounts) (squarings p n p) (taken p q amounts i) before G) (amount p amounts i)
+            → Result p mostAmount before (parts p c (inputs p q amounts) (squarings p n p) (selection p q amounts i) before G) (amount p amounts i)
         each i h before s b =
             result-like
-            (λ d g. ap (λ (k : ℕ). sumTo k (λ j. getD (taken p q amounts i) j 0 * exponentIn p q amounts j d)) all ∙ total i d h g)
-            (parts-make p c (inputs p q amounts) (squarings p n p) (taken p q amounts i) (same-length i) (taken-two p q amounts i) mostAmount (exponentIn p q amounts)
+            (λ d g. ap (λ (k : ℕ). sumTo k (λ j. getD (selection p q amounts i) j 0 * exponentIn p q amounts j d)) all ∙ total i d h g)
+            (parts-make p c (inputs p q amounts) (squarings p n p) (selection p q amounts i) (same-length i) (selection-two p q amounts i) mostAmount (exponentIn p q amounts)
             (λ d g. rw (total i d h g) (low (i * p + d))) G (tables G) before s b G (le-refl G))
 
     -- the steps are legal and the outputs are values' numbers

@@ -1,23 +1,20 @@
 -- A payslip's parts, group after group: what they make together, and how many steps they cost.
-use mathlib.Core.Path.{_≡_, refl, sym, ap, ap₂, subst, _∙_}
+use mathlib.Core.Path.{_≡_, refl, sym, ap, _∙_}
 use mathlib.Core.List.{List}
 use Prim.Native.Nat.{ℕ, zero, suc, _+_, _-_, _*_, _^_, _≤_, _<_}
 use native.Mathlib.Nat.{le-trans}
 use native.Mathlib.Omega.{arith}
 use lib.ListN.{length, getD}
 use Rattle.chain.specs.declared.Step.{Step}
-use Rattle.chain.proofs.Exponents.{makes-like}
 use Rattle.digits.specs.Range.{sumTo, sign}
-use Rattle.digits.proofs.Range.{sum-same, sum-split, sum-more, sign-some, sign-add, sign-sign}
-use Rattle.methods.specs.Table.{entry}
-use Rattle.methods.specs.Product.{Made, made, times}
+use Rattle.digits.proofs.Range.{sum-same, sum-split, sum-more, sign-add, sign-sign}
 use Rattle.methods.proofs.Sound.{Begins, begins-on, makes-on, Sound}
 use Rattle.methods.proofs.Product.{times-cost, times-spent, Result, result-empty, result-like, result-times}
 use Rattle.methods.proofs.Table.{entry-sign}
 use Rattle.methods.proofs.Entries.{combined}
-use Rattle.partition.specs.Partition.{group, groupSize, groupTables, weigh, parts}
-use Rattle.partition.proofs.Groups.{length-group, getD-group, group-within, reached, reached-next, weigh-low, digit-weigh}
-use Rattle.partition.proofs.Tables.{partOf, Grouped}
+use Rattle.partition.specs.Partition.{group, groupSize, groupTables, parts, weigh}
+use Rattle.partition.proofs.Groups.{digit-weigh, getD-group, group-within, length-group, reached, reached-next, weigh-low}
+use Rattle.partition.proofs.Tables.{Grouped, partOf}
 
 -- the sum over a group's members, after those of the groups before
 sum-group : (c w g : ℕ) (F : ℕ → ℕ) → sumTo (reached c w g) F + sumTo (groupSize c w g) (λ j. F (g * c + j)) ≡ sumTo (reached c w (suc g)) F

@@ -13,12 +13,12 @@ use Rattle.methods.specs.Powers.{countsOf, squarings}
 use Rattle.methods.specs.Table.{entry}
 use Rattle.methods.proofs.Powers.{squarings-count}
 use Rattle.methods.proofs.Sound.{Begins}
-use Rattle.partition.specs.Partition.{columnSquarings, inputs, taken, inputCount, group, groupCount, groupSize, weigh, parts, squaringCount}
-use Rattle.partition.specs.Bits.{partsBy}
-use Rattle.partition.proofs.Tables.{tables-count}
-use Rattle.partition.proofs.Parts.{part-number}
-use Rattle.partition.proofs.Members.{members-count, taken-count, taken-two}
+use Rattle.partition.specs.Inner.{partsBy}
+use Rattle.partition.specs.Partition.{columnSquarings, group, groupCount, groupSize, inputCount, inputs, parts, selection, squaringCount, weigh}
 use Rattle.partition.proofs.Emitting.{parts-begin}
+use Rattle.partition.proofs.Members.{members-count, selection-count, selection-two}
+use Rattle.partition.proofs.Parts.{part-number}
+use Rattle.partition.proofs.Tables.{tables-count}
 use Rattle.partition.proofs.Taking.{column-few}
 
 -- parts by their numbers; of the steps before the tables, they see the number alone
@@ -48,27 +48,27 @@ module _ (p q : ℕ) (amounts : List ℕ) where
   module _ (c : ℕ) where
     abbrev pub slip : ℕ → List Step → Made
     slip i before =
-        parts p c (inputs p q amounts) (squarings p (columnSquarings p q amounts) p) (taken p q amounts i) before (groupCount c (inputCount p q amounts))
+        parts p c (inputs p q amounts) (squarings p (columnSquarings p q amounts) p) (selection p q amounts i) before (groupCount c (inputCount p q amounts))
 
     pub slip-begins : (i : ℕ) (before : List Step) → Begins before (slip i before .steps)
     slip-begins i before =
         let G : ℕ = groupCount c (inputCount p q amounts) in
         let start : List Step = squarings p (columnSquarings p q amounts) p in
-        let bits : List ℕ = taken p q amounts i in
+        let bits : List ℕ = selection p q amounts i in
         subst (λ (m : Made). Begins before (m .steps))
         (parts-same p c (inputs p q amounts) start start (λ g. weigh (group c g bits)) bits before refl G (λ g h. refl))
         (parts-begin p c (inputs p q amounts) start (λ g. weigh (group c g bits)) before 0 G (omega arith))
 
     module _ (members numbers : List ℕ) (i groups : ℕ) (is : members ≡ inputs p q amounts) (all : groups ≡ groupCount c (inputCount p q amounts))
-        (at : (g : ℕ) → g < groups → getD numbers g 0 ≡ weigh (group c g (taken p q amounts i))) where
+        (at : (g : ℕ) → g < groups → getD numbers g 0 ≡ weigh (group c g (selection p q amounts i))) where
       pub slip-is : (start before : List Step) (first n : ℕ) → length start ≡ first → first ≡ squaringCount p q amounts → groups ≡ n
           → partsBy p c members start (countsOf numbers) before n ≡ slip i before
       slip-is start before first n long told same =
           ap (partsBy p c members start (countsOf numbers) before) (sym same)
           ∙ ap (λ (m : List ℕ). partsBy p c m start (countsOf numbers) before groups) is
-          ∙ parts-same p c (inputs p q amounts) start (squarings p (columnSquarings p q amounts) p) (countsOf numbers) (taken p q amounts i) before
+          ∙ parts-same p c (inputs p q amounts) start (squarings p (columnSquarings p q amounts) p) (countsOf numbers) (selection p q amounts i) before
           (long ∙ told ∙ sym (squarings-count p (columnSquarings p q amounts) p)) groups at
-          ∙ ap (λ (g : ℕ). parts p c (inputs p q amounts) (squarings p (columnSquarings p q amounts) p) (taken p q amounts i) before g) all
+          ∙ ap (λ (g : ℕ). parts p c (inputs p q amounts) (squarings p (columnSquarings p q amounts) p) (selection p q amounts i) before g) all
 
       pub same-groups : (n : ℕ) → groups ≡ n → n ≡ groupCount c (length members)
       same-groups n same = sym same ∙ all ∙ ap (groupCount c) (sym (members-long members is))
@@ -76,4 +76,4 @@ module _ (p q : ℕ) (amounts : List ℕ) where
       pub parts-number : (n : ℕ) → groups ≡ n → (g : ℕ) → g < n → getD numbers g 0 < 2 ^ (1 * length (group c g members))
       parts-number n same g h =
           rw (at g (omega arith), is)
-          (part-number p c (inputs p q amounts) [] (taken p q amounts i) (taken-count p q amounts i ∙ sym (members-count p q amounts)) (taken-two p q amounts i) g)
+          (part-number p c (inputs p q amounts) [] (selection p q amounts i) (selection-count p q amounts i ∙ sym (members-count p q amounts)) (selection-two p q amounts i) g)

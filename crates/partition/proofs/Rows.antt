@@ -11,16 +11,18 @@ use lib.Pow.{pow-add, pow-pos, pow-mono, high, low, shl-lt, shl-exact, shr-shr}
 use Rattle.chain.specs.Written.{over, laid}
 use Rattle.chain.proofs.Written.{laid-nil, laid-laid, over-laid}
 use Rattle.digits.specs.Digits.{digit}
-use Rattle.digits.specs.Range.{sumTo}
+use Rattle.digits.specs.Range.{sumTo, listTo}
 use Rattle.digits.proofs.Range.{sum-same, sum-split, sum-mul, sum-more}
 use Rattle.digits.proofs.Vector.{vector-low, vector-own}
 use Rattle.sheet.specs.Sheet.{amount}
-use Rattle.partition.specs.Partition.{columnBits, powersOf, taken, inputCount, group, groupCount, groupSize, weigh}
-use Rattle.partition.specs.Bits.{numberAt, Cut, numbersOf, Entered}
-use Rattle.partition.proofs.Inputs.{length-powers, powers-same, powers-split, getD-over}
-use Rattle.partition.proofs.Groups.{length-group, getD-group, weigh-vector}
-use Rattle.partition.proofs.Members.{taken-count, taken-two, amount-fits}
+use Rattle.digits.proofs.Listed.{length-list, list-same, list-split}
+use Rattle.partition.specs.Inner.{Cut, Entered, numberAt, numbersOf}
+use Rattle.partition.specs.Partition.{columnBits, group, groupCount, groupSize, inputCount, selection, weigh}
+use Rattle.partition.proofs.Counting.{bits-left}
 use Rattle.partition.proofs.Filling.{filled-on}
+use Rattle.partition.proofs.Groups.{getD-group, length-group, weigh-vector}
+use Rattle.partition.proofs.Inputs.{getD-over, place}
+use Rattle.partition.proofs.Members.{amount-fits, selection-count, selection-two}
 
 -- the row is a word of 64 bits
 pub behind-word : (x held : ℕ) → x < 2 ^ 32 → held < 8 → x * 2 ^ held % 2 ^ 64 ≡ x * 2 ^ held
@@ -119,24 +121,24 @@ module _ (c row held g row′ held′ g′ : ℕ) (old cells : List ℕ) (e : Cu
 -- the columns of payslip i
 module _ (p q : ℕ) (amounts : List ℕ) (c i : ℕ) where
   abbrev own : List ℕ
-  own = taken p q amounts i
+  own = selection p q amounts i
 
-  two : (j : ℕ) → getD (taken p q amounts i) j 0 < 2 ^ 1
+  two : (j : ℕ) → getD (selection p q amounts i) j 0 < 2 ^ 1
   two j = by-place (decLt j (length own))
     where
       by-place : Dec (j < length own) → getD own j 0 < 2 ^ 1
-      by-place (yes lt) = taken-two p q amounts i j lt
+      by-place (yes lt) = selection-two p q amounts i j lt
       by-place (no ge) = rw (List·getD-eq-default own 0 {n = j} (omega arith)) (omega arith)
 
   -- a column's bits are its amount
-  column-number : (col : ℕ) → i < q → col < p → numberAt (taken p q amounts i) (sumTo col (columnBits p q amounts)) (columnBits p q amounts col) ≡ amount p amounts i col
-  unfolding taken
+  column-number : (col : ℕ) → i < q → col < p → numberAt (selection p q amounts i) (sumTo col (columnBits p q amounts)) (columnBits p q amounts col) ≡ amount p amounts i col
+  unfolding selection
   column-number col h less =
       let n : ℕ = columnBits p q amounts col in
       sum-same n _ _ (λ j k. ap (λ (x : ℕ). x * 2 ^ (1 * j)) (getD-over (columnBits p q amounts) (λ col j. digit 1 (amount p amounts i col) j) p col j less k))
       ∙ vector-own 1 (amount p amounts i col) n (rw (one-mul n) (amount-fits p q amounts i col h))
 
-  pub entered-none : (cells : List ℕ) → 1 ≤ c → cells ≡ over (numbersOf c 0 (taken p q amounts i)) cells → Entered p q amounts c i 0 0 0 0 cells cells
+  pub entered-none : (cells : List ℕ) → 1 ≤ c → cells ≡ over (numbersOf c 0 (selection p q amounts i)) cells → Entered p q amounts c i 0 0 0 0 cells cells
   entered-none cells some e = record { place = omega arith; short = some; waiting = refl; parts-are = e }
 
   module _ (n row held g : ℕ) (old cells : List ℕ) (e : Entered p q amounts c i n row held g old cells) where
@@ -158,7 +160,7 @@ module _ (p q : ℕ) (amounts : List ℕ) (c i : ℕ) where
 
     -- the next column: x its amount with the weight of the row's end, and b its bits
     module _ (y x b : ℕ) (less : n < p) (h : i < q) (is : y ≡ amount p amounts i n) (weighed : x ≡ y * 2 ^ held) (bits : b ≡ columnBits p q amounts n) where
-      row-is : row + x ≡ numberAt (taken p q amounts i) (g * c) (held + b)
+      row-is : row + x ≡ numberAt (selection p q amounts i) (g * c) (held + b)
       row-is =
           let at : g * c + held ≡ sumTo n (columnBits p q amounts) = omega (arith, e .place) in
           let column : numberAt own (g * c + held) b ≡ y = ap₂ (numberAt own) at bits ∙ column-number n h less ∙ sym is in
@@ -167,7 +169,7 @@ module _ (p q : ℕ) (amounts : List ℕ) (c i : ℕ) where
           ∙ sym (number-more own (g * c) held b)
 
       within : held + b + g * c ≤ length own
-      within = omega (arith, e .place, bits, taken-count p q amounts i, sum-more (columnBits p q amounts) (suc n) p less)
+      within = omega (arith, e .place, bits, selection-count p q amounts i, sum-more (columnBits p q amounts) (suc n) p less)
 
       module _ (row′ held′ g′ : ℕ) (cells′ : List ℕ) (k : Cut c (row + x) (held + b) g row′ held′ g′ cells cells′) where
         abbrev m : ℕ
@@ -179,7 +181,7 @@ module _ (p q : ℕ) (amounts : List ℕ) (c i : ℕ) where
             let all : g + m ≡ g′ = omega arith in
             omega (arith, ap (λ (z : ℕ). z * c) all, add-mul g m c, mul-comm c m)
 
-        each : (j : ℕ) → j < m → digit c (row + x) j ≡ weigh (group c (g + j) (taken p q amounts i))
+        each : (j : ℕ) → j < m → digit c (row + x) j ≡ weigh (group c (g + j) (selection p q amounts i))
         each j less′ =
             let wide : suc j * c ≤ m * c = mul-le-mul-right c less′ in
             ap (λ (z : ℕ). digit c z j) row-is ∙ cut-part own two c g (held + b) j (omega (arith, k .left)) (omega (arith, within))
@@ -203,16 +205,16 @@ module _ (p q : ℕ) (amounts : List ℕ) (c i : ℕ) where
                   ∙ ap₂ (numberAt own) cut-at bits-left;
               parts-are =
                   k .parts-are
-                  ∙ ap₂ (laid g) (powers-same m _ _ each) over-is
-                  ∙ laid-laid 0 g (numbersOf c g own) (powersOf m (λ j. weigh (group c (g + j) own))) old (omega (arith, length-powers g (λ g. weigh (group c g own)))) (omega arith)
-                  ∙ ap (λ (l : List ℕ). laid 0 l old) (sym (powers-split g m (λ g. weigh (group c g own))) ∙ ap (λ (z : ℕ). numbersOf c z own) all)
+                  ∙ ap₂ (laid g) (list-same m _ _ each) over-is
+                  ∙ laid-laid 0 g (numbersOf c g own) (listTo m (λ j. weigh (group c (g + j) own))) old (omega (arith, length-list g (λ g. weigh (group c g own)))) (omega arith)
+                  ∙ ap (λ (l : List ℕ). laid 0 l old) (sym (list-split g m (λ g. weigh (group c g own))) ∙ ap (λ (z : ℕ). numbersOf c z own) all)
                   ∙ sym (over-laid (numbersOf c g′ own) old);
             }
 
   -- all columns are entered: what is left is the last part, if anything is
   module _ (row held g : ℕ) (old cells : List ℕ) (e : Entered p q amounts c i p row held g old cells) where
-    pub parts-end : held ≡ 0 → cells ≡ over (numbersOf c (groupCount c (inputCount p q amounts)) (taken p q amounts i)) old
-    parts-end none =
+    pub row-end : held ≡ 0 → cells ≡ over (numbersOf c (groupCount c (inputCount p q amounts)) (selection p q amounts i)) old
+    row-end none =
         let short = e .short in
         let place = e .place in
         let all : groupCount c (inputCount p q amounts) ≡ g = groups-are c (inputCount p q amounts) g (omega arith) (omega arith) (omega (arith, suc-mul g c)) in
@@ -225,14 +227,14 @@ module _ (p q : ℕ) (amounts : List ℕ) (c i : ℕ) where
         omega (arith, e .place, mul-one g)
 
     pub part-last : (held ≡ 0 → ⊥) → inputCount p q amounts ≤ 512 → 512 ≤ length old
-        → set cells g row ≡ over (numbersOf c (groupCount c (inputCount p q amounts)) (taken p q amounts i)) old
+        → set cells g row ≡ over (numbersOf c (groupCount c (inputCount p q amounts)) (selection p q amounts i)) old
     part-last some few room =
         let short = e .short in
         let place = e .place in
         let wide : g * 1 ≤ g * c = mul-le-mul-left g (omega arith) in
         let all : groupCount c (inputCount p q amounts) ≡ g + 1 =
         groups-are c (inputCount p q amounts) (g + 1) (omega arith) (omega (arith, add-mul g 1 c, one-mul c)) (omega (arith, suc-mul (g + 1) c, add-mul g 1 c, one-mul c)) in
-        let size : held ≡ groupSize c (length own) g = omega (arith, taken-count p q amounts i) in
+        let size : held ≡ groupSize c (length own) g = omega (arith, selection-count p q amounts i) in
         let is : row ≡ weigh (group c g own) = e .waiting ∙ ap (numberAt own (g * c)) size ∙ sym (part-is own c g) in
         let at : 0 + g ≡ g = omega arith in
         rw all

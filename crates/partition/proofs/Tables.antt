@@ -1,23 +1,23 @@
 -- The groups' tables: every part of a group is made, and how many steps that costs.
-use mathlib.Core.Path.{_≡_, refl, sym, ap, ap₂, subst, _∙_}
-use mathlib.Core.List.{List, [], _∷_, _++_}
+use mathlib.Core.Path.{_≡_, refl, sym, ap, _∙_}
+use mathlib.Core.List.{List}
 use Prim.Native.Nat.{ℕ, zero, suc, _+_, _-_, _*_, _^_, _≤_, _<_}
 use native.Mathlib.Nat.{one-mul, mul-le-mul-right, le-trans, le-refl}
 use native.Mathlib.Decide.{decLt}
 use native.Mathlib.Omega.{arith}
-use lib.ListN.{length, getD, length-append}
+use lib.ListN.{length, length-append}
 use Rattle.chain.specs.declared.Step.{Step}
 use Rattle.chain.proofs.Exponents.{Makes}
 use Rattle.digits.specs.Digits.{digit}
 use Rattle.digits.specs.Range.{sumTo}
-use Rattle.digits.proofs.Range.{sum-same, sum-le, sum-split, sum-more}
+use Rattle.digits.proofs.Range.{sum-le, sum-split, sum-more}
 use Rattle.digits.proofs.Vector.{digit-low}
 use Rattle.methods.specs.Table.{entry, table}
 use Rattle.methods.proofs.Sound.{Begins, begins-own, begins-more, begins-on, makes-on, Sound}
 use Rattle.methods.proofs.Table.{table-count}
 use Rattle.methods.proofs.Entries.{combined, Inputs, Entries, table-makes}
 use Rattle.partition.specs.Partition.{group, groupSize, groupTables}
-use Rattle.partition.proofs.Groups.{length-group, getD-group, group-within}
+use Rattle.partition.proofs.Groups.{getD-group, group-within, length-group}
 
 -- the value number of part t of group e
 abbrev pub partOf : ℕ → ℕ → List ℕ → List Step → ℕ → ℕ → ℕ

@@ -8,14 +8,14 @@ use native.Mathlib.Omega.{arith}
 use lib.ListN.{length, getD, take, List·getD-eq-default}
 use Rattle.chain.specs.Written.{over}
 use Rattle.chain.proofs.Written.{take-over}
-use Rattle.digits.specs.Range.{sumTo, sign}
+use Rattle.digits.specs.Range.{sumTo, sign, listTo}
 use Rattle.digits.proofs.Range.{sum-on, sum-same, sum-low}
 use Rattle.methods.specs.Powers.{countsOf}
-use Rattle.partition.specs.Partition.{columnBits, powersOf, taken, inputCount, group, groupCount, weigh}
-use Rattle.partition.specs.Bits.{numbersOf}
-use Rattle.partition.proofs.Inputs.{length-powers, getD-powers}
-use Rattle.partition.proofs.Members.{column-bits}
+use Rattle.digits.proofs.Listed.{getD-list, length-list}
+use Rattle.partition.specs.Inner.{numbersOf}
+use Rattle.partition.specs.Partition.{columnBits, group, groupCount, inputCount, selection, weigh}
 use Rattle.partition.proofs.Counting.{bitsTo, lessTo, signsTo}
+use Rattle.partition.proofs.Members.{column-bits}
 
 -- the inputs are few, for amounts of 32 bits
 module _ (p q : ℕ) (amounts : List ℕ) (low : (j : ℕ) → getD amounts j 0 < 2 ^ 32) where
@@ -26,12 +26,12 @@ module _ (p q : ℕ) (amounts : List ℕ) (low : (j : ℕ) → getD amounts j 0 
   inputs-few w is h = omega (arith, sum-low p (columnBits p q amounts) 32 (λ col g. column-few col), mul-le-mul-right 32 h)
 
 -- the columns' bits in a slice
-module _ (p q : ℕ) (amounts bits : List ℕ) (is : bits ≡ powersOf p (columnBits p q amounts)) where
+module _ (p q : ℕ) (amounts bits : List ℕ) (is : bits ≡ listTo p (columnBits p q amounts)) where
   pub bits-at : (col : ℕ) → col < p → getD bits col 0 ≡ columnBits p q amounts col
-  bits-at col h = ap (λ (l : List ℕ). getD l col 0) is ∙ getD-powers p (columnBits p q amounts) col h
+  bits-at col h = ap (λ (l : List ℕ). getD l col 0) is ∙ getD-list p (columnBits p q amounts) col h
 
   pub bits-long : length bits ≡ p
-  bits-long = ap length is ∙ length-powers p (columnBits p q amounts)
+  bits-long = ap length is ∙ length-list p (columnBits p q amounts)
 
   pub bits-sum : sumTo p (countsOf bits) ≡ inputCount p q amounts
   bits-sum = sum-same p _ _ bits-at
@@ -51,22 +51,22 @@ module _ (p q : ℕ) (amounts bits : List ℕ) (is : bits ≡ powersOf p (column
 
 -- the cells hold the numbers of payslip i's parts
 module _ (p q : ℕ) (amounts : List ℕ) (c i groups : ℕ) (old cells : List ℕ) (all : groups ≡ groupCount c (inputCount p q amounts))
-    (e : cells ≡ over (numbersOf c (groupCount c (inputCount p q amounts)) (taken p q amounts i)) old) where
-  numbers-are : take groups cells ≡ numbersOf c groups (taken p q amounts i)
+    (e : cells ≡ over (numbersOf c (groupCount c (inputCount p q amounts)) (selection p q amounts i)) old) where
+  numbers-are : take groups cells ≡ numbersOf c groups (selection p q amounts i)
   numbers-are =
       let n : ℕ = groupCount c (inputCount p q amounts) in
       ap (take groups) e
-      ∙ take-over groups (numbersOf c n (taken p q amounts i)) old (length-powers n _ ∙ sym all)
-      ∙ ap (λ (m : ℕ). numbersOf c m (taken p q amounts i)) (sym all)
+      ∙ take-over groups (numbersOf c n (selection p q amounts i)) old (length-list n _ ∙ sym all)
+      ∙ ap (λ (m : ℕ). numbersOf c m (selection p q amounts i)) (sym all)
 
   pub numbers-long : groups ≡ length (take groups cells)
-  numbers-long = sym (ap length numbers-are ∙ length-powers groups _)
+  numbers-long = sym (ap length numbers-are ∙ length-list groups _)
 
-  pub numbers-at : (g : ℕ) → g < groups → getD (take groups cells) g 0 ≡ weigh (group c g (taken p q amounts i))
-  numbers-at g h = ap (λ (l : List ℕ). getD l g 0) numbers-are ∙ getD-powers groups _ g h
+  pub numbers-at : (g : ℕ) → g < groups → getD (take groups cells) g 0 ≡ weigh (group c g (selection p q amounts i))
+  numbers-at g h = ap (λ (l : List ℕ). getD l g 0) numbers-are ∙ getD-list groups _ g h
 
   pub joins-told : (r : ℕ) → r ≡ signsTo (take groups cells) (length (take groups cells)) - 1
-      → r ≡ sumTo groups (λ g. sign (weigh (group c g (taken p q amounts i)))) - 1
+      → r ≡ sumTo groups (λ g. sign (weigh (group c g (selection p q amounts i)))) - 1
   joins-told r is =
       is
       ∙ ap (λ (n : ℕ). signsTo (take groups cells) n - 1) (sym numbers-long)
@@ -74,11 +74,11 @@ module _ (p q : ℕ) (amounts : List ℕ) (c i groups : ℕ) (old cells : List �
 
 -- the steps of the first n payslips
 abbrev pub joinsTo : ℕ → ℕ → List ℕ → ℕ → ℕ → ℕ → ℕ
-joinsTo p q amounts c groups n = sumTo n (λ i. sumTo groups (λ g. sign (weigh (group c g (taken p q amounts i)))) - 1)
+joinsTo p q amounts c groups n = sumTo n (λ i. sumTo groups (λ g. sign (weigh (group c g (selection p q amounts i)))) - 1)
 
 module _ (p q : ℕ) (amounts : List ℕ) (c groups n i : ℕ) (e : n ≡ joinsTo p q amounts c groups i) where
-  pub payslips-on : (r : ℕ) → r ≡ sumTo groups (λ g. sign (weigh (group c g (taken p q amounts i)))) - 1 → n + r ≡ joinsTo p q amounts c groups (i + 1)
-  payslips-on r is = sum-on (λ k. sumTo groups (λ g. sign (weigh (group c g (taken p q amounts k)))) - 1) i n r is e
+  pub payslips-on : (r : ℕ) → r ≡ sumTo groups (λ g. sign (weigh (group c g (selection p q amounts i)))) - 1 → n + r ≡ joinsTo p q amounts c groups (i + 1)
+  payslips-on r is = sum-on (λ k. sumTo groups (λ g. sign (weigh (group c g (selection p q amounts k)))) - 1) i n r is e
 
   pub payslips-end : i ≤ q → q ≤ i → n ≡ joinsTo p q amounts c groups q
   payslips-end h g = let last : i ≡ q = omega arith in e ∙ ap (joinsTo p q amounts c groups) last

@@ -9,7 +9,7 @@ use Rattle.chain.specs.Written.{over}
 use Rattle.chain.specs.declared.Step.{Step}
 use Rattle.chain.proofs.Pairs.{length-flat}
 use Rattle.chain.proofs.Written.{take-over, over-over}
-use Rattle.digits.specs.Range.{sumTo}
+use Rattle.digits.specs.Range.{sumTo, listTo}
 use Rattle.digits.proofs.Range.{sum-same}
 use Rattle.methods.specs.Product.{payslips}
 use Rattle.methods.specs.Powers.{countsOf, squarings, powerAt, powerOf}
@@ -19,27 +19,28 @@ use Rattle.methods.proofs.Emitted.{stored-is, stored-length, stored-on, stored-
 use Rattle.methods.proofs.Paying.{paid-begins}
 use Rattle.methods.proofs.Powers.{squarings-count}
 use Rattle.methods.proofs.Sound.{Begins, begins-own, begins-on, begins-length}
-use Rattle.partition.specs.Partition.{columnBits, columnSquarings, powersOf, inputs, inputCount, groupCount, groupTables, partition, squaringCount, partitionCount}
-use Rattle.partition.proofs.Inputs.{length-powers, getD-powers, powers-same, length-over, over-same}
+use Rattle.digits.proofs.Listed.{getD-list, length-list, list-same}
+use Rattle.partition.specs.Partition.{columnBits, columnSquarings, groupCount, groupTables, inputCount, inputs, partition, partitionCount, squaringCount}
+use Rattle.partition.proofs.Counting.{bitsTo, tablesTo}
+use Rattle.partition.proofs.Emitting.{tables-begin}
+use Rattle.partition.proofs.Filling.{inputsTo, measured}
+use Rattle.partition.proofs.Inputs.{length-over, over-same}
 use Rattle.partition.proofs.Members.{members-count}
 use Rattle.partition.proofs.Partition.{partition-count}
-use Rattle.partition.proofs.Counting.{bitsTo, tablesTo}
-use Rattle.partition.proofs.Filling.{measured, inputsTo}
-use Rattle.partition.proofs.Taking.{joinsTo, bits-at, bits-sum}
-use Rattle.partition.proofs.Emitting.{tables-begin}
-use Rattle.partition.proofs.Paying.{members-long, squarings-few, slip, slip-begins}
+use Rattle.partition.proofs.Paying.{members-long, slip, slip-begins, squarings-few}
+use Rattle.partition.proofs.Taking.{bits-at, bits-sum, joinsTo}
 
 module _ (p q : ℕ) (amounts : List ℕ) where
   -- the columns' bits less some, in the front of a slice
   module _ (old cells : List ℕ) where
     pub measured-is : (less : ℕ) → cells ≡ over (measured p q amounts less old p) old → take p cells ≡ measured p q amounts less old p
-    measured-is less e = ap (take p) e ∙ take-over p (measured p q amounts less old p) old (length-powers p _)
+    measured-is less e = ap (take p) e ∙ take-over p (measured p q amounts less old p) old (length-list p _)
 
     pub measured-long : (less : ℕ) → cells ≡ over (measured p q amounts less old p) old → p ≡ length (take p cells)
-    measured-long less e = sym (ap length (measured-is less e) ∙ length-powers p _)
+    measured-long less e = sym (ap length (measured-is less e) ∙ length-list p _)
 
-    pub bits-are : cells ≡ over (measured p q amounts 0 old p) old → take p cells ≡ powersOf p (columnBits p q amounts)
-    bits-are e = measured-is 0 e ∙ powers-same p _ _ (λ col h. omega arith)
+    pub bits-are : cells ≡ over (measured p q amounts 0 old p) old → take p cells ≡ listTo p (columnBits p q amounts)
+    bits-are e = measured-is 0 e ∙ list-same p _ _ (λ col h. omega arith)
 
   pub inputs-told : (w : ℕ) → w ≡ bitsTo p q amounts 0 p → w ≡ inputCount p q amounts
   inputs-told w e = e ∙ sum-same p _ _ (λ col h. omega arith)
@@ -53,12 +54,12 @@ module _ (p q : ℕ) (amounts : List ℕ) where
       ∙ ap (λ (n : ℕ). bitsTo p q amounts 1 p + tablesTo c n (groupCount c n) + joinsTo p q amounts c (groupCount c n) q) (inputs-told w all)
 
   -- how often each column is squared, in a slice
-  module _ (counts : List ℕ) (is : counts ≡ powersOf p (columnSquarings p q amounts)) where
+  module _ (counts : List ℕ) (is : counts ≡ listTo p (columnSquarings p q amounts)) where
     counts-at : (col : ℕ) → col < p → getD counts col 0 ≡ columnSquarings p q amounts col
-    counts-at col h = ap (λ (l : List ℕ). getD l col 0) is ∙ getD-powers p (columnSquarings p q amounts) col h
+    counts-at col h = ap (λ (l : List ℕ). getD l col 0) is ∙ getD-list p (columnSquarings p q amounts) col h
 
     pub counts-long : length counts ≡ p
-    counts-long = ap length is ∙ length-powers p (columnSquarings p q amounts)
+    counts-long = ap length is ∙ length-list p (columnSquarings p q amounts)
 
     pub counts-few : ((j : ℕ) → getD amounts j 0 < 2 ^ 32) → p ≤ 16 → sumTo p (countsOf counts) ≤ 512
     counts-few low h = rw (sum-same p (countsOf counts) (columnSquarings p q amounts) counts-at) (squarings-few p q amounts low h)
@@ -67,7 +68,7 @@ module _ (p q : ℕ) (amounts : List ℕ) where
     squares-are = ap (squarings p (countsOf counts)) counts-long ∙ squarings-same p (countsOf counts) (columnSquarings p q amounts) p counts-at
 
     -- the inputs' value numbers, in the front of a slice
-    module _ (bits old cells : List ℕ) (bits-are′ : bits ≡ powersOf p (columnBits p q amounts)) (w : ℕ) (all : w ≡ inputCount p q amounts)
+    module _ (bits old cells : List ℕ) (bits-are′ : bits ≡ listTo p (columnBits p q amounts)) (w : ℕ) (all : w ≡ inputCount p q amounts)
         (e : cells ≡ over (inputsTo p bits counts old p) old) where
       pub inputs-are : take w cells ≡ inputs p q amounts
       unfolding inputs

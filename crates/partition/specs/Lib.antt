@@ -1,2 +1,2 @@
 pub mod Partition
-pub mod Bits
+pub mod Inner

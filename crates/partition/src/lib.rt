@@ -4,15 +4,14 @@ ghost use Prim.Native.Nat.{ℕ, _+_, _-_, _*_, _%_, _^_, _≤_, _<_};
 ghost use lib.ListN.{length, getD};
 ghost use Rattle.chain.specs.Chain.{mostColumns, mostPayslips, mostSteps, flat};
 ghost use Rattle.chain.specs.Written.{over, laid};
-ghost use Rattle.digits.specs.Digits.{digit};
-ghost use Rattle.digits.specs.Range.{sumTo, sign};
+ghost use Rattle.digits.specs.Range.{sumTo, sign, listTo};
 ghost use Rattle.sheet.specs.Sheet.{amount};
 ghost use Rattle.methods.specs.Powers.{countsOf, powerAt, powerOf, squarings};
 ghost use Rattle.methods.specs.Product.{payslips};
 ghost use Rattle.methods.specs.Table.{entry};
 ghost use Rattle.methods.specs.Emitted.{stepsIn, Room, Stored, Emitted};
-ghost use Rattle.partition.specs.Partition.{columnBits, columnSquarings, powersOf, overInputs, inputs, taken, inputCount, group, groupCount, groupSize, weigh, groupTables, parts, partition, squaringCount, partitionCount};
-ghost use Rattle.partition.specs.Bits.{Cut, Entered, numbersOf, partsBy};
+ghost use Rattle.partition.specs.Inner.{Cut, Entered, numbersOf, partsBy};
+ghost use Rattle.partition.specs.Partition.{columnBits, columnSquarings, group, groupCount, groupSize, groupTables, inputCount, inputs, overInputs, partition, partitionCount, parts, selection, squaringCount, weigh};
 use methods::PartialProduct;
 
 // A payslip's bits in a row that are not yet cut into parts: their number, how many they are, and the group of the next part.
@@ -58,7 +57,7 @@ fn column_sum(bits: &[u32], less: usize) -> usize
 // Each column's bits less some, one after the other.
 fn measure_columns(p: usize, q: usize, amounts: &[u32], less: usize, cells: &mut [u32])
     requires { ⌜ (p ≤ length (now cells)) × (length (now amounts) ≡ p * q) ⌝ }
-    ensures { λ r. ⌜ now (cells .exit) ≡ over (powersOf p (λ col. columnBits p q (now (amounts .entry)) col - less)) (now (cells .entry)) ⌝ }
+    ensures { λ r. ⌜ now (cells .exit) ≡ over (listTo p (λ col. columnBits p q (now (amounts .entry)) col - less)) (now (cells .entry)) ⌝ }
 {
     let mut col: usize = 0;
     while col < p {
@@ -154,7 +153,7 @@ fn enter_columns(
     i: usize,
     cells: &mut [u32],
 ) -> Row
-    requires { ⌜ (1 ≤ c) × (c ≤ 8) × (p ≤ mostColumns) × (i < q) × (length (now amounts) ≡ p * q) × (now bits ≡ powersOf p (columnBits p q (now amounts))) × (512 ≤ length (now cells)) ⌝ }
+    requires { ⌜ (1 ≤ c) × (c ≤ 8) × (p ≤ mostColumns) × (i < q) × (length (now amounts) ≡ p * q) × (now bits ≡ listTo p (columnBits p q (now amounts))) × (512 ≤ length (now cells)) ⌝ }
     ensures { λ r. ⌜ Entered p q (now (amounts .entry)) c i p (r .bits) (r .held) (r .g) (now (cells .entry)) (now (cells .exit)) ⌝ }
 {
     let mut r = Row {
@@ -186,8 +185,8 @@ fn number_parts(
     i: usize,
     cells: &mut [u32],
 )
-    requires { ⌜ (1 ≤ c) × (c ≤ 8) × (p ≤ mostColumns) × (i < q) × (length (now amounts) ≡ p * q) × (now bits ≡ powersOf p (columnBits p q (now amounts))) × (512 ≤ length (now cells)) ⌝ }
-    ensures { λ r. ⌜ now (cells .exit) ≡ over (numbersOf c (groupCount c (inputCount p q (now (amounts .entry)))) (taken p q (now (amounts .entry)) i)) (now (cells .entry)) ⌝ }
+    requires { ⌜ (1 ≤ c) × (c ≤ 8) × (p ≤ mostColumns) × (i < q) × (length (now amounts) ≡ p * q) × (now bits ≡ listTo p (columnBits p q (now amounts))) × (512 ≤ length (now cells)) ⌝ }
+    ensures { λ r. ⌜ now (cells .exit) ≡ over (numbersOf c (groupCount c (inputCount p q (now (amounts .entry)))) (selection p q (now (amounts .entry)) i)) (now (cells .entry)) ⌝ }
 {
     let r = enter_columns(p, q, amounts, bits, c, i, cells);
     let g = r.g;
@@ -224,8 +223,8 @@ fn payslip_count(
     i: usize,
     cells: &mut [u32],
 ) -> usize
-    requires { ⌜ (1 ≤ c) × (c ≤ 8) × (p ≤ mostColumns) × (i < q) × (length (now amounts) ≡ p * q) × (now bits ≡ powersOf p (columnBits p q (now amounts))) × (groups ≡ groupCount c (inputCount p q (now amounts))) × (groups ≤ 512) × (512 ≤ length (now cells)) ⌝ }
-    ensures { λ r. ⌜ (r ≡ sumTo groups (λ g. sign (weigh (group c g (taken p q (now (amounts .entry)) i)))) - 1) × (r ≤ 512) ⌝ }
+    requires { ⌜ (1 ≤ c) × (c ≤ 8) × (p ≤ mostColumns) × (i < q) × (length (now amounts) ≡ p * q) × (now bits ≡ listTo p (columnBits p q (now amounts))) × (groups ≡ groupCount c (inputCount p q (now amounts))) × (groups ≤ 512) × (512 ≤ length (now cells)) ⌝ }
+    ensures { λ r. ⌜ (r ≡ sumTo groups (λ g. sign (weigh (group c g (selection p q (now (amounts .entry)) i)))) - 1) × (r ≤ 512) ⌝ }
 {
     number_parts(p, q, amounts, bits, c, i, cells);
     joins(&cells[..groups])
@@ -241,8 +240,8 @@ fn payslips_count(
     groups: usize,
     cells: &mut [u32],
 ) -> usize
-    requires { ⌜ (1 ≤ c) × (c ≤ 8) × (p ≤ mostColumns) × (q ≤ mostPayslips) × (length (now amounts) ≡ p * q) × (now bits ≡ powersOf p (columnBits p q (now amounts))) × (groups ≡ groupCount c (inputCount p q (now amounts))) × (groups ≤ 512) × (512 ≤ length (now cells)) ⌝ }
-    ensures { λ r. ⌜ (r ≡ sumTo q (λ i. sumTo groups (λ g. sign (weigh (group c g (taken p q (now (amounts .entry)) i)))) - 1)) × (r ≤ 512 * q) ⌝ }
+    requires { ⌜ (1 ≤ c) × (c ≤ 8) × (p ≤ mostColumns) × (q ≤ mostPayslips) × (length (now amounts) ≡ p * q) × (now bits ≡ listTo p (columnBits p q (now amounts))) × (groups ≡ groupCount c (inputCount p q (now amounts))) × (groups ≤ 512) × (512 ≤ length (now cells)) ⌝ }
+    ensures { λ r. ⌜ (r ≡ sumTo q (λ i. sumTo groups (λ g. sign (weigh (group c g (selection p q (now (amounts .entry)) i)))) - 1)) × (r ≤ 512 * q) ⌝ }
 {
     let mut n: usize = 0;
     let mut i: usize = 0;
@@ -255,7 +254,7 @@ fn payslips_count(
 
 // The steps of the squarings, of the groups' tables and of the payslips.
 fn chain_count(p: usize, q: usize, amounts: &[u32], bits: &[u32], c: usize) -> usize
-    requires { ⌜ (p ≤ mostColumns) × (q ≤ mostPayslips) × (length (now amounts) ≡ p * q) × (1 ≤ c) × (c ≤ 8) × (now bits ≡ powersOf p (columnBits p q (now amounts))) ⌝ }
+    requires { ⌜ (p ≤ mostColumns) × (q ≤ mostPayslips) × (length (now amounts) ≡ p * q) × (1 ≤ c) × (c ≤ 8) × (now bits ≡ listTo p (columnBits p q (now amounts))) ⌝ }
     ensures { λ r. ⌜ r ≡ partitionCount p q (now (amounts .entry)) c ⌝ }
 {
     let w = column_sum(bits, 0);
@@ -278,7 +277,7 @@ pub fn count(p: usize, q: usize, amounts: &[u32], c: usize) -> usize
 // The numbers of the first n powers of a column, from cell s on.
 fn number_column(col: usize, first: usize, n: usize, s: usize, cells: &mut [u32])
     requires { ⌜ (col < mostColumns) × (first + n < 2 ^ 32) × (s + n ≤ length (now cells)) ⌝ }
-    ensures { λ r. ⌜ now (cells .exit) ≡ laid s (powersOf n (powerAt col first)) (now (cells .entry)) ⌝ }
+    ensures { λ r. ⌜ now (cells .exit) ≡ laid s (listTo n (powerAt col first)) (now (cells .entry)) ⌝ }
 {
     let mut j: usize = 0;
     while j < n {
@@ -374,9 +373,9 @@ fn make_payslip(
     cells: &mut [u32],
     steps: &mut [u32],
 ) -> PartialProduct
-    requires { ⌜ (1 ≤ c) × (c ≤ 8) × (p ≤ mostColumns) × (length (now amounts) ≡ p * q) × (now bits ≡ powersOf p (columnBits p q (now amounts))) × (now members ≡ inputs p q (now amounts)) × (first ≡ squaringCount p q (now amounts)) × (2 * first ≤ length (now steps)) × (i < q) × (groups ≡ groupCount c (inputCount p q (now amounts))) × (groups ≤ 512) × (512 ≤ length (now cells)) ⌝ }
-    requires { ⌜ Room p (now steps) n (parts p c (inputs p q (now amounts)) (squarings p (columnSquarings p q (now amounts)) p) (taken p q (now amounts) i) (stepsIn (now steps) n) (groupCount c (inputCount p q (now amounts))) .steps) ⌝ }
-    ensures { λ r. ⌜ Emitted (now (steps .entry)) (now (steps .exit)) (r .n) (r .value) (parts p c (inputs p q (now (amounts .entry))) (squarings p (columnSquarings p q (now (amounts .entry))) p) (taken p q (now (amounts .entry)) i) (stepsIn (now (steps .entry)) n) (groupCount c (inputCount p q (now (amounts .entry))))) ⌝ }
+    requires { ⌜ (1 ≤ c) × (c ≤ 8) × (p ≤ mostColumns) × (length (now amounts) ≡ p * q) × (now bits ≡ listTo p (columnBits p q (now amounts))) × (now members ≡ inputs p q (now amounts)) × (first ≡ squaringCount p q (now amounts)) × (2 * first ≤ length (now steps)) × (i < q) × (groups ≡ groupCount c (inputCount p q (now amounts))) × (groups ≤ 512) × (512 ≤ length (now cells)) ⌝ }
+    requires { ⌜ Room p (now steps) n (parts p c (inputs p q (now amounts)) (squarings p (columnSquarings p q (now amounts)) p) (selection p q (now amounts) i) (stepsIn (now steps) n) (groupCount c (inputCount p q (now amounts))) .steps) ⌝ }
+    ensures { λ r. ⌜ Emitted (now (steps .entry)) (now (steps .exit)) (r .n) (r .value) (parts p c (inputs p q (now (amounts .entry))) (squarings p (columnSquarings p q (now (amounts .entry))) p) (selection p q (now (amounts .entry)) i) (stepsIn (now (steps .entry)) n) (groupCount c (inputCount p q (now (amounts .entry))))) ⌝ }
 {
     number_parts(p, q, amounts, bits, c, i, cells);
     make_parts(p, c, members, first, &cells[..groups], n, steps)
@@ -397,10 +396,10 @@ fn make_payslips(
     steps: &mut [u32],
     outputs: &mut [u32],
 )
-    requires { ⌜ (1 ≤ c) × (c ≤ 8) × (p ≤ mostColumns) × (length (now amounts) ≡ p * q) × (now bits ≡ powersOf p (columnBits p q (now amounts))) × (now members ≡ inputs p q (now amounts)) × (first ≡ squaringCount p q (now amounts)) × (2 * first ≤ length (now steps)) × (q ≤ length (now outputs)) × (groups ≡ groupCount c (inputCount p q (now amounts))) × (groups ≤ 512) × (512 ≤ length (now cells)) ⌝ }
-    requires { ⌜ Room p (now steps) n (payslips (λ i before. parts p c (inputs p q (now amounts)) (squarings p (columnSquarings p q (now amounts)) p) (taken p q (now amounts) i) before (groupCount c (inputCount p q (now amounts)))) (stepsIn (now steps) n) q .steps) ⌝ }
-    ensures { λ r. ⌜ now (steps .exit) ≡ over (flat (payslips (λ i before. parts p c (inputs p q (now (amounts .entry))) (squarings p (columnSquarings p q (now (amounts .entry))) p) (taken p q (now (amounts .entry)) i) before (groupCount c (inputCount p q (now (amounts .entry))))) (stepsIn (now (steps .entry)) n) q .steps)) (now (steps .entry)) ⌝ }
-    ensures { λ r. ⌜ now (outputs .exit) ≡ over (payslips (λ i before. parts p c (inputs p q (now (amounts .entry))) (squarings p (columnSquarings p q (now (amounts .entry))) p) (taken p q (now (amounts .entry)) i) before (groupCount c (inputCount p q (now (amounts .entry))))) (stepsIn (now (steps .entry)) n) q .outputs) (now (outputs .entry)) ⌝ }
+    requires { ⌜ (1 ≤ c) × (c ≤ 8) × (p ≤ mostColumns) × (length (now amounts) ≡ p * q) × (now bits ≡ listTo p (columnBits p q (now amounts))) × (now members ≡ inputs p q (now amounts)) × (first ≡ squaringCount p q (now amounts)) × (2 * first ≤ length (now steps)) × (q ≤ length (now outputs)) × (groups ≡ groupCount c (inputCount p q (now amounts))) × (groups ≤ 512) × (512 ≤ length (now cells)) ⌝ }
+    requires { ⌜ Room p (now steps) n (payslips (λ i before. parts p c (inputs p q (now amounts)) (squarings p (columnSquarings p q (now amounts)) p) (selection p q (now amounts) i) before (groupCount c (inputCount p q (now amounts)))) (stepsIn (now steps) n) q .steps) ⌝ }
+    ensures { λ r. ⌜ now (steps .exit) ≡ over (flat (payslips (λ i before. parts p c (inputs p q (now (amounts .entry))) (squarings p (columnSquarings p q (now (amounts .entry))) p) (selection p q (now (amounts .entry)) i) before (groupCount c (inputCount p q (now (amounts .entry))))) (stepsIn (now (steps .entry)) n) q .steps)) (now (steps .entry)) ⌝ }
+    ensures { λ r. ⌜ now (outputs .exit) ≡ over (payslips (λ i before. parts p c (inputs p q (now (amounts .entry))) (squarings p (columnSquarings p q (now (amounts .entry))) p) (selection p q (now (amounts .entry)) i) before (groupCount c (inputCount p q (now (amounts .entry))))) (stepsIn (now (steps .entry)) n) q .outputs) (now (outputs .entry)) ⌝ }
 {
     let mut s = n;
     let mut i: usize = 0;
@@ -438,7 +437,7 @@ fn make_chain(
     steps: &mut [u32],
     outputs: &mut [u32],
 )
-    requires { ⌜ (1 ≤ c) × (c ≤ 8) × (p ≤ mostColumns) × (length (now amounts) ≡ p * q) × (now bits ≡ powersOf p (columnBits p q (now amounts))) × (now members ≡ inputs p q (now amounts)) × (now counts ≡ powersOf p (columnSquarings p q (now amounts))) × (512 ≤ length (now cells)) ⌝ }
+    requires { ⌜ (1 ≤ c) × (c ≤ 8) × (p ≤ mostColumns) × (length (now amounts) ≡ p * q) × (now bits ≡ listTo p (columnBits p q (now amounts))) × (now members ≡ inputs p q (now amounts)) × (now counts ≡ listTo p (columnSquarings p q (now amounts))) × (512 ≤ length (now cells)) ⌝ }
     requires { ⌜ (partitionCount p q (now amounts) c ≤ mostSteps) × (2 * partitionCount p q (now amounts) c ≤ length (now steps)) × (q ≤ length (now outputs)) ⌝ }
     ensures { λ r. ⌜ now (steps .exit) ≡ over (flat (partition p q (now (amounts .entry)) c .steps)) (now (steps .entry)) ⌝ }
     ensures { λ r. ⌜ now (outputs .exit) ≡ over (partition p q (now (amounts .entry)) c .outputs) (now (outputs .entry)) ⌝ }

@@ -1,7 +1,7 @@
 use borrow.Author.Needs.{needs}
 use mathlib.Core.Path.{refl}
 use native.Mathlib.Omega.{arith}
-use Rattle.partition.proofs.Rows.{behind-word, behind-low}
+use Rattle.partition.proofs.Rows.{behind-low, behind-word}
 use Rattle.partition.proofs.behind.Statement.{statement}
 use Rattle.partition.proofs.behind.Tie as tie
 

@@ -6,7 +6,7 @@ use lib.ListN.{getD}
 use Rattle.partition.specs.Partition.{groupCount}
 use Rattle.partition.proofs.Counting.{groups-low}
 use Rattle.partition.proofs.Taking.{bits-long, bits-low, less-told}
-use Rattle.partition.proofs.Whole.{inputs-told, count-all}
+use Rattle.partition.proofs.Whole.{count-all, inputs-told}
 use Rattle.partition.proofs.chain_count.Statement.{statement}
 use Rattle.partition.proofs.chain_count.Tie as tie
 

@@ -3,7 +3,7 @@ use mathlib.Core.Path.{_≡_}
 use Prim.Native.Nat.{_*_, _≤_, _-_}
 use native.Mathlib.Omega.{arith}
 use lib.ListN.{length}
-use Rattle.partition.proofs.Counting.{lessTo, less-on, less-end}
+use Rattle.partition.proofs.Counting.{less-end, less-on, lessTo}
 use Rattle.partition.proofs.column_sum.Statement.{statement}
 use Rattle.partition.proofs.column_sum.Tie as tie
 

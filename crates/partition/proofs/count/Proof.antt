@@ -1,5 +1,5 @@
 use borrow.Author.Needs.{needs}
-use Rattle.partition.proofs.Whole.{measured-long, bits-are}
+use Rattle.partition.proofs.Whole.{bits-are, measured-long}
 use Rattle.partition.proofs.count.Statement.{statement}
 use Rattle.partition.proofs.count.Tie as tie
 

@@ -2,7 +2,7 @@ use borrow.Author.Needs.{needs}
 use mathlib.Core.Path.{_≡_}
 use Prim.Native.Nat.{_+_, _≤_}
 use lib.ListN.{length, length-set}
-use Rattle.partition.specs.Bits.{Cut}
+use Rattle.partition.specs.Inner.{Cut}
 use Rattle.partition.proofs.Rows.{cut-none, cut-on}
 use Rattle.partition.proofs.cut_parts.Statement.{statement}
 use Rattle.partition.proofs.cut_parts.Tie as tie

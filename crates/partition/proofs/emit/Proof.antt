@@ -2,9 +2,9 @@ use mathlib.Core.Path.{_∙_}
 use native.Mathlib.Omega.{arith}
 use Prim.Native.Nat.{ℕ, _^_, _<_}
 use lib.ListN.{getD}
-use Rattle.partition.proofs.Taking.{bits-sum, bits-few}
-use Rattle.partition.proofs.Whole.{measured-is, measured-long, bits-are, counts-few, inputs-are, inputs-long}
 use borrow.Author.Needs.{needs}
+use Rattle.partition.proofs.Taking.{bits-few, bits-sum}
+use Rattle.partition.proofs.Whole.{bits-are, counts-few, inputs-are, inputs-long, measured-is, measured-long}
 use Rattle.partition.proofs.emit.Statement.{statement}
 use Rattle.partition.proofs.emit.Tie as tie
 

@@ -5,9 +5,9 @@ use native.Mathlib.Omega.{arith}
 use lib.ListN.{length, getD}
 use Rattle.methods.proofs.Paying.{over-none}
 use Rattle.sheet.proofs.Amounts.{amount-there}
-use Rattle.partition.specs.Bits.{Entered}
-use Rattle.partition.proofs.Taking.{inputs-few, bits-at, bits-long}
-use Rattle.partition.proofs.Rows.{entered-none, row-low, row-fits, entered-on, entered-end}
+use Rattle.partition.specs.Inner.{Entered}
+use Rattle.partition.proofs.Rows.{entered-end, entered-none, entered-on, row-fits, row-low}
+use Rattle.partition.proofs.Taking.{bits-at, bits-long, inputs-few}
 use Rattle.partition.proofs.enter_columns.Statement.{statement}
 use Rattle.partition.proofs.enter_columns.Tie as tie
 

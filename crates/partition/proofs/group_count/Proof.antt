@@ -1,6 +1,6 @@
 use mathlib.Core.Path.{refl}
-use Rattle.partition.proofs.Counting.{groups-few}
 use borrow.Author.Needs.{needs}
+use Rattle.partition.proofs.Counting.{groups-few}
 use Rattle.partition.proofs.group_count.Statement.{statement}
 use Rattle.partition.proofs.group_count.Tie as tie
 

@@ -2,7 +2,7 @@ use borrow.Author.Needs.{fits-under, needs}
 use mathlib.Core.Path.{_≡_}
 use Prim.Native.Nat.{_≤_, _-_}
 use lib.ListN.{length}
-use Rattle.partition.proofs.Counting.{signsTo, signs-on, sign-added, sign-fits, joins-none, joins-end}
+use Rattle.partition.proofs.Counting.{joins-end, joins-none, sign-added, sign-fits, signs-on, signsTo}
 use Rattle.partition.proofs.joins.Statement.{statement}
 use Rattle.partition.proofs.joins.Tie as tie
 

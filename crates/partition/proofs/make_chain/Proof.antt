@@ -2,12 +2,12 @@ use mathlib.Core.Path.{ap, _∙_}
 use native.Mathlib.Omega.{arith}
 use Prim.Native.Nat.{ℕ, _^_, _<_}
 use lib.ListN.{length, getD}
+use borrow.Author.Needs.{needs}
 use Rattle.partition.specs.Partition.{groupCount}
 use Rattle.partition.proofs.Counting.{groups-low}
-use Rattle.partition.proofs.Taking.{inputs-few}
 use Rattle.partition.proofs.Paying.{members-long}
-use Rattle.partition.proofs.Whole.{counts-long, squares-room, tables-few, tables-room, first-told, first-fits, payslips-room, chain-steps, chain-outputs}
-use borrow.Author.Needs.{needs}
+use Rattle.partition.proofs.Taking.{inputs-few}
+use Rattle.partition.proofs.Whole.{chain-outputs, chain-steps, counts-long, first-fits, first-told, payslips-room, squares-room, tables-few, tables-room}
 use Rattle.partition.proofs.make_chain.Statement.{statement}
 use Rattle.partition.proofs.make_chain.Tie as tie
 

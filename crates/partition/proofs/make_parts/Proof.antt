@@ -4,10 +4,11 @@ use lib.ListN.{length}
 use Rattle.methods.specs.Emitted.{stepsIn, Emitted}
 use Rattle.methods.proofs.Emitted.{emitted-own, length-stepsIn}
 use Rattle.methods.specs.Powers.{countsOf}
-use Rattle.partition.specs.Bits.{partsBy}
-use Rattle.partition.proofs.Counting.{group-inside}
-use Rattle.partition.proofs.Emitting.{part-room, part-on, parts-end}
 use borrow.Author.Needs.{needs}
+use Rattle.partition.specs.Inner.{partsBy}
+use Rattle.partition.specs.Partition.{inputs}
+use Rattle.partition.proofs.Counting.{group-inside}
+use Rattle.partition.proofs.Emitting.{part-on, part-room, parts-end}
 use Rattle.partition.proofs.make_parts.Statement.{statement}
 use Rattle.partition.proofs.make_parts.Tie as tie
 

@@ -3,9 +3,9 @@ use Prim.Native.Nat.{ℕ, _^_, _<_}
 use lib.ListN.{getD, take}
 use Rattle.methods.specs.Emitted.{stepsIn}
 use Rattle.methods.proofs.Emitted.{length-stepsIn}
-use Rattle.partition.proofs.Taking.{inputs-few, numbers-long, numbers-at}
-use Rattle.partition.proofs.Paying.{members-long, first-few, slip-is, same-groups, parts-number}
 use borrow.Author.Needs.{needs}
+use Rattle.partition.proofs.Paying.{first-few, members-long, parts-number, same-groups, slip-is}
+use Rattle.partition.proofs.Taking.{inputs-few, numbers-at, numbers-long}
 use Rattle.partition.proofs.make_payslip.Statement.{statement}
 use Rattle.partition.proofs.make_payslip.Tie as tie
 

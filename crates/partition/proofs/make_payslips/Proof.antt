@@ -6,8 +6,8 @@ use Rattle.chain.specs.Written.{over}
 use Rattle.methods.specs.Product.{payslips}
 use Rattle.methods.specs.Emitted.{stepsIn, Stored}
 use Rattle.methods.proofs.Paying.{paid-none, over-none, paid-steps, paid-outputs, pay-room, pay-steps, pay-output}
-use Rattle.partition.proofs.Paying.{slip, slip-begins}
 use borrow.Author.Needs.{needs}
+use Rattle.partition.proofs.Paying.{slip, slip-begins}
 use Rattle.partition.proofs.make_payslips.Statement.{statement}
 use Rattle.partition.proofs.make_payslips.Tie as tie
 

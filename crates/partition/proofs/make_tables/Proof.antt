@@ -4,10 +4,10 @@ use native.Mathlib.Omega.{arith}
 use lib.ListN.{length}
 use Rattle.methods.specs.Emitted.{stepsIn, Stored}
 use Rattle.methods.proofs.Emitted.{stored-own}
-use Rattle.partition.specs.Partition.{groupCount, groupTables}
-use Rattle.partition.proofs.Counting.{group-inside}
-use Rattle.partition.proofs.Emitting.{part-is, table-room, table-on, table-small, table-numbers, tables-end}
 use borrow.Author.Needs.{needs}
+use Rattle.partition.specs.Partition.{groupCount, groupTables, inputs}
+use Rattle.partition.proofs.Counting.{group-inside}
+use Rattle.partition.proofs.Emitting.{part-is, table-numbers, table-on, table-room, table-small, tables-end}
 use Rattle.partition.proofs.make_tables.Statement.{statement}
 use Rattle.partition.proofs.make_tables.Tie as tie
 

@@ -3,8 +3,8 @@ use Prim.Native.Nat.{_≤_, _-_}
 use lib.ListN.{length, length-set}
 use Rattle.chain.specs.Written.{over}
 use Rattle.methods.proofs.Paying.{over-none}
-use Rattle.partition.proofs.Filling.{measured, measure-on, measure-end}
 use borrow.Author.Needs.{needs}
+use Rattle.partition.proofs.Filling.{measure-end, measure-on, measured}
 use Rattle.partition.proofs.measure_columns.Statement.{statement}
 use Rattle.partition.proofs.measure_columns.Tie as tie
 

@@ -3,14 +3,14 @@ use Prim.Native.Nat.{_≤_, _-_}
 use lib.ListN.{length, length-set}
 use Rattle.chain.specs.Written.{laid}
 use Rattle.methods.specs.Powers.{powerAt}
-use Rattle.partition.specs.Partition.{powersOf}
-use Rattle.partition.proofs.Filling.{fill-start, number-on, numbers-end}
 use borrow.Author.Needs.{needs}
+use Rattle.digits.specs.Range.{listTo}
+use Rattle.partition.proofs.Filling.{fill-start, number-on, numbers-end}
 use Rattle.partition.proofs.number_column.Statement.{statement}
 use Rattle.partition.proofs.number_column.Tie as tie
 
 abbrev Inv-loop : tie.InvT-loop
-Inv-loop col first n s cells₀ j₀ cells j = (j ≤ n) × (length cells ≡ length cells₀) × (cells ≡ laid s (powersOf j (powerAt col first)) cells₀)
+Inv-loop col first n s cells₀ j₀ cells j = (j ≤ n) × (length cells ≡ length cells₀) × (cells ≡ laid s (listTo j (powerAt col first)) cells₀)
 
 abbrev μ-loop : tie.MeasureT-loop
 μ-loop col first n s cells₀ j₀ cells j = n - j

@@ -7,7 +7,7 @@ use Rattle.chain.specs.Written.{over}
 use Rattle.digits.specs.Range.{sumTo}
 use Rattle.methods.specs.Powers.{countsOf}
 use Rattle.methods.proofs.Paying.{over-none}
-use Rattle.partition.proofs.Filling.{inputsTo, column-room, column-number, column-on, columns-end, first-number, first-on, number-room, inputs-on, inputs-end}
+use Rattle.partition.proofs.Filling.{column-number, column-on, column-room, columns-end, first-number, first-on, inputs-end, inputs-on, inputsTo, number-room}
 use Rattle.partition.proofs.number_inputs.Statement.{statement}
 use Rattle.partition.proofs.number_inputs.Tie as tie
 

@@ -3,8 +3,8 @@ use mathlib.Core.Path.{refl}
 use Prim.Native.Nat.{ℕ, _^_, _<_}
 use native.Mathlib.Omega.{arith}
 use lib.ListN.{getD}
+use Rattle.partition.proofs.Rows.{part-cell, part-last, row-end, row-low}
 use Rattle.partition.proofs.Taking.{inputs-few}
-use Rattle.partition.proofs.Rows.{row-low, parts-end, part-cell, part-last}
 use Rattle.partition.proofs.number_parts.Statement.{statement}
 use Rattle.partition.proofs.number_parts.Tie as tie
 
@@ -53,7 +53,7 @@ same-length-2 : tie.Need-same-length-2
 same-length-2 c = search needs
 
 returns-2 : tie.Need-returns-2
-returns-2 c = parts-end _ _ _ _ _ _ _ _ _ _ (c .before .before .before .before .enter-columns .ensures) (search needs)
+returns-2 c = row-end _ _ _ _ _ _ _ _ _ _ (c .before .before .before .before .enter-columns .ensures) (search needs)
 
 pub number-parts-spec : {M : Type 1} → statement M
 number-parts-spec =

@@ -1,6 +1,6 @@
 use borrow.Author.Needs.{fits-under, needs}
 use native.Mathlib.Omega.{arith}
-use Rattle.partition.proofs.Emitting.{product-fits, sum-fits, number-fits, entry-low, entry-number, entry-told}
+use Rattle.partition.proofs.Emitting.{entry-low, entry-number, entry-told, number-fits, product-fits, sum-fits}
 use Rattle.partition.proofs.part_value.Statement.{statement}
 use Rattle.partition.proofs.part_value.Tie as tie
 

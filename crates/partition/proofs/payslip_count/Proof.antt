@@ -1,6 +1,6 @@
 use borrow.Author.Needs.{needs}
 use native.Mathlib.Omega.{arith}
-use Rattle.partition.proofs.Taking.{numbers-long, joins-told}
+use Rattle.partition.proofs.Taking.{joins-told, numbers-long}
 use Rattle.partition.proofs.payslip_count.Statement.{statement}
 use Rattle.partition.proofs.payslip_count.Tie as tie
 

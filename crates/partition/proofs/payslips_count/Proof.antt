@@ -1,8 +1,8 @@
 use mathlib.Core.Path.{_≡_}
 use Prim.Native.Nat.{_*_, _≤_, _-_}
 use lib.ListN.{length}
-use Rattle.partition.proofs.Taking.{joinsTo, payslips-on, payslips-end}
 use borrow.Author.Needs.{needs}
+use Rattle.partition.proofs.Taking.{joinsTo, payslips-end, payslips-on}
 use Rattle.partition.proofs.payslips_count.Statement.{statement}
 use Rattle.partition.proofs.payslips_count.Tie as tie
 

@@ -1,6 +1,6 @@
 use native.Mathlib.Omega.{arith}
-use Rattle.partition.proofs.Counting.{table-some, table-told, table-few}
 use borrow.Author.Needs.{needs}
+use Rattle.partition.proofs.Counting.{table-few, table-some, table-told}
 use Rattle.partition.proofs.table_count.Statement.{statement}
 use Rattle.partition.proofs.table_count.Tie as tie
 

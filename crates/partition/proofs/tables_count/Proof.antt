@@ -1,7 +1,7 @@
 use mathlib.Core.Path.{_≡_}
 use Prim.Native.Nat.{_*_, _≤_, _-_}
-use Rattle.partition.proofs.Counting.{tablesTo, group-inside, size-few, tables-on, tables-end}
 use borrow.Author.Needs.{needs}
+use Rattle.partition.proofs.Counting.{group-inside, size-few, tables-all, tables-on, tablesTo}
 use Rattle.partition.proofs.tables_count.Statement.{statement}
 use Rattle.partition.proofs.tables_count.Tie as tie
 
@@ -36,7 +36,7 @@ loop-again : tie.Need-loop-again Inv-loop μ-loop
 loop-again c = (search needs, search tables-on, search needs)
 
 returns : tie.Need-returns Inv-loop μ-loop
-returns c = (search tables-end, search needs)
+returns c = (search tables-all, search needs)
 
 pub tables-count-spec : {M : Type 1} → statement M
 tables-count-spec =

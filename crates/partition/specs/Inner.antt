@@ -6,10 +6,10 @@ use lib.ListN.{length, getD}
 use Rattle.chain.specs.Written.{over, laid}
 use Rattle.chain.specs.declared.Step.{Step}
 use Rattle.digits.specs.Digits.{digit}
-use Rattle.digits.specs.Range.{sumTo}
+use Rattle.digits.specs.Range.{sumTo, listTo}
 use Rattle.methods.specs.Product.{Made, made, times}
 use Rattle.methods.specs.Table.{entry}
-use Rattle.partition.specs.Partition.{columnBits, powersOf, taken, group, weigh, groupTables}
+use Rattle.partition.specs.Partition.{columnBits, group, groupTables, selection, weigh}
 
 -- the number of n bits of a list from place s on, the first with weight 1
 abbrev pub numberAt : List ℕ → ℕ → ℕ → ℕ
@@ -21,18 +21,18 @@ pub record Cut (c row held g row′ held′ g′ : ℕ) (old cells : List ℕ) :
   pub onward : g ≤ g′
   pub left : held′ + (g′ - g) * c ≡ held
   pub rest : row′ ≡ row / 2 ^ (c * (g′ - g))
-  pub parts-are : cells ≡ laid g (powersOf (g′ - g) (digit c row)) old
+  pub parts-are : cells ≡ laid g (listTo (g′ - g) (digit c row)) old
 
 -- the numbers of a payslip's parts of the first n groups
 abbrev pub numbersOf : ℕ → ℕ → List ℕ → List ℕ
-numbersOf c n l = powersOf n (λ g. weigh (group c g l))
+numbersOf c n l = listTo n (λ g. weigh (group c g l))
 
 -- the bits of the first n columns of payslip i are entered: the whole parts are laid, and held bits are left in the row
 pub record Entered (p q : ℕ) (amounts : List ℕ) (c i n row held g : ℕ) (old cells : List ℕ) : Type 0 where
   pub place : held + g * c ≡ sumTo n (columnBits p q amounts)
   pub short : held < c
-  pub waiting : row ≡ numberAt (taken p q amounts i) (g * c) held
-  pub parts-are : cells ≡ over (numbersOf c g (taken p q amounts i)) old
+  pub waiting : row ≡ numberAt (selection p q amounts i) (g * c) held
+  pub parts-are : cells ≡ over (numbersOf c g (selection p q amounts i)) old
 
 -- the parts of a payslip with these numbers, multiplied in order: the first g groups
 abbrev pub partsBy : ℕ → ℕ → List ℕ → List Step → (ℕ → ℕ) → List Step → ℕ → Made

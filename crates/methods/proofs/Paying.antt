@@ -9,10 +9,10 @@ use lib.Seq.{drop-cons, set-at}
 use Rattle.chain.specs.Chain.{flat}
 use Rattle.chain.specs.Written.{over}
 use Rattle.chain.specs.declared.Step.{Step}
-use Rattle.methods.specs.Product.{Made, payslips}
-use Rattle.methods.specs.Emitted.{stepsIn, Room, Stored, Emitted}
-use Rattle.methods.proofs.Sound.{Begins, begins-rise}
-use Rattle.methods.proofs.Emitted.{stored-own, stored-is, stored-on, stored-room}
+use Rattle.products.specs.Product.{Made, payslips}
+use Rattle.products.specs.Inner.{stepsIn, StepsRoom, StepsStored, Emitted}
+use Rattle.products.proofs.Sound.{Begins, begins-rise}
+use Rattle.products.proofs.Emitted.{stored-own, stored-is, stored-on, stored-room}
 
 -- one number more over a slice's front
 pub over-next : (l old : List ℕ) (x n : ℕ) → length l ≡ n → n < length old → set (over l old) n x ≡ over (l ++ x ∷ []) old
@@ -22,7 +22,7 @@ over-next l old x n long h =
     rw (len, long, drop-cons old n 0 h, append-assoc) (set-at l (getD old n 0) (drop (suc n) old) x n long)
 
 -- before the first payslip, and after the last
-pub paid-none : (p : ℕ) (cells : List ℕ) (n : ℕ) (steps : List Step) → Room p cells n steps → Stored cells cells n (stepsIn cells n)
+pub paid-none : (p : ℕ) (cells : List ℕ) (n : ℕ) (steps : List Step) → StepsRoom p cells n steps → StepsStored cells cells n (stepsIn cells n)
 paid-none p cells n steps room = stored-own cells n (room .so-far)
 
 pub over-none : (old : List ℕ) → old ≡ over [] old
@@ -30,7 +30,7 @@ unfolding over
 over-none old = refl
 
 module _ (slip : ℕ → List Step → Made) (start : List Step) (i q : ℕ) (h : i ≤ q) (g : q ≤ i) where
-  pub paid-steps : (old cells : List ℕ) (s : ℕ) → Stored old cells s (payslips slip start i .steps) → cells ≡ over (flat (payslips slip start q .steps)) old
+  pub paid-steps : (old cells : List ℕ) (s : ℕ) → StepsStored old cells s (payslips slip start i .steps) → cells ≡ over (flat (payslips slip start q .steps)) old
   paid-steps old cells s st =
       let last : q ≡ i = omega arith in
       rw last (st .cells-are)
@@ -49,12 +49,12 @@ module _ (slip : ℕ → List Step → Made) (start : List Step) (each : (i : �
   paid-length (suc i) = length-append (payslips slip start i .outputs) _ ∙ omega (arith, paid-length i)
 
   -- payslip i after those before it
-  module _ (old cells : List ℕ) (s i : ℕ) (st : Stored old cells s (payslips slip start i .steps)) where
-    pub pay-room : (p n q : ℕ) → Room p old n (payslips slip start q .steps) → i < q → Room p cells s (slip i (stepsIn cells s) .steps)
+  module _ (old cells : List ℕ) (s i : ℕ) (st : StepsStored old cells s (payslips slip start i .steps)) where
+    pub pay-room : (p n q : ℕ) → StepsRoom p old n (payslips slip start q .steps) → i < q → StepsRoom p cells s (slip i (stepsIn cells s) .steps)
     pay-room p n q room h =
         rw (stored-is st) (stored-room room st (each i (payslips slip start i .steps)) (paid-begins (suc i) q h))
 
-    pub pay-steps : (cells′ : List ℕ) (s′ v : ℕ) → Emitted cells cells′ s′ v (slip i (stepsIn cells s)) → Stored old cells′ s′ (payslips slip start (i + 1) .steps)
+    pub pay-steps : (cells′ : List ℕ) (s′ v : ℕ) → Emitted cells cells′ s′ v (slip i (stepsIn cells s)) → StepsStored old cells′ s′ (payslips slip start (i + 1) .steps)
     pay-steps cells′ s′ v e =
         let t = rw (stored-is st) at (e .stored) in
         rw (add-one i) (stored-on st (each i (payslips slip start i .steps)) t)

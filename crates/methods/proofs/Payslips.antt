@@ -12,9 +12,9 @@ use Rattle.chain.specs.declared.Step.{Step}
 use Rattle.chain.proofs.Exponents.{Makes}
 use Rattle.chain.proofs.Outputs.{low-outputs}
 use Rattle.digits.specs.Range.{sumTo}
-use Rattle.methods.specs.Product.{Made, payslips}
-use Rattle.methods.proofs.Sound.{Begins, begins-own, begins-on, makes-on, Sound}
-use Rattle.methods.proofs.Product.{Result}
+use Rattle.products.specs.Product.{Made, payslips}
+use Rattle.products.proofs.Sound.{Begins, begins-own, begins-on, makes-on, Sound}
+use Rattle.products.proofs.Product.{Result}
 
 -- a chain whose q outputs make the payslips x 0, x 1, ..
 pub record Pays (p limit : ℕ) (start : List Step) (x : ℕ → ℕ → ℕ) (q : ℕ) (chain : Chain) : Type 0 where

@@ -1,4 +1,1 @@
-pub mod Product
-pub mod Table
 pub mod Powers
-pub mod Emitted

@@ -12,12 +12,12 @@ use lib.Seq.{take-all}
 use Rattle.chain.specs.declared.Step.{Step}
 use Rattle.digits.specs.Range.{sumTo}
 use Rattle.digits.proofs.Range.{sum-same}
-use Rattle.methods.specs.Product.{made, times}
-use Rattle.methods.specs.Table.{entry, table}
-use Rattle.methods.specs.Emitted.{stepsIn, Room, Stored, Emitted}
-use Rattle.methods.proofs.Sound.{Begins, begins-more, begins-rise, begins-length}
-use Rattle.methods.proofs.Product.{times-begins}
-use Rattle.methods.proofs.Emitted.{stored-is, stored-on, stored-room, emits-room, emits-on}
+use Rattle.products.specs.Product.{made, times}
+use Rattle.tables.specs.Table.{entry, table}
+use Rattle.products.specs.Inner.{stepsIn, StepsRoom, StepsStored, Emitted}
+use Rattle.products.proofs.Sound.{Begins, begins-more, begins-rise, begins-length}
+use Rattle.products.proofs.Product.{times-begins}
+use Rattle.products.proofs.Emitted.{stored-is, stored-on, stored-room, emits-room, emits-on}
 use Rattle.partition.specs.Inner.{partsBy}
 use Rattle.partition.specs.Partition.{group, groupCount, groupSize, groupTables, inputs}
 use Rattle.partition.proofs.Groups.{length-group}
@@ -45,18 +45,18 @@ module _ (p c : ℕ) (inputs : List ℕ) (start : List Step) where
   pub tables-begin : (g G : ℕ) → g ≤ G → Begins (groupTables p c inputs start g) (groupTables p c inputs start G)
   tables-begin = begins-rise (groupTables p c inputs start) (λ g. begins-more (groupTables p c inputs start g) _)
 
-  module _ (old cells : List ℕ) (s g G : ℕ) (st : Stored old cells s (groupTables p c inputs start g)) (own : List ℕ) (is : own ≡ group c g inputs) where
+  module _ (old cells : List ℕ) (s g G : ℕ) (st : StepsStored old cells s (groupTables p c inputs start g)) (own : List ℕ) (is : own ≡ group c g inputs) where
     next-is : stepsIn cells s ++ table 1 own (p + s + 1) (2 ^ (1 * length own)) ≡ groupTables p c inputs start (suc g)
     next-is =
         ap (λ (l : List ℕ). stepsIn cells s ++ table 1 l (p + s + 1) (2 ^ (1 * length l))) is
         ∙ ap (λ (k : ℕ). stepsIn cells s ++ table 1 (group c g inputs) (p + s + 1) (2 ^ k)) (one-mul (length (group c g inputs)))
         ∙ ap₂ (λ (l : List Step) (k : ℕ). l ++ table 1 (group c g inputs) (p + k + 1) (2 ^ length (group c g inputs))) (stored-is st) (st .count)
 
-    pub table-room : (n : ℕ) → Room p old n (groupTables p c inputs start G) → g < G → Room p cells s (stepsIn cells s ++ table 1 own (p + s + 1) (2 ^ (1 * length own)))
+    pub table-room : (n : ℕ) → StepsRoom p old n (groupTables p c inputs start G) → g < G → StepsRoom p cells s (stepsIn cells s ++ table 1 own (p + s + 1) (2 ^ (1 * length own)))
     table-room n room h = rw next-is (stored-room room st (begins-more (groupTables p c inputs start g) _) (tables-begin (suc g) G h))
 
-    pub table-on : (cells′ : List ℕ) (s′ : ℕ) → Stored cells cells′ s′ (stepsIn cells s ++ table 1 own (p + s + 1) (2 ^ (1 * length own)))
-        → Stored old cells′ s′ (groupTables p c inputs start (g + 1))
+    pub table-on : (cells′ : List ℕ) (s′ : ℕ) → StepsStored cells cells′ s′ (stepsIn cells s ++ table 1 own (p + s + 1) (2 ^ (1 * length own)))
+        → StepsStored old cells′ s′ (groupTables p c inputs start (g + 1))
     table-on cells′ s′ t = let u = rw next-is at t in rw (add-one g) (stored-on st (begins-more (groupTables p c inputs start g) _) u)
 
     pub table-small : c ≤ 8 → 1 * length own < 32
@@ -67,8 +67,8 @@ module _ (p c : ℕ) (inputs : List ℕ) (start : List Step) where
         let long = begins-length (tables-begin g G (omega arith)) in
         rw is (omega (arith, group-parts c g inputs few, st .count))
 
-  pub tables-end : (old cells : List ℕ) (s g G : ℕ) → Stored old cells s (groupTables p c inputs start g) → G ≡ groupCount c (length inputs) → g ≤ G → G ≤ g
-      → Stored old cells s (groupTables p c inputs start (groupCount c (length inputs)))
+  pub tables-end : (old cells : List ℕ) (s g G : ℕ) → StepsStored old cells s (groupTables p c inputs start g) → G ≡ groupCount c (length inputs) → g ≤ G → G ≤ g
+      → StepsStored old cells s (groupTables p c inputs start (groupCount c (length inputs)))
   tables-end old cells s g G st is h k = let last : groupCount c (length inputs) ≡ g = omega arith in rw last st
 
 -- the number before a group's first step: the groups before it are full
@@ -131,7 +131,7 @@ module _ (p c : ℕ) (inputs : List ℕ) (start : List Step) (number : ℕ → �
         let at : p + first + g * (2 ^ c - c - 1) + 1 ≡ p + length (groupTables p c inputs start g) + 1 = omega (arith, tables-full p c inputs start g inside) in
         ap (times p (partsBy p c inputs start number before g)) (value ∙ ap (λ (k : ℕ). entry 1 (group c g inputs) k (number g)) at)
 
-    pub part-room : (n G : ℕ) → Room p old n (partsBy p c inputs start number before G .steps) → g < G → Room p cells m (times p (made (stepsIn cells m) v) y .steps)
+    pub part-room : (n G : ℕ) → StepsRoom p old n (partsBy p c inputs start number before G .steps) → g < G → StepsRoom p cells m (times p (made (stepsIn cells m) v) y .steps)
     part-room n G room h = emits-room room (λ r. times p r y) e (times-begins p _ y) (rw next (parts-begin (suc g) G h))
 
     pub part-on : (cells′ : List ℕ) (m′ v′ : ℕ) → Emitted cells cells′ m′ v′ (times p (made (stepsIn cells m) v) y)

@@ -16,7 +16,7 @@ use Rattle.digits.proofs.Vector.{delta, digit-low, sum-delta, vector-own}
 use Rattle.sheet.specs.Sheet.{amount}
 use Rattle.methods.specs.Powers.{largestIn, squarings, powerOf}
 use Rattle.methods.proofs.Powers.{Powers, power-some}
-use Rattle.methods.proofs.Entries.{Inputs}
+use Rattle.tables.proofs.Entries.{Inputs}
 use Rattle.partition.specs.Partition.{columnBits, columnSquarings, inputCount, inputs, overInputs, selection}
 use Rattle.partition.proofs.Inputs.{Place, getD-over, length-over, place, sum-over}
 

@@ -16,8 +16,8 @@ use Rattle.digits.specs.Range.{sumTo, sign}
 use Rattle.digits.proofs.Range.{sum-low, signs-low}
 use Rattle.sheet.specs.Sheet.{amount}
 use Rattle.methods.specs.Powers.{squarings}
-use Rattle.methods.proofs.Sound.{Begins, Sound}
-use Rattle.methods.proofs.Product.{Result, result-like}
+use Rattle.products.proofs.Sound.{Begins, Sound}
+use Rattle.products.proofs.Product.{Result, result-like}
 use Rattle.methods.proofs.Powers.{Powers, powers, squarings-count}
 use Rattle.methods.proofs.Payslips.{Pays, pays-legal, payslips-make, payslips-count}
 use Rattle.partition.specs.Partition.{columnSquarings, group, groupCount, groupSize, groupTables, inputCount, inputs, partition, partitionCeiling, partitionCount, parts, selection, weigh}

@@ -8,10 +8,10 @@ use lib.ListN.{length, getD}
 use Rattle.chain.specs.declared.Step.{Step}
 use Rattle.digits.specs.Range.{sumTo, sign}
 use Rattle.digits.proofs.Range.{sum-same, sum-split, sum-more, sign-add, sign-sign}
-use Rattle.methods.proofs.Sound.{Begins, begins-on, makes-on, Sound}
-use Rattle.methods.proofs.Product.{times-cost, times-spent, Result, result-empty, result-like, result-times}
-use Rattle.methods.proofs.Table.{entry-sign}
-use Rattle.methods.proofs.Entries.{combined}
+use Rattle.products.proofs.Sound.{Begins, begins-on, makes-on, Sound}
+use Rattle.products.proofs.Product.{times-cost, times-spent, Result, result-empty, result-like, result-times}
+use Rattle.tables.proofs.Table.{entry-sign}
+use Rattle.tables.proofs.Entries.{combined}
 use Rattle.partition.specs.Partition.{group, groupSize, groupTables, parts, weigh}
 use Rattle.partition.proofs.Groups.{digit-weigh, getD-group, group-within, length-group, reached, reached-next, weigh-low}
 use Rattle.partition.proofs.Tables.{Grouped, partOf}

@@ -8,11 +8,11 @@ use lib.ListN.{length, getD}
 use Rattle.chain.specs.declared.Step.{Step}
 use Rattle.digits.specs.Range.{sumTo}
 use Rattle.digits.proofs.Range.{sum-low}
-use Rattle.methods.specs.Product.{Made, times}
+use Rattle.products.specs.Product.{Made, times}
 use Rattle.methods.specs.Powers.{countsOf, squarings}
-use Rattle.methods.specs.Table.{entry}
+use Rattle.tables.specs.Table.{entry}
 use Rattle.methods.proofs.Powers.{squarings-count}
-use Rattle.methods.proofs.Sound.{Begins}
+use Rattle.products.proofs.Sound.{Begins}
 use Rattle.partition.specs.Inner.{partsBy}
 use Rattle.partition.specs.Partition.{columnSquarings, group, groupCount, groupSize, inputCount, inputs, parts, selection, squaringCount, weigh}
 use Rattle.partition.proofs.Emitting.{parts-begin}

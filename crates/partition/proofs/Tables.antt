@@ -12,10 +12,10 @@ use Rattle.digits.specs.Digits.{digit}
 use Rattle.digits.specs.Range.{sumTo}
 use Rattle.digits.proofs.Range.{sum-le, sum-split, sum-more}
 use Rattle.digits.proofs.Vector.{digit-low}
-use Rattle.methods.specs.Table.{entry, table}
-use Rattle.methods.proofs.Sound.{Begins, begins-own, begins-more, begins-on, makes-on, Sound}
-use Rattle.methods.proofs.Table.{table-count}
-use Rattle.methods.proofs.Entries.{combined, Inputs, Entries, table-makes}
+use Rattle.tables.specs.Table.{entry, table}
+use Rattle.products.proofs.Sound.{Begins, begins-own, begins-more, begins-on, makes-on, Sound}
+use Rattle.tables.proofs.Table.{table-count}
+use Rattle.tables.proofs.Entries.{combined, Inputs, Entries, table-makes}
 use Rattle.partition.specs.Partition.{group, groupSize, groupTables}
 use Rattle.partition.proofs.Groups.{getD-group, group-within, length-group}
 

@@ -11,14 +11,14 @@ use Rattle.chain.proofs.Pairs.{length-flat}
 use Rattle.chain.proofs.Written.{take-over, over-over}
 use Rattle.digits.specs.Range.{sumTo, listTo}
 use Rattle.digits.proofs.Range.{sum-same}
-use Rattle.methods.specs.Product.{payslips}
+use Rattle.products.specs.Product.{payslips}
 use Rattle.methods.specs.Powers.{countsOf, squarings, powerAt, powerOf}
-use Rattle.methods.specs.Emitted.{stepsIn, Room, Stored}
+use Rattle.products.specs.Inner.{stepsIn, StepsRoom, StepsStored}
 use Rattle.methods.proofs.Columns.{squarings-same}
-use Rattle.methods.proofs.Emitted.{stored-is, stored-length, stored-on, stored-room}
+use Rattle.products.proofs.Emitted.{stored-is, stored-length, stored-on, stored-room}
 use Rattle.methods.proofs.Paying.{paid-begins}
 use Rattle.methods.proofs.Powers.{squarings-count}
-use Rattle.methods.proofs.Sound.{Begins, begins-own, begins-on, begins-length}
+use Rattle.products.proofs.Sound.{Begins, begins-own, begins-on, begins-length}
 use Rattle.digits.proofs.Listed.{getD-list, length-list, list-same}
 use Rattle.partition.specs.Partition.{columnBits, columnSquarings, groupCount, groupTables, inputCount, inputs, partition, partitionCount, squaringCount}
 use Rattle.partition.proofs.Counting.{bitsTo, tablesTo}
@@ -97,7 +97,7 @@ module _ (p q : ℕ) (amounts : List ℕ) where
       unfolding partition
       steps-count = partition-count p q amounts c some
 
-      whole : Room p old 0 Steps
+      whole : StepsRoom p old 0 Steps
       whole = record { so-far = omega arith; cells-hold = omega (arith, steps-count); numbers-fit = omega (arith, steps-count) }
 
       tables-begins : Begins Squares Tables
@@ -106,14 +106,14 @@ module _ (p q : ℕ) (amounts : List ℕ) where
       steps-begins : Begins Tables Steps
       steps-begins = paid-begins (slip p q amounts c) Tables (slip-begins p q amounts c) 0 q (omega arith)
 
-      pub squares-room : Room p old 0 (squarings p (countsOf counts) (length counts))
+      pub squares-room : StepsRoom p old 0 (squarings p (countsOf counts) (length counts))
       squares-room =
           let w = whole in
           let longer = begins-length (begins-on tables-begins steps-begins) in
           rw squares-are (record { so-far = omega arith; cells-hold = omega (arith, w .cells-hold); numbers-fit = omega (arith, w .numbers-fit) })
 
-      module _ (cells : List ℕ) (first : ℕ) (st : Stored old cells first (squarings p (countsOf counts) (length counts))) where
-        squared : Stored old cells first Squares
+      module _ (cells : List ℕ) (first : ℕ) (st : StepsStored old cells first (squarings p (countsOf counts) (length counts))) where
+        squared : StepsStored old cells first Squares
         squared = rw squares-are at st
 
         tables-are : groupTables p c members (stepsIn cells first) (groupCount c (length members)) ≡ Tables
@@ -124,14 +124,14 @@ module _ (p q : ℕ) (amounts : List ℕ) where
         pub tables-few : length (groupTables p c members (stepsIn cells first) (groupCount c (length members))) ≤ 16000
         tables-few = rw tables-are (omega (arith, begins-length steps-begins, steps-count))
 
-        pub tables-room : Room p cells first (groupTables p c members (stepsIn cells first) (groupCount c (length members)))
+        pub tables-room : StepsRoom p cells first (groupTables p c members (stepsIn cells first) (groupCount c (length members)))
         tables-room = rw tables-are (stored-room whole squared tables-begins steps-begins)
 
         pub first-told : first ≡ squaringCount p q amounts
         first-told = squared .count ∙ squarings-count p (columnSquarings p q amounts) p
 
-        module _ (cells′ : List ℕ) (n : ℕ) (st′ : Stored cells cells′ n (groupTables p c members (stepsIn cells first) (groupCount c (length members)))) where
-          tabled : Stored old cells′ n Tables
+        module _ (cells′ : List ℕ) (n : ℕ) (st′ : StepsStored cells cells′ n (groupTables p c members (stepsIn cells first) (groupCount c (length members)))) where
+          tabled : StepsStored old cells′ n Tables
           tabled = stored-on squared tables-begins (rw tables-are at st′)
 
           pub first-fits : 2 * first ≤ length cells′
@@ -141,7 +141,7 @@ module _ (p q : ℕ) (amounts : List ℕ) where
               let long = stored-length tabled (omega (arith, steps-count)) in
               omega (arith, squared .count, steps-count)
 
-          pub payslips-room : Room p cells′ n (payslips (slip p q amounts c) (stepsIn cells′ n) q .steps)
+          pub payslips-room : StepsRoom p cells′ n (payslips (slip p q amounts c) (stepsIn cells′ n) q .steps)
           payslips-room = rw (stored-is tabled) (stored-room whole tabled steps-begins (begins-own Steps))
 
           pub chain-steps : (cells″ : List ℕ) → cells″ ≡ over (flat (payslips (slip p q amounts c) (stepsIn cells′ n) q .steps)) cells′

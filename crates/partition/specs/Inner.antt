@@ -7,8 +7,8 @@ use Rattle.chain.specs.Written.{over, laid}
 use Rattle.chain.specs.declared.Step.{Step}
 use Rattle.digits.specs.Digits.{digit}
 use Rattle.digits.specs.Range.{sumTo, listTo}
-use Rattle.methods.specs.Product.{Made, made, times}
-use Rattle.methods.specs.Table.{entry}
+use Rattle.products.specs.Product.{Made, made, times}
+use Rattle.tables.specs.Table.{entry}
 use Rattle.partition.specs.Partition.{columnBits, group, groupTables, selection, weigh}
 
 -- the number of n bits of a list from place s on, the first with weight 1

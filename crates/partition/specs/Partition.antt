@@ -7,8 +7,8 @@ use Rattle.chain.specs.declared.Step.{Step}
 use Rattle.digits.specs.Digits.{bitLength, digit}
 use Rattle.digits.specs.Range.{sumTo, sign, listTo}
 use Rattle.sheet.specs.Sheet.{amount}
-use Rattle.methods.specs.Product.{Made, made, times, payslips}
-use Rattle.methods.specs.Table.{entry, table}
+use Rattle.products.specs.Product.{Made, made, times, payslips}
+use Rattle.tables.specs.Table.{entry, table}
 use Rattle.methods.specs.Powers.{largestIn, squarings, powerOf}
 
 -- no sheet has more inputs: an amount has at most 32 bits

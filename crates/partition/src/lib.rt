@@ -7,12 +7,12 @@ ghost use Rattle.chain.specs.Written.{over, laid};
 ghost use Rattle.digits.specs.Range.{sumTo, sign, listTo};
 ghost use Rattle.sheet.specs.Sheet.{amount};
 ghost use Rattle.methods.specs.Powers.{countsOf, powerAt, powerOf, squarings};
-ghost use Rattle.methods.specs.Product.{payslips};
-ghost use Rattle.methods.specs.Table.{entry};
-ghost use Rattle.methods.specs.Emitted.{stepsIn, Room, Stored, Emitted};
+ghost use Rattle.products.specs.Product.{payslips};
+ghost use Rattle.tables.specs.Table.{entry};
+ghost use Rattle.products.specs.Inner.{stepsIn, StepsRoom, StepsStored, Emitted};
 ghost use Rattle.partition.specs.Inner.{Cut, Entered, numbersOf, partsBy};
 ghost use Rattle.partition.specs.Partition.{columnBits, columnSquarings, group, groupCount, groupSize, groupTables, inputCount, inputs, overInputs, partition, partitionCount, parts, selection, squaringCount, weigh};
-use methods::PartialProduct;
+use products::PartialProduct;
 
 // A payslip's bits in a row that are not yet cut into parts: their number, how many they are, and the group of the next part.
 pub struct Row {
@@ -308,8 +308,8 @@ fn number_inputs(p: usize, bits: &[u32], counts: &[u32], cells: &mut [u32]) -> u
 // The tables of the groups after n steps.
 fn make_tables(p: usize, c: usize, inputs: &[u32], n: usize, steps: &mut [u32]) -> usize
     requires { ⌜ (p ≤ mostColumns) × (1 ≤ c) × (c ≤ 8) × (length (now inputs) ≤ 512) × (length (groupTables p c (now inputs) (stepsIn (now steps) n) (groupCount c (length (now inputs)))) ≤ mostSteps) ⌝ }
-    requires { ⌜ Room p (now steps) n (groupTables p c (now inputs) (stepsIn (now steps) n) (groupCount c (length (now inputs)))) ⌝ }
-    ensures { λ r. ⌜ Stored (now (steps .entry)) (now (steps .exit)) r (groupTables p c (now (inputs .entry)) (stepsIn (now (steps .entry)) n) (groupCount c (length (now (inputs .entry))))) ⌝ }
+    requires { ⌜ StepsRoom p (now steps) n (groupTables p c (now inputs) (stepsIn (now steps) n) (groupCount c (length (now inputs)))) ⌝ }
+    ensures { λ r. ⌜ StepsStored (now (steps .entry)) (now (steps .exit)) r (groupTables p c (now (inputs .entry)) (stepsIn (now (steps .entry)) n) (groupCount c (length (now (inputs .entry))))) ⌝ }
 {
     let groups = group_count(c, inputs.len());
     let mut s = n;
@@ -317,7 +317,7 @@ fn make_tables(p: usize, c: usize, inputs: &[u32], n: usize, steps: &mut [u32]) 
     while g < groups {
         let from = g * c;
         let end = from + group_size(c, inputs.len(), g);
-        s = methods::make_table(p, 1, &inputs[from..end], s, steps);
+        s = tables::make_table(p, 1, &inputs[from..end], s, steps);
         g += 1;
     }
     s
@@ -331,7 +331,7 @@ fn part_value(p: usize, c: usize, inputs: &[u32], first: usize, g: usize, t: u32
     let from = g * c;
     let end = from + group_size(c, inputs.len(), g);
     let at = p + first + g * table_count(c) + 1;
-    methods::entry(1, &inputs[from..end], at as u32, t)
+    tables::entry(1, &inputs[from..end], at as u32, t)
 }
 
 // The parts of a payslip with these numbers, multiplied in order.
@@ -345,14 +345,14 @@ fn make_parts(
     steps: &mut [u32],
 ) -> PartialProduct
     requires { ⌜ (p ≤ mostColumns) × (1 ≤ c) × (c ≤ 8) × (length (now inputs) ≤ 512) × (length (now numbers) ≡ groupCount c (length (now inputs))) × (first ≤ mostSteps) × (2 * first ≤ length (now steps)) × ((g : ℕ) → g < length (now numbers) → countsOf (now numbers) g < 2 ^ (1 * length (group c g (now inputs)))) ⌝ }
-    requires { ⌜ Room p (now steps) n (partsBy p c (now inputs) (stepsIn (now steps) first) (countsOf (now numbers)) (stepsIn (now steps) n) (length (now numbers)) .steps) ⌝ }
+    requires { ⌜ StepsRoom p (now steps) n (partsBy p c (now inputs) (stepsIn (now steps) first) (countsOf (now numbers)) (stepsIn (now steps) n) (length (now numbers)) .steps) ⌝ }
     ensures { λ r. ⌜ Emitted (now (steps .entry)) (now (steps .exit)) (r .n) (r .value) (partsBy p c (now (inputs .entry)) (stepsIn (now (steps .entry)) first) (countsOf (now (numbers .entry))) (stepsIn (now (steps .entry)) n) (length (now (numbers .entry)))) ⌝ }
 {
     let mut r = PartialProduct { n: n, value: 0 };
     let mut g: usize = 0;
     while g < numbers.len() {
         let y = part_value(p, c, inputs, first, g, numbers[g]);
-        r = methods::times(p, r, y, steps);
+        r = products::times(p, r, y, steps);
         g += 1;
     }
     r
@@ -374,7 +374,7 @@ fn make_payslip(
     steps: &mut [u32],
 ) -> PartialProduct
     requires { ⌜ (1 ≤ c) × (c ≤ 8) × (p ≤ mostColumns) × (length (now amounts) ≡ p * q) × (now bits ≡ listTo p (columnBits p q (now amounts))) × (now members ≡ inputs p q (now amounts)) × (first ≡ squaringCount p q (now amounts)) × (2 * first ≤ length (now steps)) × (i < q) × (groups ≡ groupCount c (inputCount p q (now amounts))) × (groups ≤ 512) × (512 ≤ length (now cells)) ⌝ }
-    requires { ⌜ Room p (now steps) n (parts p c (inputs p q (now amounts)) (squarings p (columnSquarings p q (now amounts)) p) (selection p q (now amounts) i) (stepsIn (now steps) n) (groupCount c (inputCount p q (now amounts))) .steps) ⌝ }
+    requires { ⌜ StepsRoom p (now steps) n (parts p c (inputs p q (now amounts)) (squarings p (columnSquarings p q (now amounts)) p) (selection p q (now amounts) i) (stepsIn (now steps) n) (groupCount c (inputCount p q (now amounts))) .steps) ⌝ }
     ensures { λ r. ⌜ Emitted (now (steps .entry)) (now (steps .exit)) (r .n) (r .value) (parts p c (inputs p q (now (amounts .entry))) (squarings p (columnSquarings p q (now (amounts .entry))) p) (selection p q (now (amounts .entry)) i) (stepsIn (now (steps .entry)) n) (groupCount c (inputCount p q (now (amounts .entry))))) ⌝ }
 {
     number_parts(p, q, amounts, bits, c, i, cells);
@@ -397,7 +397,7 @@ fn make_payslips(
     outputs: &mut [u32],
 )
     requires { ⌜ (1 ≤ c) × (c ≤ 8) × (p ≤ mostColumns) × (length (now amounts) ≡ p * q) × (now bits ≡ listTo p (columnBits p q (now amounts))) × (now members ≡ inputs p q (now amounts)) × (first ≡ squaringCount p q (now amounts)) × (2 * first ≤ length (now steps)) × (q ≤ length (now outputs)) × (groups ≡ groupCount c (inputCount p q (now amounts))) × (groups ≤ 512) × (512 ≤ length (now cells)) ⌝ }
-    requires { ⌜ Room p (now steps) n (payslips (λ i before. parts p c (inputs p q (now amounts)) (squarings p (columnSquarings p q (now amounts)) p) (selection p q (now amounts) i) before (groupCount c (inputCount p q (now amounts)))) (stepsIn (now steps) n) q .steps) ⌝ }
+    requires { ⌜ StepsRoom p (now steps) n (payslips (λ i before. parts p c (inputs p q (now amounts)) (squarings p (columnSquarings p q (now amounts)) p) (selection p q (now amounts) i) before (groupCount c (inputCount p q (now amounts)))) (stepsIn (now steps) n) q .steps) ⌝ }
     ensures { λ r. ⌜ now (steps .exit) ≡ over (flat (payslips (λ i before. parts p c (inputs p q (now (amounts .entry))) (squarings p (columnSquarings p q (now (amounts .entry))) p) (selection p q (now (amounts .entry)) i) before (groupCount c (inputCount p q (now (amounts .entry))))) (stepsIn (now (steps .entry)) n) q .steps)) (now (steps .entry)) ⌝ }
     ensures { λ r. ⌜ now (outputs .exit) ≡ over (payslips (λ i before. parts p c (inputs p q (now (amounts .entry))) (squarings p (columnSquarings p q (now (amounts .entry))) p) (selection p q (now (amounts .entry)) i) before (groupCount c (inputCount p q (now (amounts .entry))))) (stepsIn (now (steps .entry)) n) q .outputs) (now (outputs .entry)) ⌝ }
 {

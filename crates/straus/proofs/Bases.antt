@@ -13,10 +13,10 @@ use Rattle.digits.specs.Digits.{digit}
 use Rattle.digits.specs.Range.{sign}
 use Rattle.digits.proofs.Range.{sum-same}
 use Rattle.digits.proofs.Vector.{delta, digit-low, sum-delta}
-use Rattle.methods.specs.Table.{entry}
-use Rattle.methods.proofs.Sound.{makes-base, Sound, sound-none}
-use Rattle.methods.proofs.Table.{table-count, entry-sign}
-use Rattle.methods.proofs.Entries.{combined, Inputs, Entries, table-makes}
+use Rattle.tables.specs.Table.{entry}
+use Rattle.products.proofs.Sound.{makes-base, Sound, sound-none}
+use Rattle.tables.proofs.Table.{table-count, entry-sign}
+use Rattle.tables.proofs.Entries.{combined, Inputs, Entries, table-makes}
 use Rattle.straus.specs.Straus.{bases, strausTable}
 
 pub length-bases : (p : ℕ) → length (bases p) ≡ p

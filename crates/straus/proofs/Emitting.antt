@@ -9,12 +9,12 @@ use lib.ListN.{length, set}
 use lib.Pow.{pow-mono}
 use Rattle.chain.specs.Written.{over}
 use Rattle.chain.specs.declared.Step.{Step}
-use Rattle.methods.specs.Product.{Made, made, times, squared, payslips}
-use Rattle.methods.specs.Table.{entry}
-use Rattle.methods.specs.Emitted.{stepsIn, Room, Stored, Emitted}
-use Rattle.methods.proofs.Sound.{Begins, begins-own, begins-on, begins-rise}
-use Rattle.methods.proofs.Product.{times-begins, squared-begins}
-use Rattle.methods.proofs.Emitted.{emitted-own, emits-room, emits-on}
+use Rattle.products.specs.Product.{Made, made, times, squared, payslips}
+use Rattle.tables.specs.Table.{entry}
+use Rattle.products.specs.Inner.{stepsIn, StepsRoom, StepsStored, Emitted}
+use Rattle.products.proofs.Sound.{Begins, begins-own, begins-on, begins-rise}
+use Rattle.products.proofs.Product.{times-begins, squared-begins}
+use Rattle.products.proofs.Emitted.{emitted-own, emits-room, emits-on}
 use Rattle.methods.proofs.Paying.{pay-room, pay-steps, pay-output}
 use Rattle.straus.specs.Straus.{bases, strausDigits, digitVector, horner, strausPayslip}
 use Rattle.straus.proofs.Bases.{length-bases}
@@ -25,11 +25,11 @@ module _ (p k n v y : ℕ) (cells : List ℕ) where
   abbrev start : Made
   start = made (stepsIn cells n) v
 
-  pub squares-room : Room p cells n (times p (squared p k start) y .steps) → Room p cells n (squared p k start .steps)
+  pub squares-room : StepsRoom p cells n (times p (squared p k start) y .steps) → StepsRoom p cells n (squared p k start .steps)
   squares-room room = emits-room room (squared p k) (emitted-own p cells n v _ room) (squared-begins p start 0 k (omega arith)) (times-begins p (squared p k start) y)
 
-  pub times-room : (cells′ : List ℕ) (n′ v′ : ℕ) → Room p cells n (times p (squared p k start) y .steps) → Emitted cells cells′ n′ v′ (squared p k start)
-      → Room p cells′ n′ (times p (made (stepsIn cells′ n′) v′) y .steps)
+  pub times-room : (cells′ : List ℕ) (n′ v′ : ℕ) → StepsRoom p cells n (times p (squared p k start) y .steps) → Emitted cells cells′ n′ v′ (squared p k start)
+      → StepsRoom p cells′ n′ (times p (made (stepsIn cells′ n′) v′) y .steps)
   times-room cells′ n′ v′ room e = emits-room room (λ m. times p m y) e (times-begins p (squared p k start) y) (begins-own _)
 
   pub digit-taken : (cells′ cells″ : List ℕ) (n′ n″ v′ v″ : ℕ) → Emitted cells cells′ n′ v′ (squared p k start)
@@ -74,7 +74,7 @@ module _ (p k : ℕ) (amounts : List ℕ) (i : ℕ) where
     more : Begins (digitsMade p k amounts i (stepsIn old n) d .steps) (next-made (digitsMade p k amounts i (stepsIn old n) d) .steps)
     more = rw next-is (next-begins (stepsIn old n) d)
 
-    pub digit-room : Room p old n (strausPayslip p k amounts i (stepsIn old n) .steps) → Room p cells m (times p (squared p k (made (stepsIn cells m) v)) y .steps)
+    pub digit-room : StepsRoom p old n (strausPayslip p k amounts i (stepsIn old n) .steps) → StepsRoom p cells m (times p (squared p k (made (stepsIn cells m) v)) y .steps)
     unfolding next-made
     digit-room room = emits-room room next-made e more (rw next-is (digits-begin (stepsIn old n) (suc d) (strausDigits p k amounts i) (omega arith)))
 
@@ -105,13 +105,13 @@ digit-fits k d digits room h =
 
 -- the payslips: each after those before it
 module _ (p k : ℕ) (amounts : List ℕ) (start : List Step) (old cells : List ℕ) (s i : ℕ)
-    (st : Stored old cells s (payslips (strausPayslip p k amounts) start i .steps)) where
-  pub payslip-room : (n q : ℕ) → Room p old n (payslips (strausPayslip p k amounts) start q .steps) → i < q
-      → Room p cells s (strausPayslip p k amounts i (stepsIn cells s) .steps)
+    (st : StepsStored old cells s (payslips (strausPayslip p k amounts) start i .steps)) where
+  pub payslip-room : (n q : ℕ) → StepsRoom p old n (payslips (strausPayslip p k amounts) start q .steps) → i < q
+      → StepsRoom p cells s (strausPayslip p k amounts i (stepsIn cells s) .steps)
   payslip-room n q = pay-room (strausPayslip p k amounts) start (payslip-begins p k amounts) old cells s i st p n q
 
   pub payslip-steps : (cells′ : List ℕ) (s′ v : ℕ) → Emitted cells cells′ s′ v (strausPayslip p k amounts i (stepsIn cells s))
-      → Stored old cells′ s′ (payslips (strausPayslip p k amounts) start (i + 1) .steps)
+      → StepsStored old cells′ s′ (payslips (strausPayslip p k amounts) start (i + 1) .steps)
   payslip-steps = pay-steps (strausPayslip p k amounts) start (payslip-begins p k amounts) old cells s i st
 
   pub payslip-output : (cells′ : List ℕ) (s′ v : ℕ) → Emitted cells cells′ s′ v (strausPayslip p k amounts i (stepsIn cells s)) → (q : ℕ) (old′ outputs : List ℕ)

@@ -15,9 +15,9 @@ use Rattle.digits.proofs.Range.{sum-same, le-sum, le-max, max-attained, sign-so
 use Rattle.digits.proofs.Count.{count-own, count-zero, top-digit}
 use Rattle.digits.proofs.Vector.{digit-low, vector-low, digit-vector}
 use Rattle.sheet.specs.Sheet.{amount}
-use Rattle.methods.specs.Table.{entry}
-use Rattle.methods.proofs.Sound.{Begins, makes-on, Sound}
-use Rattle.methods.proofs.Product.{Result}
+use Rattle.tables.specs.Table.{entry}
+use Rattle.products.proofs.Sound.{Begins, makes-on, Sound}
+use Rattle.products.proofs.Product.{Result}
 use Rattle.straus.specs.Straus.{bases, strausTable, strausDigits, digitVector, horner, strausPayslip}
 use Rattle.straus.proofs.Bases.{straus-entry-sign, straus-table-makes}
 use Rattle.straus.proofs.Horner.{horner-all, horner-count}

@@ -16,11 +16,11 @@ use Rattle.chain.proofs.Written.{over-over}
 use Rattle.digits.specs.Range.{maxTo}
 use Rattle.digits.proofs.Range.{sum-low, max-low}
 use Rattle.sheet.specs.Sheet.{amount}
-use Rattle.methods.specs.Product.{payslips}
-use Rattle.methods.specs.Table.{table}
-use Rattle.methods.specs.Emitted.{stepsIn, Room, Stored}
-use Rattle.methods.proofs.Sound.{Begins, begins-own, begins-length}
-use Rattle.methods.proofs.Emitted.{stored-is, stored-room}
+use Rattle.products.specs.Product.{payslips}
+use Rattle.tables.specs.Table.{table}
+use Rattle.products.specs.Inner.{stepsIn, StepsRoom, StepsStored}
+use Rattle.products.proofs.Sound.{Begins, begins-own, begins-length}
+use Rattle.products.proofs.Emitted.{stored-is, stored-room}
 use Rattle.methods.proofs.Paying.{paid-begins}
 use Rattle.straus.specs.Straus.{bases, strausTable, strausDigits, strausPayslip, straus, strausCount}
 use Rattle.straus.proofs.Bases.{length-bases}
@@ -75,7 +75,7 @@ module _ (p q : ℕ) (amounts : List ℕ) (k : ℕ) (some : 1 ≤ k) where
   table-begins = paid-begins (strausPayslip p k amounts) (strausTable p k) (payslip-begins p k amounts) 0 q (omega arith)
 
   whole-room : (old : List ℕ) → p ≤ 16 → q ≤ 64 → p * k ≤ 10 → ((j : ℕ) → getD amounts j 0 < 2 ^ 32) → 2 * strausCount p q amounts k ≤ length old
-      → Room p old 0 (straus p q amounts k .steps)
+      → StepsRoom p old 0 (straus p q amounts k .steps)
   whole-room old columns few small low room =
       record {
         so-far = omega arith;
@@ -102,24 +102,24 @@ module _ (p q : ℕ) (amounts : List ℕ) (k : ℕ) (inputs old : List ℕ) (is 
 
   module _ (some : 1 ≤ k) (columns : p ≤ 16) (few : q ≤ 64) (small : p * k ≤ 10) (low : (j : ℕ) → getD amounts j 0 < 2 ^ 32)
       (room : 2 * strausCount p q amounts k ≤ length old) where
-    whole : Room p old 0 (straus p q amounts k .steps)
+    whole : StepsRoom p old 0 (straus p q amounts k .steps)
     whole = whole-room p q amounts k some old columns few small low room
 
-    pub table-room : Room p old 0 Table
+    pub table-room : StepsRoom p old 0 Table
     table-room =
         let w = whole in
         let longer = begins-length (table-begins p q amounts k some) in
         rw (table-is p k inputs old is)
         (record { so-far = omega arith; cells-hold = omega (arith, w .cells-hold); numbers-fit = omega (arith, w .numbers-fit) })
 
-    pub payslips-room : {cells : List ℕ} {n : ℕ} → Stored old cells n Table → Room p cells n (payslips (strausPayslip p k amounts) (stepsIn cells n) q .steps)
+    pub payslips-room : {cells : List ℕ} {n : ℕ} → StepsStored old cells n Table → StepsRoom p cells n (payslips (strausPayslip p k amounts) (stepsIn cells n) q .steps)
     unfolding straus
     payslips-room st =
         rw (stored-is st, table-is p k inputs old is)
         (stored-room whole (rw (table-is p k inputs old is) at st) (table-begins p q amounts k some) (begins-own _))
 
   -- the payslips' steps over the table, and their outputs, are the chain's
-  module _ (cells : List ℕ) (n : ℕ) (st : Stored old cells n Table) where
+  module _ (cells : List ℕ) (n : ℕ) (st : StepsStored old cells n Table) where
     pub chain-steps : (cells′ : List ℕ) → 1 ≤ k → cells′ ≡ over (flat (payslips (strausPayslip p k amounts) (stepsIn cells n) q .steps)) cells
         → cells′ ≡ over (flat (straus p q amounts k .steps)) old
     unfolding straus

@@ -6,8 +6,8 @@ use Rattle.chain.specs.declared.Step.{Step}
 use Rattle.digits.specs.Digits.{digitCount, digit}
 use Rattle.digits.specs.Range.{sumTo, maxTo, sign}
 use Rattle.sheet.specs.Sheet.{amount}
-use Rattle.methods.specs.Product.{Made, made, times, squared, payslips}
-use Rattle.methods.specs.Table.{entry, table}
+use Rattle.products.specs.Product.{Made, made, times, squared, payslips}
+use Rattle.tables.specs.Table.{entry, table}
 
 -- the bases: values 1 to p
 abbrev pub bases : ℕ → List ℕ

@@ -6,10 +6,10 @@ ghost use Rattle.chain.specs.Chain.{mostColumns, mostPayslips, flat};
 ghost use Rattle.chain.specs.Written.{over};
 ghost use Rattle.digits.specs.Range.{sumTo, orTo, sign};
 ghost use Rattle.sheet.specs.Sheet.{amount};
-ghost use Rattle.methods.specs.Product.{made, times, squared, payslips};
-ghost use Rattle.methods.specs.Emitted.{stepsIn, Room, Emitted};
+ghost use Rattle.products.specs.Product.{made, times, squared, payslips};
+ghost use Rattle.products.specs.Inner.{stepsIn, StepsRoom, Emitted};
 ghost use Rattle.straus.specs.Straus.{bases, strausDigits, digitVector, strausPayslip, straus, strausCount};
-use methods::PartialProduct;
+use products::PartialProduct;
 
 // The amounts of payslip i, one over the other: they have as many digits as the largest, and a digit is 0 exactly where all are.
 fn overlaid(p: usize, amounts: &[u32], i: usize) -> u32
@@ -84,11 +84,11 @@ pub fn count(p: usize, q: usize, amounts: &[u32], k: usize) -> usize
 
 // One digit more of a product: squared k times, then times value y.
 fn take_digit(p: usize, k: usize, m: PartialProduct, y: u32, steps: &mut [u32]) -> PartialProduct
-    requires { ⌜ Room p (now steps) (m .n) (times p (squared p k (made (stepsIn (now steps) (m .n)) (m .value))) y .steps) ⌝ }
+    requires { ⌜ StepsRoom p (now steps) (m .n) (times p (squared p k (made (stepsIn (now steps) (m .n)) (m .value))) y .steps) ⌝ }
     ensures { λ r. ⌜ Emitted (now (steps .entry)) (now (steps .exit)) (r .n) (r .value) (times p (squared p k (made (stepsIn (now (steps .entry)) (m .n)) (m .value))) y) ⌝ }
 {
-    let s = methods::squared(p, k, m, steps);
-    methods::times(p, s, y, steps)
+    let s = products::squared(p, k, m, steps);
+    products::times(p, s, y, steps)
 }
 
 // Payslip i after n steps, by Horner's rule over its digits.
@@ -102,7 +102,7 @@ fn make_payslip(
     steps: &mut [u32],
 ) -> PartialProduct
     requires { ⌜ (i * p + p ≤ length (now amounts)) × (0 < k) × (k < 32) × (p + k * p < 32) × (now inputs ≡ bases p) ⌝ }
-    requires { ⌜ Room p (now steps) n (strausPayslip p k (now amounts) i (stepsIn (now steps) n) .steps) ⌝ }
+    requires { ⌜ StepsRoom p (now steps) n (strausPayslip p k (now amounts) i (stepsIn (now steps) n) .steps) ⌝ }
     ensures { λ r. ⌜ Emitted (now (steps .entry)) (now (steps .exit)) (r .n) (r .value) (strausPayslip p k (now (amounts .entry)) i (stepsIn (now (steps .entry)) n)) ⌝ }
 {
     let digits = digit_count(p, k, amounts, i);
@@ -110,7 +110,7 @@ fn make_payslip(
     let mut d: usize = 0;
     while d < digits {
         let t = vector(p, k, amounts, i, digits - (d + 1));
-        let e = methods::entry(k, inputs, (p + 1) as u32, t);
+        let e = tables::entry(k, inputs, (p + 1) as u32, t);
         r = take_digit(p, k, r, e, steps);
         d += 1;
     }
@@ -129,7 +129,7 @@ fn make_payslips(
     outputs: &mut [u32],
 )
     requires { ⌜ (length (now amounts) ≡ p * q) × (0 < k) × (k < 32) × (p + k * p < 32) × (now inputs ≡ bases p) × (q ≤ length (now outputs)) ⌝ }
-    requires { ⌜ Room p (now steps) n (payslips (strausPayslip p k (now amounts)) (stepsIn (now steps) n) q .steps) ⌝ }
+    requires { ⌜ StepsRoom p (now steps) n (payslips (strausPayslip p k (now amounts)) (stepsIn (now steps) n) q .steps) ⌝ }
     ensures { λ r. ⌜ now (steps .exit) ≡ over (flat (payslips (strausPayslip p k (now (amounts .entry))) (stepsIn (now (steps .entry)) n) q .steps)) (now (steps .entry)) ⌝ }
     ensures { λ r. ⌜ now (outputs .exit) ≡ over (payslips (strausPayslip p k (now (amounts .entry))) (stepsIn (now (steps .entry)) n) q .outputs) (now (outputs .entry)) ⌝ }
 {
@@ -158,7 +158,7 @@ fn make_chain(
     ensures { λ r. ⌜ now (steps .exit) ≡ over (flat (straus p q (now (amounts .entry)) k .steps)) (now (steps .entry)) ⌝ }
     ensures { λ r. ⌜ now (outputs .exit) ≡ over (straus p q (now (amounts .entry)) k .outputs) (now (outputs .entry)) ⌝ }
 {
-    let n = methods::make_table(p, k, inputs, 0, steps);
+    let n = tables::make_table(p, k, inputs, 0, steps);
     make_payslips(p, q, k, amounts, inputs, n, steps, outputs);
 }
 

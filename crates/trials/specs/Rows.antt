@@ -17,8 +17,8 @@ use Rattle.verify.specs.Verify.{overOr, otherOr, exponentsRule, payslipsRule, f
 use Rattle.run.specs.Run.{residues, runRule, runAnswer, runValues, runFigures}
 use Rattle.bits.specs.Bits.{bits, fields, value, bytesBits, front, pack, fieldsAt}
 use Rattle.file.specs.File.{fileBits, fileOf, writeRule, writeAnswer, writeBytes, stepsOf, outputsOf, readRule, readAnswer, readSteps, readOutputs}
-use Rattle.methods.specs.Product.{times}
-use Rattle.methods.specs.Table.{entry, tableNext}
+use Rattle.products.specs.Product.{times}
+use Rattle.tables.specs.Table.{entry, tableNext}
 use Rattle.straus.specs.Straus.{strausDigits, straus, strausCount, strausCeiling}
 use Rattle.yao.specs.Yao.{yaoDigits, gatherOne, yao, yaoCount, yaoCeiling}
 use Rattle.partition.specs.Partition.{columnBits, inputs, selection, partition, partitionCount, partitionCeiling}

@@ -11,8 +11,8 @@ use Rattle.digits.specs.Digits.{digit}
 use Rattle.digits.specs.Range.{sumTo, maxTo, sign}
 use Rattle.digits.proofs.Range.{sum-same, sum-zero, sum-add, sum-sign, max-sign, max-low, sign-mono, sign-sign, sign-add, sign-mul, signs-low}
 use Rattle.digits.proofs.Vector.{digit-low, digit-zero, vector-own}
-use Rattle.methods.specs.Product.{Made, made}
-use Rattle.methods.proofs.Product.{times-cost, times-spent}
+use Rattle.products.specs.Product.{Made, made}
+use Rattle.products.proofs.Product.{times-cost, times-spent}
 use Rattle.yao.specs.Yao.{gather, Running, running, amountCount}
 use Rattle.yao.proofs.Gather.{gather-count}
 use Rattle.yao.proofs.Rounds.{rounds, rounds-none, rounds-all, rounds-next, rounds-match, max-rounds, each, in-b, joins}

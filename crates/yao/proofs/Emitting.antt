@@ -8,19 +8,19 @@ use native.Mathlib.Numerals.{add-one}
 use native.Mathlib.Omega.{arith}
 use Rattle.chain.specs.declared.Step.{Step}
 use Rattle.digits.specs.Digits.{digit}
-use Rattle.methods.specs.Product.{Made, made, times}
-use Rattle.methods.specs.Emitted.{stepsIn, Room, Emitted}
-use Rattle.methods.proofs.Sound.{Begins, begins-own, begins-on, begins-rise}
-use Rattle.methods.proofs.Product.{times-begins}
-use Rattle.methods.proofs.Emitted.{emitted-own, stored-own, emits-room, emits-on}
+use Rattle.products.specs.Product.{Made, made, times}
+use Rattle.products.specs.Inner.{stepsIn, StepsRoom, Emitted}
+use Rattle.products.proofs.Sound.{Begins, begins-own, begins-on, begins-rise}
+use Rattle.products.proofs.Product.{times-begins}
+use Rattle.products.proofs.Emitted.{emitted-own, stored-own, emits-room, emits-on}
 use Rattle.yao.specs.Yao.{gatherOne, gather, Running, running}
 use Rattle.yao.specs.Emitted.{Reach, powerIn, Ran}
 use Rattle.yao.proofs.Gather.{one-yes, one-no}
 use Rattle.yao.proofs.Counting.{digit-place}
 
 -- one power
-module _ (p y d : ℕ) (cells : List ℕ) (n v w : ℕ) (room : Room p cells n (gatherOne p y d (made (stepsIn cells n) v) w .steps)) where
-  pub one-room : y ≡ d → Room p cells n (times p (made (stepsIn cells n) v) w .steps)
+module _ (p y d : ℕ) (cells : List ℕ) (n v w : ℕ) (room : StepsRoom p cells n (gatherOne p y d (made (stepsIn cells n) v) w .steps)) where
+  pub one-room : y ≡ d → StepsRoom p cells n (times p (made (stepsIn cells n) v) w .steps)
   one-room e = rw (one-yes p y d (made (stepsIn cells n) v) w e) at room
 
   pub one-times : (cells′ : List ℕ) (n′ v′ : ℕ) → y ≡ d → Emitted cells cells′ n′ v′ (times p (made (stepsIn cells n) v) w)
@@ -65,7 +65,7 @@ module _ (p k c first x d : ℕ) (old : List ℕ) (m : Made) (cells : List ℕ) 
   begins : Begins (gather p k (powerIn k c first) x d i m .steps) (gatherOne p y d (gather p k (powerIn k c first) x d i m) w .steps)
   begins = one-begins p y d _ w
 
-  pub powers-room : (J n₀ : ℕ) → Room p old n₀ (gather p k (powerIn k c first) x d J m .steps) → i < J → Room p cells n (gatherOne p y d (made (stepsIn cells n) v) w .steps)
+  pub powers-room : (J n₀ : ℕ) → StepsRoom p old n₀ (gather p k (powerIn k c first) x d J m .steps) → i < J → StepsRoom p cells n (gatherOne p y d (made (stepsIn cells n) v) w .steps)
   powers-room J n₀ room less =
       emits-room room (λ b. gatherOne p y d b w) e begins
       (rw (← next) (gather-begin p k (powerIn k c first) x d m (i + 1) J (omega arith)))
@@ -127,11 +127,11 @@ module _ (p k c first J x : ℕ) (before : List Step) (old cells : List ℕ) (n 
       let same : 2 ^ k - suc i ≡ d = omega arith in
       ap (running p k (powerIn k c first) J x before) (add-one i) ∙ ap withDigit same
 
-  module _ (R n₀ : ℕ) (room : Room p old n₀ (running p k (powerIn k c first) J x before R .steps)) (less : i + 1 ≤ R) where
+  module _ (R n₀ : ℕ) (room : StepsRoom p old n₀ (running p k (powerIn k c first) J x before R .steps)) (less : i + 1 ≤ R) where
     rest : Begins (after-a .steps) (running p k (powerIn k c first) J x before R .steps)
     rest = subst (λ (r : Running). Begins (r .steps) (running p k (powerIn k c first) J x before R .steps)) round (running-begin p k (powerIn k c first) J x before (i + 1) R less)
 
-    pub b-room : Room p cells n (gather p k (powerIn k c first) x d J (made (stepsIn cells n) b) .steps)
+    pub b-room : StepsRoom p cells n (gather p k (powerIn k c first) x d J (made (stepsIn cells n) b) .steps)
     b-room = emits-room room taking entered into-b (begins-on into-a rest)
 
   module _ (cells′ : List ℕ) (n′ v′ : ℕ) (t : Emitted cells cells′ n′ v′ (gather p k (powerIn k c first) x d J (made (stepsIn cells n) b))) where
@@ -144,7 +144,7 @@ module _ (p k c first J x : ℕ) (before : List Step) (old cells : List ℕ) (n 
     by-value : times p (made (after-b .steps) (state .a)) v′ ≡ after-a
     by-value = ap (times p (made (after-b .steps) (state .a))) (taken .value)
 
-    pub a-room : (R n₀ : ℕ) → Room p old n₀ (running p k (powerIn k c first) J x before R .steps) → i + 1 ≤ R → Room p cells′ n′ (times p (made (stepsIn cells′ n′) a) v′ .steps)
+    pub a-room : (R n₀ : ℕ) → StepsRoom p old n₀ (running p k (powerIn k c first) J x before R .steps) → i + 1 ≤ R → StepsRoom p cells′ n′ (times p (made (stepsIn cells′ n′) a) v′ .steps)
     a-room R n₀ room less =
         emits-room room (λ m. times p m v′) entered-a (times-begins p _ v′)
         (subst (λ (m : Made). Begins (m .steps) (running p k (powerIn k c first) J x before R .steps)) (sym by-value) (rest R n₀ room less))
@@ -155,7 +155,7 @@ module _ (p k c first J x : ℕ) (before : List Step) (old cells : List ℕ) (n 
         let r = subst (λ (m : Made). Emitted old cells″ n″ v″ m) by-value (emits-on (λ m. times p m v′) entered-a (times-begins p _ v′) u) in
         rw round (record { stored = r .stored; a-is = r .value; b-is = taken .value })
 
-pub running-start : (p k c first J x : ℕ) (cells : List ℕ) (n : ℕ) (whole : List Step) → Room p cells n whole
+pub running-start : (p k c first J x : ℕ) (cells : List ℕ) (n : ℕ) (whole : List Step) → StepsRoom p cells n whole
     → Ran cells cells n 0 0 (running p k (powerIn k c first) J x (stepsIn cells n) 0)
 running-start p k c first J x cells n whole room = record { stored = stored-own cells n (room .so-far); a-is = refl; b-is = refl }
 

@@ -9,11 +9,11 @@ use Rattle.chain.specs.Written.{over}
 use Rattle.chain.specs.declared.Step.{Step}
 use Rattle.digits.specs.Range.{sumTo}
 use Rattle.sheet.specs.Sheet.{amount}
-use Rattle.methods.specs.Product.{Made, made, times, payslips}
-use Rattle.methods.specs.Emitted.{stepsIn, Room, Stored, Emitted}
-use Rattle.methods.proofs.Sound.{Begins, begins-own, begins-on, begins-rise}
-use Rattle.methods.proofs.Product.{times-begins}
-use Rattle.methods.proofs.Emitted.{stored-own, stored-room, emits-room, emits-on}
+use Rattle.products.specs.Product.{Made, made, times, payslips}
+use Rattle.products.specs.Inner.{stepsIn, StepsRoom, StepsStored, Emitted}
+use Rattle.products.proofs.Sound.{Begins, begins-own, begins-on, begins-rise}
+use Rattle.products.proofs.Product.{times-begins}
+use Rattle.products.proofs.Emitted.{stored-own, stored-room, emits-room, emits-on}
 use Rattle.methods.proofs.Paying.{pay-room, pay-steps, pay-output}
 use Rattle.yao.specs.Yao.{yaoDigits, yaoSquarings, yaoPower, Running, running, yaoPayslip}
 use Rattle.yao.specs.Emitted.{Reach, powerIn, Ran, joined, yaoSlip}
@@ -26,14 +26,14 @@ join-begins p k power J x m =
     begins-on (running-begin p k power J x (m .steps) 0 (2 ^ k - 1) (omega arith)) (times-begins p (made (r .steps) (m .value)) (r .a))
 
 -- a column's products, then the payslip's product times a
-module _ (p k c first J x : ℕ) (cells : List ℕ) (n v : ℕ) (room : Room p cells n (joined p k (powerIn k c first) J x (made (stepsIn cells n) v) .steps)) where
+module _ (p k c first J x : ℕ) (cells : List ℕ) (n v : ℕ) (room : StepsRoom p cells n (joined p k (powerIn k c first) J x (made (stepsIn cells n) v) .steps)) where
   abbrev ran : Running
   ran = running p k (powerIn k c first) J x (stepsIn cells n) (2 ^ k - 1)
 
   into : Begins (ran .steps) (times p (made (ran .steps) v) (ran .a) .steps)
   into = times-begins p (made (ran .steps) v) (ran .a)
 
-  pub run-room : Room p cells n (running p k (powerIn k c first) J x (stepsIn cells n) (2 ^ k - 1) .steps)
+  pub run-room : StepsRoom p cells n (running p k (powerIn k c first) J x (stepsIn cells n) (2 ^ k - 1) .steps)
   run-room = stored-room room (stored-own cells n (room .so-far)) (running-begin p k (powerIn k c first) J x (stepsIn cells n) 0 (2 ^ k - 1) (omega arith)) into
 
   module _ (cells′ : List ℕ) (n′ a b : ℕ) (e : Ran cells cells′ n′ a b (running p k (powerIn k c first) J x (stepsIn cells n) (2 ^ k - 1))) where
@@ -43,7 +43,7 @@ module _ (p k c first J x : ℕ) (cells : List ℕ) (n v : ℕ) (room : Room p c
     by-value : times p (made (ran .steps) v) a ≡ times p (made (ran .steps) v) (ran .a)
     by-value = ap (times p (made (ran .steps) v)) (e .a-is)
 
-    pub join-room : Room p cells′ n′ (times p (made (stepsIn cells′ n′) v) a .steps)
+    pub join-room : StepsRoom p cells′ n′ (times p (made (stepsIn cells′ n′) v) a .steps)
     join-room = emits-room room (λ m. times p m a) entered (times-begins p _ a) (rw by-value (begins-own (times p (made (ran .steps) v) (ran .a) .steps)))
 
     pub join-on : (cells″ : List ℕ) (n″ v″ : ℕ) → Emitted cells′ cells″ n″ v″ (times p (made (stepsIn cells′ n′) v) a)
@@ -78,8 +78,8 @@ module _ (p q k : ℕ) (amounts : List ℕ) (i : ℕ) where
     unfolding next
     more = join-begins p k (powerIn k c first) J x (yaoPayslip p q k amounts i before c)
 
-    pub column-room : (n : ℕ) → Room p old n (yaoPayslip p q k amounts i before p .steps) → c < p
-        → Room p cells m (joined p k (powerIn k c first) J x (made (stepsIn cells m) v) .steps)
+    pub column-room : (n : ℕ) → StepsRoom p old n (yaoPayslip p q k amounts i before p .steps) → c < p
+        → StepsRoom p cells m (joined p k (powerIn k c first) J x (made (stepsIn cells m) v) .steps)
     unfolding next
     column-room n room less = emits-room room next e more (rw next-is (columns-begin before (suc c) p less))
 
@@ -105,13 +105,13 @@ reaches p k c first J some narrow digits columns less low =
 
 -- the payslips: each after those before it
 module _ (p q k : ℕ) (amounts : List ℕ) (start : List Step) (old cells : List ℕ) (s i : ℕ)
-    (st : Stored old cells s (payslips (yaoSlip p q k amounts) start i .steps)) where
-  pub payslip-room : (n : ℕ) → Room p old n (payslips (yaoSlip p q k amounts) start q .steps) → i < q
-      → Room p cells s (yaoPayslip p q k amounts i (stepsIn cells s) p .steps)
+    (st : StepsStored old cells s (payslips (yaoSlip p q k amounts) start i .steps)) where
+  pub payslip-room : (n : ℕ) → StepsRoom p old n (payslips (yaoSlip p q k amounts) start q .steps) → i < q
+      → StepsRoom p cells s (yaoPayslip p q k amounts i (stepsIn cells s) p .steps)
   payslip-room n = pay-room (yaoSlip p q k amounts) start (slip-begins p q k amounts) old cells s i st p n q
 
   module _ (cells′ : List ℕ) (s′ v : ℕ) (e : Emitted cells cells′ s′ v (yaoPayslip p q k amounts i (stepsIn cells s) p)) where
-    pub payslip-steps : Stored old cells′ s′ (payslips (yaoSlip p q k amounts) start (i + 1) .steps)
+    pub payslip-steps : StepsStored old cells′ s′ (payslips (yaoSlip p q k amounts) start (i + 1) .steps)
     payslip-steps = pay-steps (yaoSlip p q k amounts) start (slip-begins p q k amounts) old cells s i st cells′ s′ v e
 
     pub payslip-output : (old′ outputs : List ℕ) → i < q → q ≤ length old′ → outputs ≡ over (payslips (yaoSlip p q k amounts) start i .outputs) old′

@@ -13,10 +13,10 @@ use Rattle.digits.proofs.Range.{sum-more, le-max, max-low, sign-sign, sign-add}
 use Rattle.digits.proofs.Count.{count-own, count-high}
 use Rattle.digits.proofs.Vector.{delta, sum-delta}
 use Rattle.sheet.specs.Sheet.{amount}
-use Rattle.methods.specs.Product.{Made, made}
+use Rattle.products.specs.Product.{Made, made}
 use Rattle.methods.specs.Powers.{largestIn, squarings}
-use Rattle.methods.proofs.Sound.{Begins, begins-on, makes-on, Sound}
-use Rattle.methods.proofs.Product.{times-cost, times-spent, Result, result-value, result-empty, result-like, result-after, result-times}
+use Rattle.products.proofs.Sound.{Begins, begins-on, makes-on, Sound}
+use Rattle.products.proofs.Product.{times-cost, times-spent, Result, result-value, result-empty, result-like, result-after, result-times}
 use Rattle.methods.proofs.Powers.{power-some, Powers, powers}
 use Rattle.yao.specs.Yao.{yaoDigits, yaoSquarings, yaoPower, Running, running, yaoPayslip, amountCount, joinCount}
 use Rattle.yao.proofs.Running.{running-makes}

@@ -10,9 +10,9 @@ use Rattle.chain.proofs.Exponents.{Makes, makes-zero, makes-like}
 use Rattle.digits.specs.Digits.{digit}
 use Rattle.digits.specs.Range.{sign}
 use Rattle.digits.proofs.Vector.{vector, vector-zero, digit-low, delta, delta-part}
-use Rattle.methods.specs.Product.{Made, made, times}
-use Rattle.methods.proofs.Sound.{Begins, begins-own, begins-on, makes-on, Sound}
-use Rattle.methods.proofs.Product.{Result, result-value, result-like, result-times}
+use Rattle.products.specs.Product.{Made, made, times}
+use Rattle.products.proofs.Sound.{Begins, begins-own, begins-on, makes-on, Sound}
+use Rattle.products.proofs.Product.{Result, result-value, result-like, result-times}
 use Rattle.yao.specs.Yao.{gather, Running, running}
 use Rattle.yao.proofs.Gather.{gather-makes}
 use Rattle.yao.proofs.Rounds.{each, in-b, rounds-none, b-next, a-next, a-all, a-low}

@@ -9,11 +9,11 @@ use Rattle.chain.specs.Written.{over}
 use Rattle.chain.specs.declared.Step.{Step}
 use Rattle.chain.proofs.Pairs.{length-flat}
 use Rattle.chain.proofs.Written.{over-over}
-use Rattle.methods.specs.Product.{payslips}
+use Rattle.products.specs.Product.{payslips}
 use Rattle.methods.specs.Powers.{countsOf, squarings}
-use Rattle.methods.specs.Emitted.{stepsIn, Room, Stored}
-use Rattle.methods.proofs.Sound.{Begins, begins-own, begins-length}
-use Rattle.methods.proofs.Emitted.{stored-is, stored-room}
+use Rattle.products.specs.Inner.{stepsIn, StepsRoom, StepsStored}
+use Rattle.products.proofs.Sound.{Begins, begins-own, begins-length}
+use Rattle.products.proofs.Emitted.{stored-is, stored-room}
 use Rattle.methods.proofs.Paying.{paid-begins}
 use Rattle.yao.specs.Yao.{yaoSquarings, yao, yaoCount}
 use Rattle.yao.specs.Emitted.{squaringsTo, yaoSlip}
@@ -31,7 +31,7 @@ module _ (p q : ℕ) (amounts : List ℕ) (k : ℕ) where
 
   module _ (counts old : List ℕ) (is : counts ≡ squaringsTo p q k amounts p) where
     module _ (some : 1 ≤ k) (columns : p ≤ 16) (small : yaoCount p q amounts k ≤ 16000) (fits : 2 * yaoCount p q amounts k ≤ length old) where
-      whole : Room p old 0 (yao p q amounts k .steps)
+      whole : StepsRoom p old 0 (yao p q amounts k .steps)
       whole =
           record {
             so-far = omega arith;
@@ -39,22 +39,22 @@ module _ (p q : ℕ) (amounts : List ℕ) (k : ℕ) where
             numbers-fit = omega (arith, yao-count p q amounts k some);
           }
 
-      pub powers-room : Room p old 0 (squarings p (countsOf counts) (length counts))
+      pub powers-room : StepsRoom p old 0 (squarings p (countsOf counts) (length counts))
       powers-room =
           let w = whole in
           let longer = begins-length powers-begin in
           rw (squared-as p q k amounts counts is)
           (record { so-far = omega arith; cells-hold = omega (arith, w .cells-hold); numbers-fit = omega (arith, w .numbers-fit) })
 
-      pub payslips-room : {cells : List ℕ} {n : ℕ} → Stored old cells n (squarings p (countsOf counts) (length counts))
-          → Room p cells n (payslips (yaoSlip p q k amounts) (stepsIn cells n) q .steps)
+      pub payslips-room : {cells : List ℕ} {n : ℕ} → StepsStored old cells n (squarings p (countsOf counts) (length counts))
+          → StepsRoom p cells n (payslips (yaoSlip p q k amounts) (stepsIn cells n) q .steps)
       unfolding yao
       payslips-room st =
           rw (stored-is st, squared-as p q k amounts counts is)
           (stored-room whole (rw (squared-as p q k amounts counts is) at st) powers-begin (begins-own _))
 
     -- the payslips' steps over the squarings, and their outputs, are the chain's
-    module _ (cells : List ℕ) (n : ℕ) (st : Stored old cells n (squarings p (countsOf counts) (length counts))) where
+    module _ (cells : List ℕ) (n : ℕ) (st : StepsStored old cells n (squarings p (countsOf counts) (length counts))) where
       pub chain-steps : (cells′ : List ℕ) → cells′ ≡ over (flat (payslips (yaoSlip p q k amounts) (stepsIn cells n) q .steps)) cells
           → cells′ ≡ over (flat (yao p q amounts k .steps)) old
       unfolding yao

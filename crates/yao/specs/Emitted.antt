@@ -6,9 +6,9 @@ use lib.ListN.{getD}
 use Rattle.chain.specs.declared.Step.{Step}
 use Rattle.digits.specs.Range.{sumTo}
 use Rattle.sheet.specs.Sheet.{amount}
-use Rattle.methods.specs.Product.{Made, made, times}
+use Rattle.products.specs.Product.{Made, made, times}
 use Rattle.methods.specs.Powers.{powerAt}
-use Rattle.methods.specs.Emitted.{Stored}
+use Rattle.products.specs.Inner.{StepsStored}
 use Rattle.yao.specs.Yao.{yaoDigits, yaoSquarings, Running, running, yaoPayslip, amountCount, joinCount}
 
 -- a column's powers: column c, the values after first, J of them, in base 2^k; their numbers fit 32 bits, and so does a number of J digits but for its top digit
@@ -25,7 +25,7 @@ powerIn k c first i = powerAt c first (k * i)
 
 -- the slice holds the steps of a running pair of products over what it held before
 pub record Ran (before cells : List ℕ) (n a b : ℕ) (r : Running) : Type 0 where
-  pub stored : Stored before cells n (r .steps)
+  pub stored : StepsStored before cells n (r .steps)
   pub a-is : a ≡ r .a
   pub b-is : b ≡ r .b
 

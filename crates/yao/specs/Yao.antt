@@ -8,7 +8,7 @@ use Rattle.chain.specs.declared.Step.{Step}
 use Rattle.digits.specs.Digits.{digitCount, digit}
 use Rattle.digits.specs.Range.{sumTo, maxTo, sign}
 use Rattle.sheet.specs.Sheet.{amount}
-use Rattle.methods.specs.Product.{Made, made, times, payslips}
+use Rattle.products.specs.Product.{Made, made, times, payslips}
 use Rattle.methods.specs.Powers.{largestIn, squarings, powerOf}
 
 -- "For each column, J digits in its largest amount (J = 0 if all are 0)"

@@ -5,11 +5,11 @@ ghost use lib.ListN.{length};
 ghost use Rattle.chain.specs.Chain.{mostColumns, mostPayslips, mostSteps, flat};
 ghost use Rattle.chain.specs.Written.{over};
 ghost use Rattle.digits.specs.Range.{sumTo};
-ghost use Rattle.methods.specs.Product.{made, payslips};
-ghost use Rattle.methods.specs.Emitted.{stepsIn, Room, Emitted};
+ghost use Rattle.products.specs.Product.{made, payslips};
+ghost use Rattle.products.specs.Inner.{stepsIn, StepsRoom, Emitted};
 ghost use Rattle.yao.specs.Yao.{yaoDigits, yaoSquarings, gatherOne, gather, running, yaoPayslip, yao, amountCount, yaoCount};
 ghost use Rattle.yao.specs.Emitted.{Reach, powerIn, Ran, Measured, squaringsTo, joined, yaoSlip, payslipCount};
-use methods::PartialProduct;
+use products::PartialProduct;
 
 // The powers of a column: its place, the value after which they are made, and how many they are.
 pub struct Column {
@@ -34,11 +34,11 @@ fn gather_one(
     power: u32,
     steps: &mut [u32],
 ) -> PartialProduct
-    requires { ⌜ Room p (now steps) (b .n) (gatherOne p digit d (made (stepsIn (now steps) (b .n)) (b .value)) power .steps) ⌝ }
+    requires { ⌜ StepsRoom p (now steps) (b .n) (gatherOne p digit d (made (stepsIn (now steps) (b .n)) (b .value)) power .steps) ⌝ }
     ensures { λ r. ⌜ Emitted (now (steps .entry)) (now (steps .exit)) (r .n) (r .value) (gatherOne p digit d (made (stepsIn (now (steps .entry)) (b .n)) (b .value)) power) ⌝ }
 {
     if digit == d {
-        return methods::times(p, b, power, steps);
+        return products::times(p, b, power, steps);
     }
     b
 }
@@ -54,7 +54,7 @@ fn gather_powers(
     steps: &mut [u32],
 ) -> PartialProduct
     requires { ⌜ Reach k (column .c) (column .first) (column .digits) ⌝ }
-    requires { ⌜ Room p (now steps) (b .n) (gather p k (powerIn k (column .c) (column .first)) x d (column .digits) (made (stepsIn (now steps) (b .n)) (b .value)) .steps) ⌝ }
+    requires { ⌜ StepsRoom p (now steps) (b .n) (gather p k (powerIn k (column .c) (column .first)) x d (column .digits) (made (stepsIn (now steps) (b .n)) (b .value)) .steps) ⌝ }
     ensures { λ r. ⌜ Emitted (now (steps .entry)) (now (steps .exit)) (r .n) (r .value) (gather p k (powerIn k (column .c) (column .first)) x d (column .digits) (made (stepsIn (now (steps .entry)) (b .n)) (b .value))) ⌝ }
 {
     let mut r = b;
@@ -70,7 +70,7 @@ fn gather_powers(
 // The products of a column for the amount x: for each digit from the largest down, b takes up its powers, then a takes up b.
 fn run_column(p: usize, k: usize, column: Column, x: u32, n: usize, steps: &mut [u32]) -> Pair
     requires { ⌜ Reach k (column .c) (column .first) (column .digits) ⌝ }
-    requires { ⌜ Room p (now steps) n (running p k (powerIn k (column .c) (column .first)) (column .digits) x (stepsIn (now steps) n) (2 ^ k - 1) .steps) ⌝ }
+    requires { ⌜ StepsRoom p (now steps) n (running p k (powerIn k (column .c) (column .first)) (column .digits) x (stepsIn (now steps) n) (2 ^ k - 1) .steps) ⌝ }
     ensures { λ r. ⌜ Ran (now (steps .entry)) (now (steps .exit)) (r .n) (r .a) (r .b) (running p k (powerIn k (column .c) (column .first)) (column .digits) x (stepsIn (now (steps .entry)) n) (2 ^ k - 1)) ⌝ }
 {
     let top = digits::power(k);
@@ -86,7 +86,7 @@ fn run_column(p: usize, k: usize, column: Column, x: u32, n: usize, steps: &mut 
             PartialProduct { n: s.n, value: s.b },
             steps,
         );
-        let a = methods::times(p, PartialProduct { n: b.n, value: s.a }, b.value, steps);
+        let a = products::times(p, PartialProduct { n: b.n, value: s.a }, b.value, steps);
         s = Pair {
             n: a.n,
             a: a.value,
@@ -232,13 +232,13 @@ fn join_column(
     steps: &mut [u32],
 ) -> PartialProduct
     requires { ⌜ Reach k (column .c) (column .first) (column .digits) ⌝ }
-    requires { ⌜ Room p (now steps) (m .n) (joined p k (powerIn k (column .c) (column .first)) (column .digits) x (made (stepsIn (now steps) (m .n)) (m .value)) .steps) ⌝ }
+    requires { ⌜ StepsRoom p (now steps) (m .n) (joined p k (powerIn k (column .c) (column .first)) (column .digits) x (made (stepsIn (now steps) (m .n)) (m .value)) .steps) ⌝ }
     ensures { λ r. ⌜ Emitted (now (steps .entry)) (now (steps .exit)) (r .n) (r .value) (joined p k (powerIn k (column .c) (column .first)) (column .digits) x (made (stepsIn (now (steps .entry)) (m .n)) (m .value))) ⌝ }
 {
     let n = m.n;
     let v = m.value;
     let s = run_column(p, k, column, x, n, steps);
-    methods::times(p, PartialProduct { n: s.n, value: v }, s.a, steps)
+    products::times(p, PartialProduct { n: s.n, value: v }, s.a, steps)
 }
 
 // Payslip i after n steps, column by column.
@@ -253,7 +253,7 @@ fn make_payslip(
     steps: &mut [u32],
 ) -> PartialProduct
     requires { ⌜ (p ≤ mostColumns) × (i < q) × (length (now amounts) ≡ p * q) × (0 < k) × (k < 32) × (p ≤ length (now columns)) × Measured p q k p (now amounts) (now columns) ⌝ }
-    requires { ⌜ Room p (now steps) n (yaoPayslip p q k (now amounts) i (stepsIn (now steps) n) p .steps) ⌝ }
+    requires { ⌜ StepsRoom p (now steps) n (yaoPayslip p q k (now amounts) i (stepsIn (now steps) n) p .steps) ⌝ }
     ensures { λ r. ⌜ Emitted (now (steps .entry)) (now (steps .exit)) (r .n) (r .value) (yaoPayslip p q k (now (amounts .entry)) i (stepsIn (now (steps .entry)) n) p) ⌝ }
 {
     let mut r = PartialProduct { n: n, value: 0 };
@@ -285,7 +285,7 @@ fn make_payslips(
     outputs: &mut [u32],
 )
     requires { ⌜ (p ≤ mostColumns) × (length (now amounts) ≡ p * q) × (0 < k) × (k < 32) × (q ≤ length (now outputs)) × (p ≤ length (now columns)) × Measured p q k p (now amounts) (now columns) ⌝ }
-    requires { ⌜ Room p (now steps) n (payslips (yaoSlip p q k (now amounts)) (stepsIn (now steps) n) q .steps) ⌝ }
+    requires { ⌜ StepsRoom p (now steps) n (payslips (yaoSlip p q k (now amounts)) (stepsIn (now steps) n) q .steps) ⌝ }
     ensures { λ r. ⌜ now (steps .exit) ≡ over (flat (payslips (yaoSlip p q k (now (amounts .entry))) (stepsIn (now (steps .entry)) n) q .steps)) (now (steps .entry)) ⌝ }
     ensures { λ r. ⌜ now (outputs .exit) ≡ over (payslips (yaoSlip p q k (now (amounts .entry))) (stepsIn (now (steps .entry)) n) q .outputs) (now (outputs .entry)) ⌝ }
 {

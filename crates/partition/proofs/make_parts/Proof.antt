@@ -1,8 +1,8 @@
 use mathlib.Core.Path.{_≡_}
 use Prim.Native.Nat.{_≤_, _-_}
 use lib.ListN.{length}
-use Rattle.methods.specs.Emitted.{stepsIn, Emitted}
-use Rattle.methods.proofs.Emitted.{emitted-own, length-stepsIn}
+use Rattle.products.specs.Inner.{stepsIn, Emitted}
+use Rattle.products.proofs.Emitted.{emitted-own, length-stepsIn}
 use Rattle.methods.specs.Powers.{countsOf}
 use borrow.Author.Needs.{needs}
 use Rattle.partition.specs.Inner.{partsBy}

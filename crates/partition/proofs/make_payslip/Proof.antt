@@ -1,8 +1,8 @@
 use mathlib.Core.List.{List}
 use Prim.Native.Nat.{ℕ, _^_, _<_}
 use lib.ListN.{getD, take}
-use Rattle.methods.specs.Emitted.{stepsIn}
-use Rattle.methods.proofs.Emitted.{length-stepsIn}
+use Rattle.products.specs.Inner.{stepsIn}
+use Rattle.products.proofs.Emitted.{length-stepsIn}
 use borrow.Author.Needs.{needs}
 use Rattle.partition.proofs.Paying.{first-few, members-long, parts-number, same-groups, slip-is}
 use Rattle.partition.proofs.Taking.{inputs-few, numbers-at, numbers-long}

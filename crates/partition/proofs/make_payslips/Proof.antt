@@ -3,8 +3,8 @@ use Prim.Native.Nat.{_≤_, _-_}
 use native.Mathlib.Omega.{arith}
 use lib.ListN.{length, length-set}
 use Rattle.chain.specs.Written.{over}
-use Rattle.methods.specs.Product.{payslips}
-use Rattle.methods.specs.Emitted.{stepsIn, Stored}
+use Rattle.products.specs.Product.{payslips}
+use Rattle.products.specs.Inner.{stepsIn, StepsStored}
 use Rattle.methods.proofs.Paying.{paid-none, over-none, paid-steps, paid-outputs, pay-room, pay-steps, pay-output}
 use borrow.Author.Needs.{needs}
 use Rattle.partition.proofs.Paying.{slip, slip-begins}
@@ -12,7 +12,7 @@ use Rattle.partition.proofs.make_payslips.Statement.{statement}
 use Rattle.partition.proofs.make_payslips.Tie as tie
 
 abbrev Inv-loop : tie.InvT-loop
-Inv-loop p q amounts bits c members first groups n cells₀ steps₀ outputs₀ s₀ i₀ cells steps outputs s i = (i ≤ q) × (length steps ≡ length steps₀) × (length outputs ≡ length outputs₀) × (q ≤ length outputs) × Stored steps₀ steps s (payslips (slip p q amounts c) (stepsIn steps₀ n) i .steps) × (outputs ≡ over (payslips (slip p q amounts c) (stepsIn steps₀ n) i .outputs) outputs₀) × (length cells ≡ length cells₀)
+Inv-loop p q amounts bits c members first groups n cells₀ steps₀ outputs₀ s₀ i₀ cells steps outputs s i = (i ≤ q) × (length steps ≡ length steps₀) × (length outputs ≡ length outputs₀) × (q ≤ length outputs) × StepsStored steps₀ steps s (payslips (slip p q amounts c) (stepsIn steps₀ n) i .steps) × (outputs ≡ over (payslips (slip p q amounts c) (stepsIn steps₀ n) i .outputs) outputs₀) × (length cells ≡ length cells₀)
 
 abbrev μ-loop : tie.MeasureT-loop
 μ-loop p q amounts bits c members first groups n cells₀ steps₀ outputs₀ s₀ i₀ cells steps outputs s i = q - i

@@ -2,8 +2,8 @@ use mathlib.Core.Path.{_≡_}
 use Prim.Native.Nat.{_≤_, _-_}
 use native.Mathlib.Omega.{arith}
 use lib.ListN.{length}
-use Rattle.methods.specs.Emitted.{stepsIn, Stored}
-use Rattle.methods.proofs.Emitted.{stored-own}
+use Rattle.products.specs.Inner.{stepsIn, StepsStored}
+use Rattle.products.proofs.Emitted.{stored-own}
 use borrow.Author.Needs.{needs}
 use Rattle.partition.specs.Partition.{groupCount, groupTables, inputs}
 use Rattle.partition.proofs.Counting.{group-inside}
@@ -12,7 +12,7 @@ use Rattle.partition.proofs.make_tables.Statement.{statement}
 use Rattle.partition.proofs.make_tables.Tie as tie
 
 abbrev Inv-loop : tie.InvT-loop
-Inv-loop p c inputs n steps₀ groups s₀ g₀ steps s g = (g ≤ groups) × (length steps ≡ length steps₀) × Stored steps₀ steps s (groupTables p c inputs (stepsIn steps₀ n) g)
+Inv-loop p c inputs n steps₀ groups s₀ g₀ steps s g = (g ≤ groups) × (length steps ≡ length steps₀) × StepsStored steps₀ steps s (groupTables p c inputs (stepsIn steps₀ n) g)
 
 abbrev μ-loop : tie.MeasureT-loop
 μ-loop p c inputs n steps₀ groups s₀ g₀ steps s g = groups - g

@@ -2,8 +2,8 @@ use borrow.Author.Needs.{needs}
 use mathlib.Core.Path.{_≡_}
 use Prim.Native.Nat.{_≤_, _-_}
 use lib.ListN.{length}
-use Rattle.methods.specs.Emitted.{stepsIn, Emitted}
-use Rattle.methods.proofs.Emitted.{emitted-own}
+use Rattle.products.specs.Inner.{stepsIn, Emitted}
+use Rattle.products.proofs.Emitted.{emitted-own}
 use Rattle.straus.proofs.Emitting.{digitsMade, digit-room, digit-on, digits-end, entry-place, entry-number, digit-fits}
 use Rattle.straus.proofs.make_payslip.Statement.{statement}
 use Rattle.straus.proofs.make_payslip.Tie as tie

@@ -2,8 +2,8 @@ use borrow.Author.Needs.{needs}
 use mathlib.Core.Path.{_≡_}
 use Prim.Native.Nat.{_≤_, _-_}
 use lib.ListN.{length}
-use Rattle.methods.specs.Product.{made}
-use Rattle.methods.specs.Emitted.{stepsIn, Emitted}
+use Rattle.products.specs.Product.{made}
+use Rattle.products.specs.Inner.{stepsIn, Emitted}
 use Rattle.yao.specs.Yao.{gather}
 use Rattle.yao.specs.Emitted.{powerIn}
 use Rattle.yao.proofs.Emitting.{power-product, power-place, digit-reach, powers-on, gathering}

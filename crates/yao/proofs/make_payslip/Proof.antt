@@ -6,8 +6,8 @@ use Rattle.digits.specs.Range.{sumTo}
 use native.Mathlib.Omega.{arith}
 use Rattle.yao.proofs.Measuring.{column-is, column-few}
 use Rattle.sheet.proofs.Amounts.{amount-there}
-use Rattle.methods.specs.Emitted.{stepsIn, Emitted}
-use Rattle.methods.proofs.Emitted.{emitted-own}
+use Rattle.products.specs.Inner.{stepsIn, Emitted}
+use Rattle.products.proofs.Emitted.{emitted-own}
 use Rattle.yao.specs.Yao.{yaoSquarings, yaoPayslip}
 use Rattle.yao.proofs.Paying.{first-on, reaches, column-room, column-on, columns-end}
 use Rattle.yao.proofs.make_payslip.Statement.{statement}

@@ -4,7 +4,7 @@ use Prim.Native.Nat.{ℕ, _+_, _-_, _^_, _≤_}
 use native.Mathlib.Omega.{arith}
 use lib.ListN.{length}
 use lib.Pow.{pow-pos}
-use Rattle.methods.specs.Emitted.{stepsIn}
+use Rattle.products.specs.Inner.{stepsIn}
 use Rattle.yao.specs.Yao.{running}
 use Rattle.yao.specs.Emitted.{powerIn, Ran}
 use Rattle.yao.proofs.Emitting.{running-start, b-room, a-room, a-on, running-end}

@@ -1,7 +1,7 @@
--- Laws by which the columns' functions keep to their contracts: the largest amount of a column, and the squarings column by column.
-use mathlib.Core.Path.{_≡_, refl, sym, ap, _∙_}
+-- The largest amount grows payslip by payslip, and the squarings column by column: each column's are appended to those before it.
+use mathlib.Core.Path.{_≡_, refl, ap, _∙_}
 use mathlib.Core.List.{List}
-use Prim.Native.Nat.{ℕ, zero, suc, _+_, _*_, _^_, _≤_, _<_, max}
+use Prim.Native.Nat.{ℕ, zero, suc, _+_, _≤_, _<_, max}
 use native.Mathlib.Numerals.{add-one}
 use native.Mathlib.Omega.{arith}
 use lib.ListN.{length, getD}

@@ -1,4 +1,4 @@
--- Payslips made one after the other: where each is right after any sound steps, all are, and their steps add up.
+-- By induction on the payslips: where each is right after any sound steps, all are, and their steps add up.
 use mathlib.Core.Path.{_≡_, refl, _∙_}
 use mathlib.Core.List.{List, [], _∷_, _++_}
 use Prim.Native.Nat.{ℕ, zero, suc, _+_, _<_}

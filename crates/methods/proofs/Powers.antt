@@ -1,4 +1,4 @@
--- Laws of the powers of the bases by repeated squaring: what they make, and how many steps they cost.
+-- By induction on the columns: j squarings of a base make 2^j of its column, at the value number that the squarings before it tell.
 use mathlib.Core.Path.{_≡_, refl, sym, ap, _∙_}
 use Prim.Native.Nat.{ℕ, zero, suc, _+_, _*_, _^_, _≤_, _<_}
 use native.Mathlib.Nat.{one-mul, le-refl, le-trans}

@@ -1,1 +1,3 @@
 pub mod Powers
+pub mod Method
+pub mod Inner

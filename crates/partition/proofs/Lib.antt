@@ -11,3 +11,4 @@ pub mod Taking
 pub mod Emitting
 pub mod Paying
 pub mod Whole
+pub mod Right

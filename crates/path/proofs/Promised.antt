@@ -19,9 +19,10 @@ use Rattle.run.proofs.Accepted.{accepting}
 use Rattle.run.proofs.Residues.{figure-law}
 use Rattle.file.specs.File.{byteCount, fileOf, writeRule, readRule}
 use Rattle.file.proofs.ReadingBack.{ReadBack, reading-gives, reading-back}
-use Rattle.compile.specs.Compile.{chainOf, count, ceiling, acceptedRule, compileRule}
+use Rattle.compile.specs.Compile.{methodOf, chainOf, count, ceiling, acceptedRule, compileRule}
 use Rattle.compile.proofs.Fits.{Accepted, accepted}
-use Rattle.compile.proofs.Right.{Right, compiled-right}
+use Rattle.methods.proofs.Right.{Right}
+use Rattle.compile.proofs.Right.{compiled-right}
 
 -- what is promised of the chain c of an accepted sheet, with n its count and most its ceiling
 pub record Promised (p q : ℕ) (amounts : List ℕ) (method k : ℕ) (c : Chain) (n most : ℕ) : Type 0 where
@@ -49,7 +50,7 @@ module _ (p q : ℕ) (amounts : List ℕ) (method k : ℕ) (low : (j : ℕ) → 
   fits : Accepted p q amounts method k
   fits = accepted p q amounts method k ok
 
-  right : Right p q amounts c (count p q amounts method k) (ceiling p q amounts method k)
+  right : Right p q amounts (methodOf p q amounts method k)
   right = compiled-right p q amounts method k low (fits .fitting .fits)
 
   sizes : Sizes p (length (c .outputs))

@@ -1,4 +1,4 @@
--- Laws of steps in a lent slice while they are being made: what the slice holds, one step more, and emitters one after the other.
+-- Steps stored over a slice's front are read back as they are; so emitters that each append steps can be put one after the other.
 use mathlib.Core.Path.{_≡_, refl, sym, ap, ap₂, _∙_}
 use mathlib.Core.List.{List, [], _∷_, _++_, append-assoc}
 use Prim.Native.Nat.{ℕ, _+_, _*_, _≤_, _<_, min, max}

@@ -1,4 +1,4 @@
--- Laws by which the emitters of products keep to their contracts.
+-- A product is a copy or one step more, and squarings are products in a row: each has room because the whole has it.
 use mathlib.Core.Path.{_≡_, refl, sym, ap, _∙_}
 use mathlib.Core.List.{List, [], _∷_, _++_}
 use Prim.Native.Nat.{ℕ, suc, _+_, _*_, _^_, _≤_, _<_}

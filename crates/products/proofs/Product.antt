@@ -1,4 +1,4 @@
--- Laws of products in the making: what a product makes, and how many steps it costs.
+-- A product has the sum of the exponents of its sides and costs a step where neither is empty, so it grows by one step with each nonempty factor.
 use mathlib.Core.Path.{_≡_, refl, sym, ap, _∙_}
 use mathlib.Core.List.{List, [], _∷_, _++_}
 use Prim.Native.Nat.{ℕ, zero, suc, _+_, _*_, _^_, _≤_, _<_}

@@ -1,4 +1,4 @@
--- Chains in the making: steps that begin with others, and sound steps, which are legal and keep every exponent to a limit.
+-- Steps only get more: what a value is stays so, and a step of two known values keeps the steps legal and their exponents within a limit.
 use mathlib.Core.Path.{_≡_, refl, sym, ap, _∙_}
 use mathlib.Core.List.{List, [], _∷_, _++_, append-nil, append-assoc}
 use Prim.Native.Nat.{ℕ, zero, suc, _+_, _≤_, _<_, min, max}

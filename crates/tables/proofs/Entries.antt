@@ -1,4 +1,4 @@
--- What a table's entries make, for any inputs: entry t makes the sum of digit j of t times the exponents of input j.
+-- By induction on t: an entry is its rest, made before it, and one input, so entry t makes the sum of digit j of t times the exponents of input j.
 use mathlib.Core.Bool.{Bool, true, false}
 use mathlib.Core.Path.{_≡_, refl, sym, ap, _∙_}
 use mathlib.Core.List.{List, [], _∷_, _++_, append-nil, append-assoc}

@@ -1,4 +1,4 @@
--- Laws of a table's shape: its entries' value numbers, the lowest digit, and how many steps it has.
+-- A number has a digit more than the one before exactly if it is a unit, so among 1 to t there are as many units as t has digits: that numbers the entries.
 use mathlib.Core.Bool.{Bool, true, false}
 use mathlib.Core.Path.{_≡_, refl, sym, ap, _∙_}
 use mathlib.Core.List.{List, [], _∷_, _++_}

@@ -1,4 +1,4 @@
--- Laws by which the emitter of a table keeps to its contract.
+-- A table is emitted entry by entry: each entry appends its step or none, whatever stands before, and every number it computes with fits 32 bits.
 use mathlib.Core.Bool.{Bool, true, false, cond}
 use mathlib.Core.Path.{_≡_, refl, sym, ap, _∙_}
 use mathlib.Core.List.{List, [], _∷_, _++_, append-nil, append-assoc}
@@ -121,15 +121,18 @@ module _ (k : ℕ) (inputs : List ℕ) (at t : ℕ) where
   unfolding tableNext
   none-unit cells n b h u e = rw (or-right (t =? 0) (isUnit k t) (sym u ∙ e)) (stored-own cells n h)
 
-  new-entry : (b : Bool) (before : List Step) → 0 < t → b ≡ isUnit k t → b ≡ false
-      → tableNext k inputs at t before ≡ before ++ ordered (entry k inputs at (t - 2 ^ (k * lowest k t))) (getD inputs (lowest k t) 0) ∷ []
+  -- the step of an entry that is neither
+  abbrev next-step : Step
+  next-step = ordered (entry k inputs at (t - 2 ^ (k * lowest k t))) (getD inputs (lowest k t) 0)
+
+  new-entry : (b : Bool) (before : List Step) → 0 < t → b ≡ isUnit k t → b ≡ false → tableNext k inputs at t before ≡ before ++ next-step ∷ []
   unfolding tableNext
   new-entry b before h u e = rw (or-none (t =? 0) (isUnit k t) (eq-no t 0 (omega arith)) (sym u ∙ e))
 
   pub entry-fits : (cells : List ℕ) (n : ℕ) (b : Bool) → 0 < t → b ≡ isUnit k t → b ≡ false → 2 * n ≤ length cells
       → 2 * length (tableNext k inputs at t (stepsIn cells n)) ≤ length cells → 2 * n + 2 ≤ length cells
   entry-fits cells n b h u e fits room =
-      omega (arith, ap length (new-entry b (stepsIn cells n) h u e), length-append (stepsIn cells n) (ordered (entry k inputs at (t - 2 ^ (k * lowest k t))) (getD inputs (lowest k t) 0) ∷ []), length-stepsIn cells n fits)
+      omega (arith, ap length (new-entry b (stepsIn cells n) h u e), length-append (stepsIn cells n) (next-step ∷ []), length-stepsIn cells n fits)
 
   pub entry-stored : (cells cells′ : List ℕ) (n l w rest : ℕ) (b : Bool) → 0 < t → b ≡ isUnit k t → b ≡ false → l ≡ lowest k t → w ≡ 2 ^ (k * l)
       → rest ≡ entry k inputs at (t - w) → StepsStored cells cells′ (n + 1) (stepsIn cells n ++ ordered rest (getD inputs l 0) ∷ [])
@@ -142,23 +145,17 @@ module _ (k : ℕ) (inputs : List ℕ) (at t : ℕ) where
   unfolding tableNext
   next-begins before = by-test (t =? 0 or isUnit k t)
     where
-      x : Step
-      x = ordered (entry k inputs at (t - 2 ^ (k * lowest k t))) (getD inputs (lowest k t) 0)
-
-      by-test : (b : Bool) → Begins before (cond b before (before ++ x ∷ []))
+      by-test : (b : Bool) → Begins before (cond b before (before ++ next-step ∷ []))
       by-test true = begins-own before
-      by-test false = begins-more before (x ∷ [])
+      by-test false = begins-more before (next-step ∷ [])
 
   next-front : (front before : List Step) → tableNext k inputs at t (front ++ before) ≡ front ++ tableNext k inputs at t before
   unfolding tableNext
   next-front front before = by-test (t =? 0 or isUnit k t)
     where
-      x : Step
-      x = ordered (entry k inputs at (t - 2 ^ (k * lowest k t))) (getD inputs (lowest k t) 0)
-
-      by-test : (b : Bool) → cond b (front ++ before) (front ++ before ++ x ∷ []) ≡ front ++ cond b before (before ++ x ∷ [])
+      by-test : (b : Bool) → cond b (front ++ before) (front ++ before ++ next-step ∷ []) ≡ front ++ cond b before (before ++ next-step ∷ [])
       by-test true = refl
-      by-test false = append-assoc front before (x ∷ [])
+      by-test false = append-assoc front before (next-step ∷ [])
 
 pub ruleset extending = (above-zero, lowest-fits, lowest-part, lowest-input, none-zero, none-unit, entry-fits, entry-stored)
 
@@ -197,7 +194,8 @@ module _ (k : ℕ) (inputs : List ℕ) (at : ℕ) (front : List Step) where
       let last : T ≡ t = omega arith in
       rw last st
 
-pub table-start : (p k : ℕ) (inputs : List ℕ) (at : ℕ) (cells : List ℕ) (n : ℕ) (steps : List Step) → StepsRoom p cells n steps → StepsStored cells cells n (stepsIn cells n ++ table k inputs at 0)
+pub table-start : (p k : ℕ) (inputs : List ℕ) (at : ℕ) (cells : List ℕ) (n : ℕ) (steps : List Step) → StepsRoom p cells n steps
+    → StepsStored cells cells n (stepsIn cells n ++ table k inputs at 0)
 table-start p k inputs at cells n steps room = rw (append-nil (stepsIn cells n)) (stored-own cells n (room .so-far))
 
 pub ruleset tabling = (table-start, table-before, table-holds, table-on, table-end)

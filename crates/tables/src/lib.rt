@@ -67,7 +67,8 @@ fn make_entry(k: usize, inputs: &[u32], at: u32, t: u32, n: usize, steps: &mut [
 pub fn make_table(p: usize, k: usize, inputs: &[u32], n: usize, steps: &mut [u32]) -> usize
     requires { ⌜ (0 < k) × (k < 32) × (k * length (now inputs) < 32) × (p + n + 2 ^ (k * length (now inputs)) < 2 ^ 32) ⌝ }
     requires { ⌜ StepsRoom p (now steps) n (stepsIn (now steps) n ++ table k (now inputs) (p + n + 1) (2 ^ (k * length (now inputs)))) ⌝ }
-    ensures { λ r. ⌜ StepsStored (now (steps .entry)) (now (steps .exit)) r (stepsIn (now (steps .entry)) n ++ table k (now (inputs .entry)) (p + n + 1) (2 ^ (k * length (now (inputs .entry))))) ⌝ }
+    ensures { λ r. ⌜ StepsStored (now (steps .entry)) (now (steps .exit)) r
+        (stepsIn (now (steps .entry)) n ++ table k (now (inputs .entry)) (p + n + 1) (2 ^ (k * length (now (inputs .entry))))) ⌝ }
 {
     let at = (p + n + 1) as u32;
     let end = digits::power(k * inputs.len());

@@ -10,6 +10,7 @@ use Rattle.digits.specs.Range.{sumTo, maxTo, sign}
 use Rattle.sheet.specs.Sheet.{amount}
 use Rattle.products.specs.Product.{Made, made, times, payslips}
 use Rattle.methods.specs.Powers.{largestIn, squarings, powerOf}
+use Rattle.methods.specs.Method.{Method}
 
 -- "For each column, J digits in its largest amount (J = 0 if all are 0)"
 unfoldable pub yaoDigits : ℕ → ℕ → ℕ → List ℕ → ℕ → ℕ
@@ -80,3 +81,6 @@ unfoldable pub yaoCeiling : ℕ → ℕ → List ℕ → ℕ → ℕ
 yaoCeiling p q amounts k =
     sumTo p (yaoSquarings p q k amounts)
     + sumTo q (λ i. sumTo p (λ c. sign (amount p amounts i c) * (yaoDigits p q k amounts c + 2 ^ k - 3)) + joinCount p amounts i)
+
+abbrev pub yaoMethod : ℕ → ℕ → List ℕ → ℕ → Method
+yaoMethod p q amounts k = record { chain = yao p q amounts k; count = yaoCount p q amounts k; ceiling = yaoCeiling p q amounts k }

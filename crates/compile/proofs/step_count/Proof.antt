@@ -2,7 +2,7 @@ use mathlib.Core.Path.{sym, _∙_}
 use native.Mathlib.Omega.{arith}
 use denote.Ref.{now}
 use Rattle.compile.proofs.Fits.{Fitting, fitting, first-asks, other-asks}
-use Rattle.compile.proofs.ByMethod.{is-straus, is-yao, is-partition}
+use Rattle.compile.proofs.ByMethod.{is-straus, is-yao, is-partition, same-count}
 use Rattle.compile.proofs.step_count.Statement.{statement}
 use Rattle.compile.proofs.step_count.Tie as tie
 
@@ -20,13 +20,13 @@ count-requires-3 : tie.Need-count-requires-3
 count-requires-3 c κs = other-asks (given (c .before .before)) (λ e. omega arith)
 
 returns : tie.Need-returns
-returns c = c .count .ensures ∙ sym (is-straus _ _ _ _ _ (omega arith) .counted)
+returns c = c .count .ensures ∙ sym (same-count (is-straus _ _ _ _ _ (omega arith)))
 
 returns-2 : tie.Need-returns-2
-returns-2 c = c .count2 .ensures ∙ sym (is-yao _ _ _ _ _ (omega arith) .counted)
+returns-2 c = c .count2 .ensures ∙ sym (same-count (is-yao _ _ _ _ _ (omega arith)))
 
 returns-3 : tie.Need-returns-3
-returns-3 c = c .count3 .ensures ∙ sym (is-partition _ _ _ _ _ (λ e. omega arith) (λ e. omega arith) .counted)
+returns-3 c = c .count3 .ensures ∙ sym (same-count (is-partition _ _ _ _ _ (λ e. omega arith) (λ e. omega arith)))
 
 pub step-count-spec : {M : Type 1} → statement M
 step-count-spec =

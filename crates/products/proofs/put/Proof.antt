@@ -1,3 +1,4 @@
+-- Either order of the two operands stores the larger one first.
 use borrow.Author.Needs.{needs}
 use lib.ListN.{length-set}
 use Rattle.products.proofs.Emitted.{put-rising, put-falling}

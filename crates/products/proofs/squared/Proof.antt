@@ -1,3 +1,4 @@
+-- One squaring a turn: the invariant is the product squared so often, whose steps the whole begins with.
 use borrow.Author.Needs.{needs}
 use mathlib.Core.Path.{_≡_}
 use Prim.Native.Nat.{_≤_, _-_}

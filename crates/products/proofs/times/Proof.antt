@@ -1,3 +1,4 @@
+-- The three cases of a product: a copy of the value, a copy of the product, or one step more.
 use borrow.Author.Needs.{needs}
 use Rattle.products.proofs.Emitters.{multiplying}
 use Rattle.products.proofs.times.Statement.{statement}

@@ -1,3 +1,4 @@
+-- The three cases of an entry: zero, a unit, or the step that its number tells.
 use borrow.Author.Needs.{needs}
 use native.Mathlib.Omega.{arith}
 use Rattle.tables.proofs.Tabling.{entering, digits-few}

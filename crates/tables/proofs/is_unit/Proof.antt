@@ -1,3 +1,4 @@
+-- A number is a unit exactly if it is the weight of its top digit.
 use borrow.Author.Needs.{needs, fits-under}
 use Rattle.tables.proofs.Tabling.{entering}
 use Rattle.tables.proofs.is_unit.Statement.{statement}

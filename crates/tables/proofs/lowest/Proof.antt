@@ -1,3 +1,4 @@
+-- One digit a turn: what is left to seek begins at the next digit.
 use borrow.Author.Needs.{needs}
 use mathlib.Core.Path.{_≡_}
 use Prim.Native.Nat.{_≤_, _-_}

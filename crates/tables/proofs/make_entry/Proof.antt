@@ -1,3 +1,4 @@
+-- Zero and units cost no step; any other entry is its rest, which has a smaller number, times one input.
 use borrow.Author.Needs.{needs, fits-under}
 use Rattle.tables.proofs.Tabling.{above-zero, lowest-input, entry-fits, extending}
 use Rattle.tables.proofs.make_entry.Statement.{statement}

@@ -1,3 +1,4 @@
+-- One entry a turn: the invariant is the table of the entries so far, after the steps that were there.
 use borrow.Author.Needs.{needs}
 use mathlib.Core.Path.{_≡_}
 use mathlib.Core.List.{_++_}

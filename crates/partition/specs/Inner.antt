@@ -1,42 +1,40 @@
--- A payslip's bits in a row, cut into parts: what the functions that lay the parts are asked and leave.
+-- Inner vocabulary: what the functions of this crate ask and leave; nobody has to believe it to believe an entry point's promise.
 use mathlib.Core.Path.{_≡_}
 use mathlib.Core.List.{List}
-use Prim.Native.Nat.{ℕ, zero, suc, _+_, _-_, _*_, _/_, _^_, _≤_, _<_}
-use lib.ListN.{length, getD}
-use Rattle.chain.specs.Written.{over, laid}
+use Prim.Native.Nat.{ℕ, zero, suc, _*_, _^_, _≤_, _<_}
+use lib.ListN.{length}
+use Rattle.chain.specs.Chain.{Chain}
 use Rattle.chain.specs.declared.Step.{Step}
-use Rattle.digits.specs.Digits.{digit}
-use Rattle.digits.specs.Range.{sumTo, listTo}
-use Rattle.products.specs.Product.{Made, made, times}
+use Rattle.products.specs.Product.{Made, made, times, payslips}
 use Rattle.tables.specs.Table.{entry}
-use Rattle.partition.specs.Partition.{columnBits, group, groupTables, selection, weigh}
-
--- the number of n bits of a list from place s on, the first with weight 1
-abbrev pub numberAt : List ℕ → ℕ → ℕ → ℕ
-numberAt l s n = sumTo n (λ j. getD l (s + j) 0 * 2 ^ (1 * j))
-
--- parts of c bits are cut off the front of a row and laid from cell g on: of held bits, with the number row, held′ are left, with the number row′,
--- and the next part is for cell g′
-pub record Cut (c row held g row′ held′ g′ : ℕ) (old cells : List ℕ) : Type 0 where
-  pub onward : g ≤ g′
-  pub left : held′ + (g′ - g) * c ≡ held
-  pub rest : row′ ≡ row / 2 ^ (c * (g′ - g))
-  pub parts-are : cells ≡ laid g (listTo (g′ - g) (digit c row)) old
-
--- the numbers of a payslip's parts of the first n groups
-abbrev pub numbersOf : ℕ → ℕ → List ℕ → List ℕ
-numbersOf c n l = listTo n (λ g. weigh (group c g l))
-
--- the bits of the first n columns of payslip i are entered: the whole parts are laid, and held bits are left in the row
-pub record Entered (p q : ℕ) (amounts : List ℕ) (c i n row held g : ℕ) (old cells : List ℕ) : Type 0 where
-  pub place : held + g * c ≡ sumTo n (columnBits p q amounts)
-  pub short : held < c
-  pub waiting : row ≡ numberAt (selection p q amounts i) (g * c) held
-  pub parts-are : cells ≡ over (numbersOf c g (selection p q amounts i)) old
+use Rattle.methods.specs.Powers.{countsOf}
+use Rattle.groups.specs.declared.Grouping.{Grouping}
+use Rattle.groups.specs.Groups.{group, inputs, mostInputs}
+use Rattle.groups.specs.Inner.{Cuts, Grouped, tableAt}
+use Rattle.partition.specs.Partition.{partitionPayslip}
 
 -- the parts of a payslip with these numbers, multiplied in order: the first g groups
-abbrev pub partsBy : ℕ → ℕ → List ℕ → List Step → (ℕ → ℕ) → List Step → ℕ → Made
-partsBy p c members start number before zero = made before 0
-partsBy p c members start number before (suc g) =
-    times p (partsBy p c members start number before g)
-    (entry 1 (group c g members) (p + length (groupTables p c members start g) + 1) (number g))
+abbrev pub partsBy : Grouping → List ℕ → (ℕ → ℕ) → List Step → ℕ → Made
+partsBy s members number before zero = made before 0
+partsBy s members number before (suc g) =
+    times (s .p) (partsBy s members number before g) (entry 1 (group (s .c) g members) (tableAt s g) (number g))
+
+-- numbers of a payslip's parts, one for each group of these inputs
+pub record Numbered (s : Grouping) (members numbers : List ℕ) : Type 0 where
+  pub cuts : Cuts s
+  pub members-long : length members ≡ s .inputs
+  pub numbers-long : length numbers ≡ s .groups
+  pub numbers-low : (g : ℕ) → g < s .groups → countsOf numbers g < 2 ^ (1 * length (group (s .c) g members))
+
+-- a grouped sheet, its inputs' value numbers, and a cell for each part of a payslip
+pub record Ready (s : Grouping) (amounts bits members cells : List ℕ) : Type 0 where
+  pub grouped : Grouped s amounts bits
+  pub members-are : members ≡ inputs (s .p) (s .q) amounts
+  pub room : mostInputs ≤ length cells
+
+-- payslip i of a grouped sheet, and all of them
+abbrev pub payslipOf : Grouping → List ℕ → ℕ → List Step → Made
+payslipOf s amounts = partitionPayslip (s .p) (s .q) amounts (s .c)
+
+abbrev pub payslipsOf : Grouping → List ℕ → List Step → Chain
+payslipsOf s amounts start = payslips (payslipOf s amounts) start (s .q)

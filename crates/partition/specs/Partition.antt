@@ -1,54 +1,14 @@
 -- Method 3 (document 01): "partition, parameter c" (recursion level 1 of source document 001, section 6, over binary digits).
-use mathlib.Core.List.{List, [], _∷_, _++_}
-use Prim.Native.Nat.{ℕ, zero, suc, _+_, _-_, _*_, _/_, _^_, min}
-use lib.ListN.{length, take, drop}
-use Rattle.chain.specs.Chain.{Chain, mostColumns}
+-- The squarings, the groups and their tables stand in groups.
+use mathlib.Core.List.{List}
+use Prim.Native.Nat.{ℕ, zero, suc, _+_, _-_, _*_}
+use lib.ListN.{length}
+use Rattle.chain.specs.Chain.{Chain}
 use Rattle.chain.specs.declared.Step.{Step}
-use Rattle.digits.specs.Digits.{bitLength, digit}
-use Rattle.digits.specs.Range.{sumTo, sign, listTo}
-use Rattle.sheet.specs.Sheet.{amount}
+use Rattle.digits.specs.Range.{sumTo, sign}
 use Rattle.products.specs.Product.{Made, made, times, payslips}
-use Rattle.tables.specs.Table.{entry, table}
-use Rattle.methods.specs.Powers.{largestIn, squarings, powerOf}
-
--- no sheet has more inputs: an amount has at most 32 bits
-abbrev pub mostInputs : ℕ
-mostInputs = mostColumns * 32
-
--- "All bases so made, low power first, zero columns giving none, are w inputs": f at each input of the first columns
-abbrev pub overInputs : (ℕ → ℕ) → (ℕ → ℕ → ℕ) → ℕ → List ℕ
-overInputs bits f zero = []
-overInputs bits f (suc col) = overInputs bits f col ++ listTo (bits col) (f col)
-
--- "Cut them in order into groups of c, the last perhaps shorter": group g, counted from 0, and "G being w/c rounded up"
-abbrev pub group : ℕ → ℕ → List ℕ → List ℕ
-group c g l = take c (drop (g * c) l)
-
-abbrev pub groupCount : ℕ → ℕ → ℕ
-groupCount c w = (w + c - 1) / c
-
-abbrev pub groupSize : ℕ → ℕ → ℕ → ℕ
-groupSize c w g = min c (w - g * c)
-
--- the number of a part of a group: "its first input has weight 1"
-abbrev pub weigh : List ℕ → ℕ
-weigh [] = 0
-weigh (b ∷ r) = b + 2 * weigh r
-
--- "Per group, in rising t, make each subset of two or more from itself less its lowest member, and that member": the first g groups, after the squarings
-abbrev pub groupTables : ℕ → ℕ → List ℕ → List Step → ℕ → List Step
-groupTables p c members before zero = before
-groupTables p c members before (suc g) =
-    let r = groupTables p c members before g in
-    r ++ table 1 (group c g members) (p + length r + 1) (2 ^ length (group c g members))
-
--- "2^g − g − 1 for a group of g": the first n groups of w inputs
-abbrev pub tablesCount : ℕ → ℕ → ℕ → ℕ
-tablesCount c w n = sumTo n (λ g. 2 ^ groupSize c w g - groupSize c w g - 1)
-
--- the groups' part of the ceiling: "G(2^c − c − 1)"
-abbrev pub groupCeiling : ℕ → ℕ → ℕ
-groupCeiling c w = groupCount c w * (2 ^ c - c - 1)
+use Rattle.tables.specs.Table.{entry}
+use Rattle.groups.specs.Groups.{group, groupCeiling, groupCount, groupTables, inputCount, inputs, selection, sheetSquarings, sheetTables, squaringCount, tablesCount, weigh}
 
 -- "Then each payslip multiplies its nonempty group parts in order": the first g groups; an empty part is a copy
 abbrev pub parts : ℕ → ℕ → List ℕ → List Step → List ℕ → List Step → ℕ → Made
@@ -58,52 +18,27 @@ parts p c members start bits before (suc g) =
     (entry 1 (group c g members) (p + length (groupTables p c members start g) + 1) (weigh (group c g bits)))
 
 -- of a sheet
-module _ (p q : ℕ) (amounts : List ℕ) where
-  -- "the bit length of its largest amount", of column col
-  unfoldable pub columnBits : ℕ → ℕ
-  unfolding bitLength
-  columnBits col = bitLength (largestIn p q amounts col)
+module _ (p q : ℕ) (amounts : List ℕ) (c : ℕ) where
+  -- "its nonempty parts less 1", of payslip i over n groups
+  abbrev pub joinCount : ℕ → ℕ → ℕ
+  joinCount n i = sumTo n (λ g. sign (weigh (group c g (selection p q amounts i)))) - 1
 
-  -- "Column by column, square the base up to the bit length of its largest amount."
-  abbrev pub columnSquarings : ℕ → ℕ
-  columnSquarings col = columnBits col - 1
+  -- payslip i after the steps before it
+  abbrev pub partitionPayslip : ℕ → List Step → Made
+  partitionPayslip i before =
+      parts p c (inputs p q amounts) (sheetSquarings p q amounts) (selection p q amounts i) before (groupCount c (inputCount p q amounts))
 
-  -- the inputs' value numbers
-  unfoldable pub inputs : List ℕ
-  unfolding columnBits
-  inputs = overInputs columnBits (powerOf p columnSquarings) p
+  unfoldable pub partition : Chain
+  partition = payslips partitionPayslip (sheetTables p q amounts c) q
 
-  -- which inputs payslip i uses, 1 or 0 for each
-  unfoldable pub selection : ℕ → List ℕ
-  unfolding columnBits
-  selection i = overInputs columnBits (λ col j. digit 1 (amount p amounts i col) j) p
+  -- "Count: squarings, 2^g − g − 1 for a group of g, and for each nonzero payslip its nonempty parts less 1."
+  unfoldable pub partitionCount : ℕ
+  partitionCount =
+      let w = inputCount p q amounts in
+      squaringCount p q amounts + tablesCount c w (groupCount c w) + sumTo q (joinCount (groupCount c w))
 
-  -- w
-  abbrev pub inputCount : ℕ
-  inputCount = sumTo p columnBits
-
-  -- "squarings (w less nonzero columns)"
-  abbrev pub squaringCount : ℕ
-  squaringCount = sumTo p columnSquarings
-
-  -- with the parameter
-  module _ (c : ℕ) where
-    -- "its nonempty parts less 1", of payslip i over n groups
-    abbrev pub joinCount : ℕ → ℕ → ℕ
-    joinCount n i = sumTo n (λ g. sign (weigh (group c g (selection i)))) - 1
-
-    unfoldable pub partition : Chain
-    partition =
-        let start = squarings p columnSquarings p in
-        let G = groupCount c inputCount in
-        payslips (λ i before. parts p c inputs start (selection i) before G) (groupTables p c inputs start G) q
-
-    -- "Count: squarings, 2^g − g − 1 for a group of g, and for each nonzero payslip its nonempty parts less 1."
-    unfoldable pub partitionCount : ℕ
-    partitionCount =
-        let G = groupCount c inputCount in
-        squaringCount + tablesCount c inputCount G + sumTo q (joinCount G)
-
-    -- "Ceiling: 0 if w = 0; else squarings + G(2^c − c − 1) + q(G−1)." Where w = 0, so are the squarings and G.
-    unfoldable pub partitionCeiling : ℕ
-    partitionCeiling = squaringCount + groupCeiling c inputCount + q * (groupCount c inputCount - 1)
+  -- "Ceiling: 0 if w = 0; else squarings + G(2^c − c − 1) + q(G−1)." Where w = 0, so are the squarings and G.
+  unfoldable pub partitionCeiling : ℕ
+  partitionCeiling =
+      let w = inputCount p q amounts in
+      squaringCount p q amounts + groupCeiling c w + q * (groupCount c w - 1)

@@ -9,3 +9,4 @@ pub mod Numbering
 pub mod Rows
 pub mod Measured
 pub mod Tabling
+pub mod Making

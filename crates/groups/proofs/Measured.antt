@@ -1,5 +1,5 @@
 -- A measured slice holds the columns' bits, so what is added up over it is what is added up over the columns, and 32 bits a column bound it.
-use mathlib.Core.Path.{_≡_, refl, sym, ap, _∙_}
+use mathlib.Core.Path.{_≡_, refl, sym, ap, _∙_, ap₂}
 use mathlib.Core.List.{List}
 use Prim.Native.Nat.{ℕ, _+_, _-_, _^_, _≤_, _<_}
 use native.Mathlib.Decide.{decLt}
@@ -14,10 +14,12 @@ use Rattle.methods.specs.Inner.{Asked}
 use Rattle.methods.proofs.Columns.{squarings-same}
 use Rattle.methods.proofs.Filling.{filled-front, filled-length}
 use Rattle.groups.specs.declared.Grouping.{Grouping}
-use Rattle.chain.specs.Chain.{mostColumns}
+use Rattle.chain.specs.Chain.{mostColumns, mostSteps}
+use Rattle.chain.specs.declared.Step.{Step}
+use Rattle.products.specs.Inner.{StepsStored, StepsRoom}
 use Rattle.digits.proofs.Listed.{getD-list, length-list}
-use Rattle.groups.specs.Groups.{columnBits, columnSquarings, group, groupCount, inputCount, inputs, mostInputs, mostMembers, overInputs, selection, sheetSquarings, weigh}
-use Rattle.groups.specs.Inner.{Bounded, Grouped, GroupedFor, InputsRoom, Narrow, bitInputs, bitSquarings, bitsLess, partNumbers}
+use Rattle.groups.specs.Groups.{columnBits, columnSquarings, group, groupCount, groupTables, inputCount, inputs, mostInputs, mostMembers, overInputs, selection, sheetSquarings, sheetTables, weigh}
+use Rattle.groups.specs.Inner.{Bounded, Grouped, GroupedFor, GroupsMade, GroupsRoom, Narrow, bitInputs, bitSquarings, bitTables, bitsLess, partNumbers}
 use Rattle.groups.proofs.Counting.{groups-few, lessTo}
 use Rattle.groups.proofs.Inputs.{over-same}
 use Rattle.groups.proofs.Members.{column-bits, members-count}
@@ -114,30 +116,14 @@ module _ (s : Grouping) (amounts bits : List ℕ) (grouped : Grouped s amounts b
   pub grouped-count : s .groups ≡ groupCount (s .c) (inputCount (s .p) (s .q) amounts)
   grouped-count = grouped .cuts .groups-are ∙ ap (groupCount (s .c)) (grouped .inputs-are)
 
-  pub inputs-room : (cells : List ℕ) → mostInputs ≤ length cells → InputsRoom bits cells
-  inputs-room cells room =
-      let columns = grouped .cuts .columns in
-      let few = grouped-few in
-      record { columns = omega (arith, grouped-long); few = omega (arith, bits-sum (s .p) (s .q) amounts bits (grouped .bits-are)); room = room }
-
-  -- the inputs' value numbers, in the front of the cells that they were laid into
-  module _ (old cells : List ℕ) (e : cells ≡ over (bitInputs bits (length bits)) old) where
-    listed-inputs : bitInputs bits (length bits) ≡ inputs (s .p) (s .q) amounts
-    unfolding inputs
-    listed-inputs =
-        ap (λ (n : ℕ). overInputs (countsOf bits) (powerOf n less) n) grouped-long
-        ∙ over-same (countsOf bits) width (powerOf (s .p) less) (powerOf (s .p) squared) (s .p) grouped-at (λ col j h. ap (λ (k : ℕ). powerAt col (s .p + k) j) (before col h))
-      where
-        before : (col : ℕ) → col < s .p → sumTo col less ≡ sumTo col squared
-        before col h = sum-same col less squared (λ d g. ap (λ (n : ℕ). n - 1) (grouped-at d (omega arith)))
-
-    pub inputs-are : take (s .inputs) cells ≡ inputs (s .p) (s .q) amounts
-    inputs-are =
-        ap (take (s .inputs)) (e ∙ ap (λ (l : List ℕ). over l old) listed-inputs)
-        ∙ take-over (s .inputs) (inputs (s .p) (s .q) amounts) old (members-count (s .p) (s .q) amounts ∙ sym (grouped .inputs-are))
-
-    pub inputs-long : s .inputs ≡ length (take (s .inputs) cells)
-    inputs-long = grouped .inputs-are ∙ sym (ap length inputs-are ∙ members-count (s .p) (s .q) amounts)
+  pub grouped-inputs : bitInputs bits (length bits) ≡ inputs (s .p) (s .q) amounts
+  unfolding inputs
+  grouped-inputs =
+      ap (λ (n : ℕ). overInputs (countsOf bits) (powerOf n less) n) grouped-long
+      ∙ over-same (countsOf bits) width (powerOf (s .p) less) (powerOf (s .p) squared) (s .p) grouped-at (λ col j h. ap (λ (k : ℕ). powerAt col (s .p + k) j) (before col h))
+    where
+      before : (col : ℕ) → col < s .p → sumTo col less ≡ sumTo col squared
+      before col h = sum-same col less squared (λ d g. ap (λ (n : ℕ). n - 1) (grouped-at d (omega arith)))
 
   -- the squarings
   pub grouped-squarings : bitSquarings bits ≡ sheetSquarings (s .p) (s .q) amounts
@@ -145,21 +131,36 @@ module _ (s : Grouping) (amounts bits : List ℕ) (grouped : Grouped s amounts b
       ap (λ (n : ℕ). squarings n less n) grouped-long
       ∙ squarings-same (s .p) less squared (s .p) (λ col h. ap (λ (n : ℕ). n - 1) (grouped-at col h))
 
--- how often each column is squared, in the front of cells
-module _ (bits old cells : List ℕ) (e : cells ≡ over (listTo (length bits) (bitsLess bits 1)) old) where
-  pub counted-long : length bits ≡ length (take (length bits) cells)
-  counted-long = filled-length (bitsLess bits 1) old (length bits) cells e
+  -- the tables
+  grouped-tables : bitTables s bits ≡ sheetTables (s .p) (s .q) amounts (s .c)
+  grouped-tables =
+      ap₂ (λ (m : List ℕ) (l : List Step). groupTables (s .p) (s .c) m l (s .groups)) grouped-inputs grouped-squarings
+      ∙ ap (groupTables (s .p) (s .c) (inputs (s .p) (s .q) amounts) (sheetSquarings (s .p) (s .q) amounts)) grouped-count
 
-  pub counted-squarings : squarings (length bits) (countsOf (take (length bits) cells)) (length (take (length bits) cells)) ≡ bitSquarings bits
-  counted-squarings =
-      let counts : List ℕ = take (length bits) cells in
-      ap (squarings (length bits) (countsOf counts)) (sym counted-long)
-      ∙ squarings-same (length bits) (countsOf counts) (bitsLess bits 1) (length bits) at
-    where
-      at : (col : ℕ) → col < length bits → getD (take (length bits) cells) col 0 ≡ bitsLess bits 1 col
-      at col h =
-          ap (λ (l : List ℕ). getD l col 0) (filled-front (bitsLess bits 1) old (length bits) cells e)
-          ∙ getD-list (length bits) (bitsLess bits 1) col h
+  pub groups-room : (members steps : List ℕ) → mostInputs ≤ length members → length (sheetTables (s .p) (s .q) amounts (s .c)) ≤ mostSteps
+      → StepsRoom (s .p) steps 0 (sheetTables (s .p) (s .q) amounts (s .c)) → GroupsRoom s bits members steps
+  groups-room members steps room few steps-room =
+      record {
+        cuts = grouped .cuts;
+        bits-long = grouped-long;
+        bits-sum = bits-sum (s .p) (s .q) amounts bits (grouped .bits-are) ∙ sym (grouped .inputs-are);
+        members-room = room;
+        few = rw grouped-tables few;
+        steps-room = rw grouped-tables steps-room;
+      }
+
+  -- made, they are the sheet's
+  module _ (members₀ steps₀ members steps : List ℕ) (n : ℕ) (made : GroupsMade s bits members₀ steps₀ members steps n) where
+    pub sheet-stored : StepsStored steps₀ steps n (sheetTables (s .p) (s .q) amounts (s .c))
+    sheet-stored = rw grouped-tables at (made .stored)
+
+    pub sheet-inputs : take (s .inputs) members ≡ inputs (s .p) (s .q) amounts
+    sheet-inputs =
+        ap (take (s .inputs)) (made .members-are ∙ ap (λ (l : List ℕ). over l members₀) grouped-inputs)
+        ∙ take-over (s .inputs) (inputs (s .p) (s .q) amounts) members₀ (members-count (s .p) (s .q) amounts ∙ sym (grouped .inputs-are))
+
+    pub sheet-long : s .inputs ≡ length (take (s .inputs) members)
+    sheet-long = grouped .inputs-are ∙ sym (ap length sheet-inputs ∙ members-count (s .p) (s .q) amounts)
 
 -- the cells hold the numbers of payslip i's parts
 module _ (s : Grouping) (amounts : List ℕ) (i : ℕ) (old cells : List ℕ)

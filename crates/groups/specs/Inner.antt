@@ -7,7 +7,7 @@ use Rattle.chain.specs.Chain.{mostColumns, mostSteps}
 use Rattle.chain.specs.Written.{over, laid}
 use Rattle.digits.specs.Digits.{digit}
 use Rattle.digits.specs.Range.{sumTo, listTo}
-use Rattle.products.specs.Inner.{stepsIn, StepsRoom}
+use Rattle.products.specs.Inner.{stepsIn, StepsRoom, StepsStored}
 use Rattle.methods.specs.Inner.{SheetSized}
 use Rattle.methods.specs.Powers.{countsOf, squarings, powerOf}
 use Rattle.groups.specs.declared.Grouping.{Grouping}
@@ -114,6 +114,24 @@ pub record TablesRoom (s : Grouping) (members steps : List ℕ) (n : ℕ) : Type
   pub long : length members ≡ s .inputs
   pub few : length (tablesAfter s members (stepsIn steps n)) ≤ mostSteps
   pub room : StepsRoom (s .p) steps n (tablesAfter s members (stepsIn steps n))
+
+-- the squarings and the tables, for columns of these bits
+abbrev pub bitTables : Grouping → List ℕ → List Step
+bitTables s bits = tablesAfter s (bitInputs bits (length bits)) (bitSquarings bits)
+
+-- room for them, and a cell for each input
+pub record GroupsRoom (s : Grouping) (bits members steps : List ℕ) : Type 0 where
+  pub cuts : Cuts s
+  pub bits-long : length bits ≡ s .p
+  pub bits-sum : sumTo (length bits) (countsOf bits) ≡ s .inputs
+  pub members-room : mostInputs ≤ length members
+  pub few : length (bitTables s bits) ≤ mostSteps
+  pub steps-room : StepsRoom (s .p) steps 0 (bitTables s bits)
+
+-- the inputs' value numbers and those steps are stored
+pub record GroupsMade (s : Grouping) (bits members₀ steps₀ members steps : List ℕ) (n : ℕ) : Type 0 where
+  pub members-are : members ≡ over (bitInputs bits (length bits)) members₀
+  pub stored : StepsStored steps₀ steps n (bitTables s bits)
 
 -- the value number of the first step of group g's table: the groups before it are full
 abbrev pub tableAt : Grouping → ℕ → ℕ

@@ -4,13 +4,11 @@ use crate::lessened;
 ghost use mathlib.Core.Path.{_≡_};
 ghost use Prim.Native.Nat.{_*_, _≤_, _<_};
 ghost use lib.ListN.{length, take};
-ghost use Rattle.chain.specs.Chain.{mostColumns};
 ghost use Rattle.chain.specs.Written.{over};
 ghost use Rattle.digits.specs.Range.{sumTo, listTo};
-ghost use Rattle.products.specs.Inner.{StepsRoom, StepsStored};
 ghost use Rattle.methods.specs.Inner.{Asked};
 ghost use Rattle.groups.specs.Groups.{columnBits, groupCount, mostInputs, mostMembers};
-ghost use Rattle.groups.specs.Inner.{Bounded, GroupedFor, Narrow, bitSquarings, bitsLess};
+ghost use Rattle.groups.specs.Inner.{Bounded, GroupedFor, Narrow, bitsLess};
 
 // The bits of the largest amount of column col.
 fn column_bits(p: usize, q: usize, amounts: &[u32], col: usize) -> usize
@@ -71,27 +69,4 @@ pub fn group_sheet(p: usize, q: usize, amounts: &[u32], c: usize, cells: &mut [u
         groups: groups,
         squarings: squarings,
     }
-}
-
-// How often each column is squared: once less than it has bits.
-fn count_squarings(bits: &[u32], cells: &mut [u32])
-    requires { ⌜ length (now bits) ≤ length (now cells) ⌝ }
-    ensures { λ r. ⌜ now (cells .exit) ≡ over (listTo (length (now (bits .entry))) (bitsLess (now (bits .entry)) 1)) (now (cells .entry)) ⌝ }
-{
-    let mut col: usize = 0;
-    while col < bits.len() {
-        cells[col] = lessened(bits[col] as usize, 1) as u32;
-        col += 1;
-    }
-}
-
-// The squarings of columns of these bits: the number of steps made.
-pub fn make_squarings(bits: &[u32], steps: &mut [u32]) -> usize
-    requires { ⌜ (length (now bits) ≤ mostColumns) × StepsRoom (length (now bits)) (now steps) 0 (bitSquarings (now bits)) ⌝ }
-    ensures { λ r. ⌜ StepsStored (now (steps .entry)) (now (steps .exit)) r (bitSquarings (now (bits .entry))) ⌝ }
-{
-    let p = bits.len();
-    let mut counts = [0u32; chain::MOST_COLUMNS];
-    count_squarings(bits, &mut counts);
-    methods::square_columns(p, &counts[..p], steps)
 }

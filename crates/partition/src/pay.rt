@@ -96,9 +96,7 @@ pub fn make_chain(
     ensures { λ r. ⌜ ChainStored (now (steps .entry)) (now (outputs .entry)) (now (steps .exit)) (now (outputs .exit))
         (partition (s .p) (s .q) (now (amounts .entry)) (s .c)) ⌝ }
 {
-    groups::subsets::number_inputs(bits, members);
+    let n = groups::subsets::make_groups(s, bits, members, steps);
     let w = s.inputs;
-    let first = groups::measure::make_squarings(bits, steps);
-    let n = groups::subsets::make_tables(s, &members[..w], first, steps);
     make_payslips(s, amounts, bits, &members[..w], n, cells, steps, outputs);
 }

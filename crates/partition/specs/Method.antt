@@ -4,6 +4,10 @@ use Prim.Native.Nat.{ℕ}
 use Rattle.methods.specs.Method.{Method}
 use Rattle.partition.specs.Partition.{partition, partitionCount, partitionCeiling}
 
+-- "parameter c, 1 to 8"
+abbrev pub partitionMost : ℕ
+partitionMost = 8
+
 abbrev pub partitionMethod : ℕ → ℕ → List ℕ → ℕ → Method
 partitionMethod p q amounts c =
     record { chain = partition p q amounts c; count = partitionCount p q amounts c; ceiling = partitionCeiling p q amounts c }

@@ -1,3 +1,3 @@
 pub mod Partition
-pub mod Bits
+pub mod Inner
 pub mod Method

@@ -2,7 +2,7 @@
 use mathlib.Core.List.{List}
 use Prim.Native.Nat.{ℕ}
 use Rattle.methods.specs.Method.{Method}
-use Rattle.partition.specs.Partition.{partition, partitionCount, partitionCeiling}
+use Rattle.partition.specs.Partition.{partition, partitionCeiling, partitionCount}
 
 -- "parameter c, 1 to 8"
 abbrev pub partitionMost : ℕ

@@ -11,7 +11,8 @@ use Rattle.sheet.specs.Sheet.{sheetRule}
 use Rattle.methods.specs.Method.{Method}
 use Rattle.straus.specs.Straus.{strausMost, strausMostBits, strausMethod}
 use Rattle.yao.specs.Yao.{yaoMost, yaoMethod}
-use Rattle.partition.specs.Method.{partitionMost, partitionMethod}
+use Rattle.groups.specs.Groups.{mostMembers}
+use Rattle.partition.specs.Method.{partitionMethod}
 
 -- the parameter is outside lowest .. highest
 abbrev pub outside : ℕ → ℕ → ℕ → Bool
@@ -23,7 +24,7 @@ methodRule p method k =
     refuseIf
     (cond (method =? 1) (outside 1 strausMost k or strausMostBits <? p * k)
     (cond (method =? 2) (outside 1 yaoMost k)
-    (cond (method =? 3) (outside 1 partitionMost k)
+    (cond (method =? 3) (outside 1 mostMembers k)
     true)))
     3 0
 

@@ -4,10 +4,6 @@ use Prim.Native.Nat.{ℕ}
 use Rattle.methods.specs.Method.{Method}
 use Rattle.partition.specs.Partition.{partition, partitionCeiling, partitionCount}
 
--- "parameter c, 1 to 8"
-abbrev pub partitionMost : ℕ
-partitionMost = 8
-
 abbrev pub partitionMethod : ℕ → ℕ → List ℕ → ℕ → Method
 partitionMethod p q amounts c =
     record { chain = partition p q amounts c; count = partitionCount p q amounts c; ceiling = partitionCeiling p q amounts c }

@@ -1,9 +1,11 @@
 // Chains: the rules of a step and of an output, and what a chain is judged by. Nothing here knows of methods, files or residues.
 ghost use mathlib.Core.Path.{_≡_};
-ghost use Prim.Native.Nat.{_≤_};
-ghost use lib.ListN.{length};
+ghost use Prim.Native.Nat.{ℕ, _+_, _*_, _≤_, _<_};
+ghost use lib.ListN.{length, getD};
 ghost use Rattle.chain.specs.Verdict.{_then_};
-ghost use Rattle.chain.specs.Chain.{mostColumns, by, pairs, sizesRule, lengthRule, stepRule, stepsRule, outputsRule, chainRule, legalRule};
+ghost use Rattle.chain.specs.Chain.{mostColumns, by, pairs, sizesRule, lengthRule, shapeRule, stepRule, stepsRule, outputsRule, chainRule, legalRule, pick};
+ghost use Rattle.chain.specs.Written.{over};
+ghost use Rattle.chain.specs.Inner.{stepAt};
 ghost use Rattle.chain.specs.Judgement.{verdictOf};
 
 // Limits of document 01: columns, payslips, steps, amounts.
@@ -60,6 +62,27 @@ pub fn judge_length(limit: usize, n: usize) -> Judgement
     Judgement::Fine
 }
 
+// 1, then 4.
+pub fn judge_shape(limit: usize, p: usize, q: usize, n: usize) -> Judgement
+    ensures { λ r. ⌜ verdictOf r ≡ shapeRule limit p q n ⌝ }
+{
+    match judge_sizes(p, q) {
+        Judgement::Refused(number, place) => Judgement::Refused(number, place),
+        Judgement::Fine => judge_length(limit, n),
+    }
+}
+
+// Step s of a flat list, counted from 0.
+pub fn step_at(steps: &[u32], s: usize) -> Step
+    requires { ⌜ 2 * s + 1 < length (now steps) ⌝ }
+    ensures { λ r. ⌜ r ≡ stepAt (now (steps .entry)) s ⌝ }
+{
+    Step {
+        first: steps[2 * s],
+        second: steps[2 * s + 1],
+    }
+}
+
 // Step s, which makes value v: 9, 10, 11.
 pub fn judge_step(v: usize, s: usize, first: u32, second: u32) -> Judgement
     ensures { λ r. ⌜ verdictOf r ≡ stepRule v s (by first second) ⌝ }
@@ -92,7 +115,8 @@ pub fn judge_steps(p: usize, steps: &[u32]) -> Judgement
     let n = steps.len() / 2;
     let mut s: usize = 0;
     while s < n {
-        match judge_step(p + s + 1, s + 1, steps[2 * s], steps[2 * s + 1]) {
+        let x = step_at(steps, s);
+        match judge_step(p + s + 1, s + 1, x.first, x.second) {
             Judgement::Refused(number, place) => {
                 return Judgement::Refused(number, place);
             }
@@ -133,17 +157,21 @@ pub fn judge_chain(p: usize, steps: &[u32], outputs: &[u32]) -> Judgement
 pub fn judge_legal(p: usize, steps: &[u32], outputs: &[u32]) -> Judgement
     ensures { λ r. ⌜ verdictOf r ≡ legalRule p (pairs (now (steps .entry))) (now (outputs .entry)) ⌝ }
 {
-    match judge_sizes(p, outputs.len()) {
-        Judgement::Refused(number, place) => {
-            return Judgement::Refused(number, place);
-        }
-        Judgement::Fine => {}
+    match judge_shape(MOST_STEPS, p, outputs.len(), steps.len() / 2) {
+        Judgement::Refused(number, place) => Judgement::Refused(number, place),
+        Judgement::Fine => judge_chain(p, steps, outputs),
     }
-    match judge_length(MOST_STEPS, steps.len() / 2) {
-        Judgement::Refused(number, place) => {
-            return Judgement::Refused(number, place);
-        }
-        Judgement::Fine => {}
+}
+
+// The outputs' values, over the front of the slice.
+pub fn show(outputs: &[u32], values: &[u32], figures: &mut [u32])
+    requires { ⌜ (length (now outputs) ≤ length (now figures)) × ((i : ℕ) → i < length (now outputs) → getD (now outputs) i 0 < length (now values)) ⌝ }
+    ensures { λ r. ⌜ now (figures .exit) ≡ over (pick (now (values .entry)) (now (outputs .entry))) (now (figures .entry)) ⌝ }
+{
+    let mut j: usize = 0;
+    while j < outputs.len() {
+        let v = outputs[j] as usize;
+        figures[j] = values[v];
+        j += 1;
     }
-    judge_chain(p, steps, outputs)
 }

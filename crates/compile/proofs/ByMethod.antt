@@ -3,10 +3,9 @@ use mathlib.Core.Path.{_≡_, ap}
 use mathlib.Core.List.{List}
 use Prim.Native.Nat.{ℕ}
 use native.Mathlib.Omega.{arith}
-use Rattle.chain.specs.Chain.{flat}
-use Rattle.chain.specs.Written.{over}
 use Rattle.chain.proofs.Rules.{eq-yes, eq-no}
 use Rattle.methods.specs.Method.{Method}
+use Rattle.methods.specs.Inner.{ChainStored}
 use Rattle.straus.specs.Straus.{strausMethod}
 use Rattle.yao.specs.Yao.{yaoMethod}
 use Rattle.partition.specs.Method.{partitionMethod}
@@ -29,7 +28,6 @@ pub same-count : {m n : Method} → m ≡ n → m .count ≡ n .count
 same-count = ap (λ (m : Method). m .count)
 
 -- what was written, of a method by another name
-pub emitted : (m n : Method) → m ≡ n → (steps outputs steps′ outputs′ : List ℕ)
-    → (steps′ ≡ over (flat (n .chain .steps)) steps) × (outputs′ ≡ over (n .chain .outputs) outputs)
-    → (steps′ ≡ over (flat (m .chain .steps)) steps) × (outputs′ ≡ over (m .chain .outputs) outputs)
-emitted m n same steps outputs steps′ outputs′ e = rw same e
+pub emitted : {m n : Method} → m ≡ n → {steps outputs steps′ outputs′ : List ℕ} → ChainStored steps outputs steps′ outputs′ (n .chain)
+    → ChainStored steps outputs steps′ outputs′ (m .chain)
+emitted same e = rw same e

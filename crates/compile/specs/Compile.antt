@@ -1,5 +1,5 @@
 -- Compile (document 01, "The three methods", "Turned down"): from a sheet to a chain by a method's number and its parameter.
-use mathlib.Core.Bool.{Bool, true, false, not, cond}
+use mathlib.Core.Bool.{Bool, true, cond}
 use mathlib.Core.List.{List, [], _∷_}
 use Prim.Native.Nat.{ℕ, _*_, _/_}
 use lib.ListN.{length}

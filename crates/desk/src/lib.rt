@@ -32,15 +32,15 @@ pub fn size(number: u32) -> usize
 
 // Writes the line of a refusal to an open file.
 pub fn tell_refusal(fd: i32, number: u32, place: usize) {
-    let mut message = [0u8; text::MOST_MESSAGE];
-    let n = text::put_refusal(number, place, &mut message);
+    let mut message = [0u8; messages::MOST_MESSAGE];
+    let n = messages::put_refusal(number, place, &mut message);
     io::write_all(fd, &message[..n]);
 }
 
 // Says why a text was not read; nothing where it was.
 fn tell_fault(input: &[u8], parsed: Parsed) {
-    let mut message = [0u8; text::MOST_MESSAGE];
-    let n = text::put_fault(input, parsed, &mut message);
+    let mut message = [0u8; messages::MOST_MESSAGE];
+    let n = messages::put_fault(input, parsed, &mut message);
     io::write_all(STDERR_FILENO, &message[..n]);
 }
 

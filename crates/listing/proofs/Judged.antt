@@ -16,7 +16,7 @@ use Rattle.file.specs.File.{longestFile, columnsOf, payslipsOf, lengthOf, steps
 use Rattle.file.proofs.Readable.{readable, columns-low}
 use Rattle.file.proofs.Good.{Good}
 use Rattle.listing.specs.Listing.{amountOf, listingRule}
-use Rattle.listing.specs.Table.{Holds}
+use Rattle.listing.specs.Inner.{TableHolds}
 use Rattle.listing.proofs.Tables.{atOutputs}
 
 -- what a file's listing begins with
@@ -25,7 +25,7 @@ sizesOf bytes = columnsOf bytes ∷ payslipsOf bytes ∷ lengthOf bytes ∷ []
 
 -- the answer to a refusal, and what it says of a table, which is nothing
 pub listing-refused : (bytes table : List ℕ) (k s : ℕ) → refused k s ≡ listingRule bytes
-    → (refusal k s ≡ answer (listingRule bytes) (sizesOf bytes)) × (listingRule bytes ≡ fine → Holds table (payslipsOf bytes) (columnsOf bytes) (amountOf bytes))
+    → (refusal k s ≡ answer (listingRule bytes) (sizesOf bytes)) × (listingRule bytes ≡ fine → TableHolds table (payslipsOf bytes) (columnsOf bytes) (amountOf bytes))
 listing-refused bytes table k s e = (answer-refused _ _ k s e, λ f. absurd (not-fine (e ∙ f)))
 
 module _ (bytes : List ℕ) where
@@ -71,8 +71,8 @@ module _ (bytes steps outputs : List ℕ) (p q n : ℕ) (t : Good bytes steps ou
 
     -- the answer to a file that is listed, and what the table holds
     pub listing-done : (table : List ℕ) → fine ≡ exponentsRule p (pairs (take (2 * n) steps))
-        → Holds table (length (take q outputs)) p (atOutputs p (pairs (take (2 * n) steps)) (take q outputs))
-        → (done (p ∷ q ∷ n ∷ []) ≡ answer (listingRule bytes) (sizesOf bytes)) × (listingRule bytes ≡ fine → Holds table (payslipsOf bytes) (columnsOf bytes) (amountOf bytes))
+        → TableHolds table (length (take q outputs)) p (atOutputs p (pairs (take (2 * n) steps)) (take q outputs))
+        → (done (p ∷ q ∷ n ∷ []) ≡ answer (listingRule bytes) (sizesOf bytes)) × (listingRule bytes ≡ fine → TableHolds table (payslipsOf bytes) (columnsOf bytes) (amountOf bytes))
     listing-done table e holds = (
       rw (t .taken .columns, t .taken .payslips, t .taken .long) (answer-done _ _ (measured fine e)),
       λ f.

@@ -5,9 +5,11 @@ use Prim.Native.Nat.{ℕ, _+_, _≤_, _<_}
 use native.Mathlib.Numerals.{add-one}
 use native.Mathlib.Omega.{arith}
 use lib.ListN.{length, set, length-append}
-use Rattle.listing.specs.Listing.{blank, newline, decimal, moreFields, lineOf, inColumns, payslipLines, chainText, refusedWord, refusedText}
-use Rattle.listing.specs.Put.{Put}
-use Rattle.listing.proofs.Putting.{put-none, put-more, put-one}
+use Rattle.decimal.specs.Decimal.{refusedWord, blank, newline, decimal}
+use Rattle.digits.specs.Range.{listTo}
+use Rattle.listing.specs.Listing.{moreFields, lineOf, payslipLines, chainText, refusedText}
+use Rattle.decimal.specs.Inner.{Put}
+use Rattle.decimal.proofs.Putting.{put-none, put-more, put-one}
 
 -- a part under another name
 like : (at : ℕ) (s t l : List ℕ) (e : ℕ) (l′ : List ℕ) → s ≡ t → Put at s l e l′ → Put at t l e l′
@@ -27,11 +29,11 @@ put-blank at x l e l′ h w =
 
 -- the amount of column c after those before it
 pub put-amount : (at c : ℕ) (f : ℕ → ℕ) (l : List ℕ) (m : ℕ) (l′ : List ℕ) (e : ℕ) (l″ : List ℕ) → at ≤ length l
-    → Put at (moreFields (inColumns c f)) l m l′ → Put m (blank ∷ decimal (f c)) l′ e l″ → Put at (moreFields (inColumns (c + 1) f)) l e l″
+    → Put at (moreFields (listTo c f)) l m l′ → Put m (blank ∷ decimal (f c)) l′ e l″ → Put at (moreFields (listTo (c + 1) f)) l e l″
 put-amount at c f l m l′ e l″ h w v =
     like at _ _ l e l″
-    (sym (fields-more (inColumns c f) (f c)) ∙ ap (λ (k : ℕ). moreFields (inColumns k f)) (sym (add-one c)))
-    (put-more at (moreFields (inColumns c f)) l m l′ w (blank ∷ decimal (f c)) e l″ h v)
+    (sym (fields-more (listTo c f) (f c)) ∙ ap (λ (k : ℕ). moreFields (listTo k f)) (sym (add-one c)))
+    (put-more at (moreFields (listTo c f)) l m l′ w (blank ∷ decimal (f c)) e l″ h v)
 
 -- two fields
 pub put-two : (at x y : ℕ) (l : List ℕ) (m : ℕ) (l′ : List ℕ) (e : ℕ) (l″ : List ℕ) → at ≤ length l
@@ -54,12 +56,12 @@ module _ (at x : ℕ) (r l : List ℕ) (m : ℕ) (l′ : List ℕ) (e : ℕ) (l�
 
 -- the line of payslip i after those before it
 pub put-next : (at p i : ℕ) (f : ℕ → ℕ → ℕ) (l : List ℕ) (m : ℕ) (l′ : List ℕ) (e : ℕ) (l″ : List ℕ) → at ≤ length l
-    → Put at (payslipLines p f i) l m l′ → Put m (lineOf (i + 1) (inColumns p (f i))) l′ e l″ → Put at (payslipLines p f (i + 1)) l e l″
+    → Put at (payslipLines p f i) l m l′ → Put m (lineOf (i + 1) (listTo p (f i))) l′ e l″ → Put at (payslipLines p f (i + 1)) l e l″
 put-next at p i f l m l′ e l″ h w v =
     let q = add-one i in
     like at _ _ l e l″
-    (ap (λ (k : ℕ). payslipLines p f i ++ lineOf k (inColumns p (f i))) q ∙ ap (payslipLines p f) (sym q))
-    (put-more at (payslipLines p f i) l m l′ w (lineOf (i + 1) (inColumns p (f i))) e l″ h v)
+    (ap (λ (k : ℕ). payslipLines p f i ++ lineOf k (listTo p (f i))) q ∙ ap (payslipLines p f) (sym q))
+    (put-more at (payslipLines p f i) l m l′ w (lineOf (i + 1) (listTo p (f i))) e l″ h v)
 
 -- the line of the sizes, and those of the payslips
 pub put-listing : (p q n : ℕ) (f : ℕ → ℕ → ℕ) (l : List ℕ) (m : ℕ) (l′ : List ℕ) (e : ℕ) (l″ : List ℕ)

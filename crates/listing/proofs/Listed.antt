@@ -15,20 +15,18 @@ use Rattle.file.specs.declared.Reading.{Reading}
 use Rattle.file.specs.declared.Reading.the-variants as reading
 use Rattle.file.proofs.Readable.{readable, columns-low, payslips-low}
 use Rattle.chain.proofs.Told.{verdictIn, told, told-values}
-use Rattle.listing.specs.Listing.{lineOf, inColumns, payslipLines, amountOf, listingRule, chainText, refusedText, textFor, listing}
-use Rattle.listing.specs.Table.{amountIn, Holds}
-use Rattle.listing.specs.Put.{Put}
+use Rattle.digits.specs.Range.{listTo}
+use Rattle.digits.proofs.Listed.{list-same}
+use Rattle.listing.specs.Listing.{lineOf, payslipLines, amountOf, listingRule, chainText, refusedText, textFor, listing}
+use Rattle.listing.specs.Inner.{amountIn, TableHolds}
+use Rattle.decimal.specs.Inner.{Put}
 use Rattle.listing.proofs.Judged.{sizesOf}
 
 -- the lines of payslips with the same amounts
-columns-same : (p : ℕ) (f g : ℕ → ℕ) → ((c : ℕ) → c < p → f c ≡ g c) → inColumns p f ≡ inColumns p g
-columns-same zero f g e = refl
-columns-same (suc p) f g e = ap₂ (λ (l : List ℕ) (x : ℕ). l ++ x ∷ []) (columns-same p f g (λ c h. e c (omega arith))) (e p (omega arith))
-
 lines-same : (p : ℕ) (f g : ℕ → ℕ → ℕ) (q : ℕ) → ((i c : ℕ) → i < q → c < p → f i c ≡ g i c) → payslipLines p f q ≡ payslipLines p g q
 lines-same p f g zero e = refl
 lines-same p f g (suc q) e =
-    ap₂ (λ (l m : List ℕ). l ++ lineOf (suc q) m) (lines-same p f g q (λ i c h k. e i c (omega arith) k)) (columns-same p (f q) (g q) (λ c k. e q c (omega arith) k))
+    ap₂ (λ (l m : List ℕ). l ++ lineOf (suc q) m) (lines-same p f g q (λ i c h k. e i c (omega arith) k)) (list-same p (f q) (g q) (λ c k. e q c (omega arith) k))
 
 -- a text over the front
 over-front : (t old : List ℕ) (r : ℕ) (new : List ℕ) → Put 0 t old r new → (r ≡ length t) × (new ≡ over t old)
@@ -73,7 +71,7 @@ module _ (bytes : List ℕ) (a : Reading) (answered : readOf a ≡ answer (listi
     steps-few = rw steps-are (readable bytes _ _ (then-fine _ _ (then-fine _ _ rule-fine .1) .0) .few)
 
     pub listed-chain : (table old : List ℕ) (r : ℕ) (new : List ℕ)
-        → (listingRule bytes ≡ fine → Holds table (payslipsOf bytes) (columnsOf bytes) (amountOf bytes))
+        → (listingRule bytes ≡ fine → TableHolds table (payslipsOf bytes) (columnsOf bytes) (amountOf bytes))
         → Put 0 (chainText p q n (amountIn table)) old r new → (r ≡ length (listing bytes)) × (new ≡ over (listing bytes) old)
     unfolding listing textFor chainText
     listed-chain table old r new holds w =

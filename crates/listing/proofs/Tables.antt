@@ -1,4 +1,4 @@
--- The table of amounts, filled column by column.
+-- A column's exponents at the outputs are laid into its cells of the table; those of the columns before stay.
 use mathlib.Core.Path.{_≡_, sym, ap, _∙_}
 use mathlib.Core.List.{List, _++_, append-nil}
 use Prim.Native.Nat.{ℕ, _+_, _-_, _*_, _≤_, _<_}
@@ -14,10 +14,12 @@ use Rattle.chain.proofs.Exponents.{length-exponents}
 use Rattle.chain.proofs.Outputs.{outputs-low}
 use Rattle.chain.proofs.Written.{over-getD}
 use Rattle.verify.specs.Verify.{earlier}
+use Rattle.verify.specs.Inner.{SummedUp}
 use Rattle.verify.proofs.Places.{earlier-none}
-use Rattle.run.specs.Run.{pick}
-use Rattle.run.proofs.Figures.{length-pick, getD-pick}
-use Rattle.listing.specs.Table.{tableSize, amountIn, Holds}
+use Rattle.verify.proofs.Columns.{summed-all}
+use Rattle.chain.specs.Chain.{pick}
+use Rattle.chain.proofs.Picked.{length-pick, getD-pick}
+use Rattle.listing.specs.Inner.{tableSize, amountIn, TableHolds}
 
 -- a list over the front of all cells from place a on
 pub over-part : (a : ℕ) (t l ys : List ℕ) → ys ≡ over t (take (length l - a) (drop a l))
@@ -54,9 +56,9 @@ atOutputs p steps outputs i c = exponentOf p steps c (getD outputs i 0)
 -- column c more: `vs` is the scratch after its sums, `table` and `table′` the table before it and after
 pub filled-on : (p c : ℕ) (steps : List Step) (outputs : List ℕ) (large place large′ : ℕ) (d vs table table′ : List ℕ)
     → outputsRule (p + length steps) 1 outputs ≡ fine → length outputs ≤ mostPayslips → c < mostColumns → length table ≡ tableSize
-    → large′ ≡ earlier large place → (place ≡ 0 → vs ≡ over (exponents p c steps) d) → (large ≡ 0 → Holds table (length outputs) c (atOutputs p steps outputs))
-    → table′ ≡ laid (mostPayslips * c) (pick vs outputs) table → large′ ≡ 0 → Holds table′ (length outputs) (c + 1) (atOutputs p steps outputs)
-filled-on p c steps outputs large place large′ d vs table table′ ok few low size e written before gathered z =
+    → large′ ≡ earlier large place → SummedUp p (exponents p c) steps d vs place → (large ≡ 0 → TableHolds table (length outputs) c (atOutputs p steps outputs))
+    → table′ ≡ laid (mostPayslips * c) (pick vs outputs) table → large′ ≡ 0 → TableHolds table′ (length outputs) (c + 1) (atOutputs p steps outputs)
+filled-on p c steps outputs large place large′ d vs table table′ ok few low size e summed before gathered z =
     record { each = λ i j hi hj. ap (λ (t : List ℕ). amountIn t i j) gathered ∙ by-column i j hi hj (decLt j c) }
   where
     by-column : (i j : ℕ) → i < length outputs → j < c + 1 → Dec (j < c)
@@ -69,5 +71,5 @@ filled-on p c steps outputs large place large′ d vs table table′ ok few low 
         rw same
         (laid-at (mostPayslips * c) (pick vs outputs) table (omega arith) i (omega (arith, length-pick vs outputs))
         ∙ getD-pick vs outputs i hi
-        ∙ ap (λ (t : List ℕ). getD t (getD outputs i 0) 0) (written (earlier-none large place (sym e ∙ z) .1))
+        ∙ ap (λ (t : List ℕ). getD t (getD outputs i 0) 0) (summed-all p c steps d vs place summed (earlier-none large place (sym e ∙ z) .1))
         ∙ over-getD (exponents p c steps) d (getD outputs i 0) (omega (arith, length-exponents p c steps, outputs-low (p + length steps) 1 outputs ok i hi)))

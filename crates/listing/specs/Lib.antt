@@ -1,4 +1,2 @@
 pub mod Listing
-pub mod Table
-pub mod Room
-pub mod Put
+pub mod Inner

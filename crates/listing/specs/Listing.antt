@@ -1,29 +1,14 @@
 -- The listing of a file (document 01, "Chooser and lister"), as bytes of text.
 use mathlib.Core.List.{List, [], _∷_, _++_}
-use Prim.Native.Nat.{ℕ, zero, suc, _+_, _/_, _%_}
+use Prim.Native.Nat.{ℕ, zero, suc}
 use lib.ListN.{length, getD}
 use Rattle.chain.specs.Tests.{_<?_}
 use Rattle.chain.specs.Verdict.{Verdict, fine, refused, _then_, refuseIf}
 use Rattle.chain.specs.Chain.{mostPayslips, mostSteps, exponentOf}
+use Rattle.digits.specs.Range.{listTo}
 use Rattle.verify.specs.Verify.{exponentsRule}
+use Rattle.decimal.specs.Decimal.{blank, newline, refusedWord, decimal}
 use Rattle.file.specs.File.{longestFile, columnsOf, payslipsOf, lengthOf, stepsOf, outputsOf, readRule}
-
-abbrev pub blank : ℕ
-blank = 32
-
-abbrev pub newline : ℕ
-newline = 10
-
--- the decimal digits of x as text, before others, as far as the first argument allows
-abbrev pub decimalOnto : ℕ → ℕ → List ℕ → List ℕ
-decimalOnto zero x text = text
-decimalOnto (suc f) zero text = text
-decimalOnto (suc f) (suc x) text = decimalOnto f (suc x / 10) ((48 + suc x % 10) ∷ text)
-
--- a number in decimal; 0 is "0"
-unfoldable pub decimal : ℕ → List ℕ
-decimal zero = 48 ∷ []
-decimal (suc x) = decimalOnto (suc x) (suc x) []
 
 -- "One blank parts fields": the fields after a line's first
 abbrev pub moreFields : List ℕ → List ℕ
@@ -34,15 +19,10 @@ moreFields (x ∷ r) = (blank ∷ decimal x) ++ moreFields r
 unfoldable pub lineOf : ℕ → List ℕ → List ℕ
 lineOf x r = decimal x ++ (moreFields r ++ newline ∷ [])
 
--- a payslip's amounts in the first columns; f c is that in column c, counted from 0
-abbrev pub inColumns : ℕ → (ℕ → ℕ) → List ℕ
-inColumns zero f = []
-inColumns (suc c) f = inColumns c f ++ f c ∷ []
-
 -- "per payslip its number from 1 and its amounts": the first payslips of p columns; f i c is the amount of payslip i in column c, both counted from 0
 abbrev pub payslipLines : ℕ → (ℕ → ℕ → ℕ) → ℕ → List ℕ
 payslipLines p f zero = []
-payslipLines p f (suc i) = payslipLines p f i ++ lineOf (suc i) (inColumns p (f i))
+payslipLines p f (suc i) = payslipLines p f i ++ lineOf (suc i) (listTo p (f i))
 
 -- the amount that a file gives payslip i in column c: the exponent of the payslip's output
 abbrev pub amountOf : List ℕ → ℕ → ℕ → ℕ
@@ -58,10 +38,6 @@ listingRule bytes =
 -- "a line p q n, then per payslip ..", for p columns, q payslips and n steps
 unfoldable pub chainText : ℕ → ℕ → ℕ → (ℕ → ℕ → ℕ) → List ℕ
 chainText p q n f = lineOf p (q ∷ n ∷ []) ++ payslipLines p f q
-
--- the word "refused" and a blank
-abbrev pub refusedWord : List ℕ
-refusedWord = 114 ∷ 101 ∷ 102 ∷ 117 ∷ 115 ∷ 101 ∷ 100 ∷ blank ∷ []
 
 -- "only one line, as refused 13, with the number"
 unfoldable pub refusedText : ℕ → List ℕ

@@ -5,38 +5,31 @@ ghost use Prim.Native.Nat.{ℕ, _+_, _*_, _/_, _≤_, _<_};
 ghost use lib.ListN.{length, getD};
 ghost use Rattle.chain.specs.Verdict.{fine, answer};
 ghost use Rattle.chain.specs.Written.{over, laid};
-ghost use Rattle.chain.specs.Chain.{mostColumns, mostPayslips, mostSteps, pairs, stepsRule, outputsRule, exponentOf};
+ghost use Rattle.chain.specs.Chain.{mostColumns, mostPayslips, mostSteps, pairs, stepsRule, outputsRule, pick, exponentOf};
 ghost use Rattle.chain.specs.Judgement.{verdictOf};
 ghost use Rattle.verify.specs.Verify.{exponentsRule};
 ghost use Rattle.file.specs.File.{columnsOf, payslipsOf, lengthOf};
 ghost use Rattle.file.specs.Answers.{readOf};
-ghost use Rattle.run.specs.Run.{pick};
-ghost use Rattle.listing.specs.Listing.{blank, decimal, moreFields, lineOf, inColumns, payslipLines, amountOf, listingRule, chainText, refusedText, listing};
-ghost use Rattle.listing.specs.Table.{tableSize, amountIn, Holds};
-ghost use Rattle.listing.specs.Room.{mostField, mostSizes, mostLine, mostText};
-ghost use Rattle.listing.specs.Put.{Put};
+ghost use Rattle.listing.specs.Listing.{moreFields, lineOf, payslipLines, amountOf, listingRule, chainText, refusedText, listing};
+ghost use Rattle.listing.specs.Inner.{tableSize, amountIn, TableHolds, mostField, mostSizes, mostLine, mostText};
+ghost use Rattle.decimal.specs.Inner.{Put};
+ghost use Rattle.decimal.specs.Decimal.{blank, decimal};
+ghost use Rattle.digits.specs.Range.{listTo};
 use chain::Judgement;
 use file::Reading;
 
+// The longest parts of a listing: a blank and the digits of an amount; the first line; a payslip's line.
+const MOST_FIELD: usize = 11;
+
+const MOST_SIZES: usize = 2 + 1 + 2 + 1 + 5 + 1;
+
+const MOST_LINE: usize = 2 + MOST_FIELD * chain::MOST_COLUMNS + 1;
+
 // Room for every listing.
-pub const MOST_TEXT: usize = 11468;
+pub const MOST_TEXT: usize = MOST_SIZES + MOST_LINE * chain::MOST_PAYSLIPS;
 
 // The longest file.
 const MOST_BYTES: usize = 56116;
-
-// The digits of a number from a place of the text on; the place after them.
-pub fn put_decimal(x: usize, at: usize, text: &mut [u8]) -> usize
-    requires { ⌜ at + length (decimal x) ≤ length (now text) ⌝ }
-    ensures { λ r. ⌜ Put at (decimal x) (now (text .entry)) r (now (text .exit)) ⌝ }
-{
-    if x < 10 {
-        text[at] = (48 + x) as u8;
-        return at + 1;
-    }
-    let end = put_decimal(x / 10, at, text);
-    text[end] = (48 + x % 10) as u8;
-    end + 1
-}
 
 // A blank and a number.
 fn put_field(x: u32, at: usize, text: &mut [u8]) -> usize
@@ -44,13 +37,13 @@ fn put_field(x: u32, at: usize, text: &mut [u8]) -> usize
     ensures { λ r. ⌜ Put at (blank ∷ decimal x) (now (text .entry)) r (now (text .exit)) ⌝ }
 {
     text[at] = b' ';
-    put_decimal(x as usize, at + 1, text)
+    decimal::put_decimal(x as usize, at + 1, text)
 }
 
 // The amounts of payslip i, each after a blank. The table has a cell for each of 64 payslips, column after column.
 fn put_amounts(i: usize, p: usize, table: &[u32], at: usize, text: &mut [u8]) -> usize
     requires { ⌜ (i < mostPayslips) × (p ≤ mostColumns) × (length (now table) ≡ tableSize) × (at + mostField * p ≤ length (now text)) ⌝ }
-    ensures { λ r. ⌜ Put at (moreFields (inColumns p (amountIn (now (table .entry)) i))) (now (text .entry)) r (now (text .exit)) ⌝ }
+    ensures { λ r. ⌜ Put at (moreFields (listTo p (amountIn (now (table .entry)) i))) (now (text .entry)) r (now (text .exit)) ⌝ }
     ensures { λ r. ⌜ r ≤ at + mostField * p ⌝ }
 {
     let mut end = at;
@@ -65,10 +58,10 @@ fn put_amounts(i: usize, p: usize, table: &[u32], at: usize, text: &mut [u8]) ->
 // The line of payslip i.
 fn put_payslip(i: usize, p: usize, table: &[u32], at: usize, text: &mut [u8]) -> usize
     requires { ⌜ (i < mostPayslips) × (p ≤ mostColumns) × (length (now table) ≡ tableSize) × (at + mostLine ≤ length (now text)) ⌝ }
-    ensures { λ r. ⌜ Put at (lineOf (i + 1) (inColumns p (amountIn (now (table .entry)) i))) (now (text .entry)) r (now (text .exit)) ⌝ }
+    ensures { λ r. ⌜ Put at (lineOf (i + 1) (listTo p (amountIn (now (table .entry)) i))) (now (text .entry)) r (now (text .exit)) ⌝ }
     ensures { λ r. ⌜ r ≤ at + mostLine ⌝ }
 {
-    let first = put_decimal(i + 1, at, text);
+    let first = decimal::put_decimal(i + 1, at, text);
     let end = put_amounts(i, p, table, first, text);
     text[end] = b'\n';
     end + 1
@@ -94,7 +87,7 @@ fn put_sizes(p: usize, q: usize, n: usize, text: &mut [u8]) -> usize
     ensures { λ r. ⌜ Put 0 (lineOf p (q ∷ n ∷ [])) (now (text .entry)) r (now (text .exit)) ⌝ }
     ensures { λ r. ⌜ r ≤ mostSizes ⌝ }
 {
-    let first = put_decimal(p, 0, text);
+    let first = decimal::put_decimal(p, 0, text);
     let second = put_field(q as u32, first, text);
     let end = put_field(n as u32, second, text);
     text[end] = b'\n';
@@ -110,26 +103,13 @@ fn put_chain(p: usize, q: usize, n: usize, table: &[u32], text: &mut [u8]) -> us
     put_payslips(p, q, table, at, text)
 }
 
-// Bytes as they are.
-pub fn put_word(word: &[u8], at: usize, text: &mut [u8]) -> usize
-    requires { ⌜ at + length (now word) ≤ length (now text) ⌝ }
-    ensures { λ r. ⌜ Put at (now (word .entry)) (now (text .entry)) r (now (text .exit)) ⌝ }
-{
-    let mut i: usize = 0;
-    while i < word.len() {
-        text[at + i] = word[i];
-        i += 1;
-    }
-    at + i
-}
-
 // The one line of a refusal.
 fn put_refused(number: u32, text: &mut [u8]) -> usize
     requires { ⌜ mostText ≤ length (now text) ⌝ }
     ensures { λ r. ⌜ Put 0 (refusedText number) (now (text .entry)) r (now (text .exit)) ⌝ }
 {
-    let first = put_word(b"refused ", 0, text);
-    let end = put_decimal(number as usize, first, text);
+    let first = decimal::put_word(b"refused ", 0, text);
+    let end = decimal::put_decimal(number as usize, first, text);
     text[end] = b'\n';
     end + 1
 }
@@ -139,7 +119,7 @@ fn gather(c: usize, outputs: &[u32], values: &[u32], table: &mut [u32])
     requires { ⌜ (c < mostColumns) × (length (now outputs) ≤ mostPayslips) × (length (now table) ≡ tableSize) × ((i : ℕ) → i < length (now outputs) → getD (now outputs) i 0 < length (now values)) ⌝ }
     ensures { λ r. ⌜ now (table .exit) ≡ laid (mostPayslips * c) (pick (now (values .entry)) (now (outputs .entry))) (now (table .entry)) ⌝ }
 {
-    run::show(outputs, values, &mut table[chain::MOST_PAYSLIPS * c..]);
+    chain::show(outputs, values, &mut table[chain::MOST_PAYSLIPS * c..]);
 }
 
 // 13: the exponents of all columns at the outputs into the table, where none is too large.
@@ -152,7 +132,7 @@ fn measure(
 ) -> Judgement
     requires { ⌜ (p ≤ mostColumns) × (stepsRule p 1 (pairs (now steps)) ≡ fine) × (outputsRule (p + length (pairs (now steps))) 1 (now outputs) ≡ fine) × (length (now outputs) ≤ mostPayslips) × (p + length (now steps) / 2 < length (now scratch)) × (length (now table) ≡ tableSize) ⌝ }
     ensures { λ r. ⌜ verdictOf r ≡ exponentsRule p (pairs (now (steps .entry))) ⌝ }
-    ensures { λ r. ⌜ (verdictOf r ≡ fine → Holds (now (table .exit)) (length (now (outputs .entry))) p (λ i c. exponentOf p (pairs (now (steps .entry))) c (getD (now (outputs .entry)) i 0))) ⌝ }
+    ensures { λ r. ⌜ (verdictOf r ≡ fine → TableHolds (now (table .exit)) (length (now (outputs .entry))) p (λ i c. exponentOf p (pairs (now (steps .entry))) c (getD (now (outputs .entry)) i 0))) ⌝ }
 {
     let mut large: usize = 0;
     let mut c: usize = 0;
@@ -178,7 +158,7 @@ fn measure_file(
 ) -> Reading
     requires { ⌜ (length (now steps) ≡ 2 * mostSteps) × (length (now outputs) ≡ mostPayslips) × (length (now scratch) ≡ mostColumns + mostSteps + 1) × (length (now table) ≡ tableSize) ⌝ }
     ensures { λ r. ⌜ readOf r ≡ answer (listingRule (now (bytes .entry))) (columnsOf (now (bytes .entry)) ∷ payslipsOf (now (bytes .entry)) ∷ lengthOf (now (bytes .entry)) ∷ []) ⌝ }
-    ensures { λ r. ⌜ (listingRule (now (bytes .entry)) ≡ fine → Holds (now (table .exit)) (payslipsOf (now (bytes .entry))) (columnsOf (now (bytes .entry))) (amountOf (now (bytes .entry)))) ⌝ }
+    ensures { λ r. ⌜ (listingRule (now (bytes .entry)) ≡ fine → TableHolds (now (table .exit)) (payslipsOf (now (bytes .entry))) (columnsOf (now (bytes .entry))) (amountOf (now (bytes .entry)))) ⌝ }
 {
     if MOST_BYTES < bytes.len() {
         return Reading::Refused(6, 0);
@@ -201,7 +181,7 @@ pub fn list(bytes: &[u8], text: &mut [u8; MOST_TEXT]) -> usize
 {
     let mut steps = [0u32; 2 * chain::MOST_STEPS];
     let mut outputs = [0u32; chain::MOST_PAYSLIPS];
-    let mut scratch = [0u32; chain::MOST_COLUMNS + chain::MOST_STEPS + 1];
+    let mut scratch = [0u32; chain::MOST_VALUES];
     let mut table = [0u32; chain::MOST_PAYSLIPS * chain::MOST_COLUMNS];
     match measure_file(bytes, &mut steps, &mut outputs, &mut scratch, &mut table) {
         Reading::Refused(number, _) => put_refused(number, text),

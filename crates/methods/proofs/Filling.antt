@@ -6,10 +6,10 @@ use native.Mathlib.Numerals.{add-one}
 use native.Mathlib.Omega.{arith}
 use lib.ListN.{length, take, set}
 use Rattle.chain.specs.Written.{over}
-use Rattle.chain.proofs.Written.{take-over}
+use Rattle.chain.proofs.Written.{take-over, over-next}
 use Rattle.digits.specs.Range.{listTo}
 use Rattle.digits.proofs.Listed.{length-list}
-use Rattle.methods.proofs.Paying.{over-next, over-none}
+use Rattle.methods.proofs.Paying.{over-none}
 
 module _ (f : ℕ → ℕ) (old : List ℕ) where
   pub fill-none : old ≡ over (listTo 0 f) old

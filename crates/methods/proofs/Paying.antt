@@ -1,29 +1,21 @@
 -- Payslips are emitted one after the other, by any method whose payslips only append steps: a loop over them keeps the steps and the outputs of the
 -- payslips so far, and after whatever the chain begins with they make it whole.
 use mathlib.Core.Path.{_≡_, refl, ap, ap₂, _∙_}
-use mathlib.Core.List.{List, [], _∷_, _++_, append-assoc}
+use mathlib.Core.List.{List, []}
 use Prim.Native.Nat.{ℕ, zero, suc, _+_, _≤_, _<_, zero-le}
 use native.Mathlib.Numerals.{add-one}
 use native.Mathlib.Omega.{arith}
-use lib.ListN.{length, getD, drop, set, length-append, length-set}
-use lib.Seq.{drop-cons, set-at}
+use lib.ListN.{length, set, length-append, length-set}
 use Rattle.chain.specs.Chain.{mostColumns, flat}
 use Rattle.chain.specs.Written.{over}
 use Rattle.chain.specs.declared.Step.{Step}
 use Rattle.chain.proofs.Pairs.{length-flat}
-use Rattle.chain.proofs.Written.{over-over}
+use Rattle.chain.proofs.Written.{over-over, over-next}
 use Rattle.products.specs.Product.{Made, payslips}
 use Rattle.products.specs.Inner.{stepsIn, StepsRoom, StepsStored, Emitted}
 use Rattle.products.proofs.Sound.{Begins, begins-own, begins-rise, begins-length}
 use Rattle.products.proofs.Emitted.{stored-own, stored-is, stored-length, stored-on, stored-room}
 use Rattle.methods.specs.Inner.{ChainRoom, ChainStored}
-
--- one number more over a slice's front
-pub over-next : (l old : List ℕ) (x n : ℕ) → length l ≡ n → n < length old → set (over l old) n x ≡ over (l ++ x ∷ []) old
-unfolding over
-over-next l old x n long h =
-    let len : length (l ++ x ∷ []) ≡ suc n = length-append l (x ∷ []) ∙ omega arith in
-    rw (len, long, drop-cons old n 0 h, append-assoc) (set-at l (getD old n 0) (drop (suc n) old) x n long)
 
 pub over-none : (old : List ℕ) → old ≡ over [] old
 unfolding over

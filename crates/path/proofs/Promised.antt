@@ -51,10 +51,10 @@ module _ (p q : ℕ) (amounts : List ℕ) (method k : ℕ) (low : (j : ℕ) → 
   fits = accepted p q amounts method k ok
 
   right : Right p q amounts (methodOf p q amounts method k)
-  right = compiled-right p q amounts method k low (fits .fitting .fits)
+  right = compiled-right p q amounts method k low (fits .ranges .fits)
 
   sizes : Sizes p (length (c .outputs))
-  sizes = subst (λ (n : ℕ). Sizes p n) (sym (right .outputs)) (fits .fitting .sizes)
+  sizes = subst (λ (n : ℕ). Sizes p n) (sym (right .outputs)) (fits .ranges .sizes)
 
   few : length (c .steps) ≤ mostSteps
   few = omega (arith, right .counted, fits .short)
@@ -68,7 +68,7 @@ module _ (p q : ℕ) (amounts : List ℕ) (method k : ℕ) (low : (j : ℕ) → 
   made =
       record {
         legal = legal;
-        amounts-fit = fits .fitting .amounts-are ∙ ap (λ (n : ℕ). p * n) (sym (right .outputs));
+        amounts-fit = fits .ranges .amounts-are ∙ ap (λ (n : ℕ). p * n) (sym (right .outputs));
         low = right .within;
         made = λ i h. right .makes i (omega (arith, right .outputs));
       }

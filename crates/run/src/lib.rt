@@ -1,14 +1,14 @@
 // The run of a chain over residues.
 ghost use mathlib.Core.Path.{_≡_};
 ghost use mathlib.Core.List.{[], _∷_};
-ghost use Prim.Native.Nat.{ℕ, _+_, _/_, _%_, _≤_, _<_};
-ghost use lib.ListN.{length, getD, take};
+ghost use Prim.Native.Nat.{_+_, _/_, _%_, _≤_, _<_};
+ghost use lib.ListN.{length, take};
 ghost use Rattle.chain.specs.Verdict.{fine};
 ghost use Rattle.chain.specs.Judgement.{verdictOf};
 ghost use Rattle.chain.specs.Written.{over, laid};
 ghost use Rattle.chain.specs.Chain.{mostColumns, pairs, stepsRule, values};
 ghost use Rattle.residue.specs.Residue.{timesMod};
-ghost use Rattle.run.specs.Run.{residues, pick, anyNotBelow, runRule, runAnswer, runValues, runFigures};
+ghost use Rattle.run.specs.Run.{residues, anyNotBelow, runRule, runAnswer, runValues, runFigures};
 ghost use Rattle.run.specs.Ran.{ranOf};
 use chain::Judgement;
 
@@ -44,13 +44,7 @@ fn judge(
 ) -> Judgement
     ensures { λ r. ⌜ verdictOf r ≡ runRule p (pairs (now (steps .entry))) (now (outputs .entry)) m (now (bases .entry)) room places ⌝ }
 {
-    match chain::judge_sizes(p, outputs.len()) {
-        Judgement::Refused(number, place) => {
-            return Judgement::Refused(number, place);
-        }
-        Judgement::Fine => {}
-    }
-    match chain::judge_length(chain::MOST_STEPS, steps.len() / 2) {
+    match chain::judge_shape(chain::MOST_STEPS, p, outputs.len(), steps.len() / 2) {
         Judgement::Refused(number, place) => {
             return Judgement::Refused(number, place);
         }
@@ -109,8 +103,9 @@ fn multiply(p: usize, steps: &[u32], m: u32, cells: &mut [u32])
     let n = steps.len() / 2;
     let mut s: usize = 0;
     while s < n {
-        let a = steps[2 * s] as usize;
-        let b = steps[2 * s + 1] as usize;
+        let x = chain::step_at(steps, s);
+        let a = x.first as usize;
+        let b = x.second as usize;
         cells[p + s + 1] = residue::times(cells[a], cells[b], m);
         s += 1;
     }
@@ -123,19 +118,6 @@ fn fill(p: usize, steps: &[u32], m: u32, bases: &[u32], values: &mut [u32])
 {
     start(m, bases, values);
     multiply(p, steps, m, values);
-}
-
-// The outputs' values, over the front of the slice.
-pub fn show(outputs: &[u32], values: &[u32], figures: &mut [u32])
-    requires { ⌜ (length (now outputs) ≤ length (now figures)) × ((i : ℕ) → i < length (now outputs) → getD (now outputs) i 0 < length (now values)) ⌝ }
-    ensures { λ r. ⌜ now (figures .exit) ≡ over (pick (now (values .entry)) (now (outputs .entry))) (now (figures .entry)) ⌝ }
-{
-    let mut i: usize = 0;
-    while i < outputs.len() {
-        let o = outputs[i] as usize;
-        figures[i] = values[o];
-        i += 1;
-    }
 }
 
 // Runs a chain over residues: its values 0 to p + n, its outputs' values as figures, and n, the multiplications made.
@@ -156,7 +138,7 @@ pub fn run(
         Judgement::Refused(number, place) => Ran::Refused(number, place),
         Judgement::Fine => {
             fill(p, steps, m, bases, values);
-            show(outputs, values, figures);
+            chain::show(outputs, values, figures);
             Ran::Multiplications(steps.len() / 2)
         }
     }

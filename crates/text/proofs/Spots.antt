@@ -8,7 +8,7 @@ use native.Mathlib.Omega.{arith}
 use lib.ListN.{length, getD, take, drop, length-take, drop-of-length-le}
 use lib.Seq.{drop-cons, getD-take}
 use Rattle.chain.proofs.Rules.{eq-yes, eq-no}
-use Rattle.listing.specs.Listing.{newline}
+use Rattle.decimal.specs.Decimal.{newline}
 use Rattle.text.specs.declared.Spot.{Spot}
 use Rattle.text.specs.Text.{afterByte, afterBytes, spotOf}
 

@@ -6,7 +6,7 @@ use Prim.Native.Nat.{ℕ, suc, _+_, _-_, _*_}
 use lib.ListN.{take}
 use Rattle.chain.specs.Tests.{_<?_, _=?_, _or_}
 use Rattle.chain.specs.Chain.{mostAmount}
-use Rattle.listing.specs.Listing.{blank, newline}
+use Rattle.decimal.specs.Decimal.{blank, newline}
 use Rattle.text.specs.declared.Kind.{Kind}
 use Rattle.text.specs.declared.Kind.the-variants.{Blank, Digit, Other}
 use Rattle.text.specs.declared.Making.{Making}

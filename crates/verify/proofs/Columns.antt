@@ -1,17 +1,21 @@
--- The loop over the columns, and the verdict at its end.
+-- Column after column the earliest places are kept; at the end they are the verdict's, 13 before 14.
 use mathlib.Core.Path.{_≡_, refl, sym, ap, _∙_}
 use mathlib.Core.List.{List}
-use Prim.Native.Nat.{ℕ, zero, suc, _+_, _≤_, _<_}
+use Prim.Native.Nat.{ℕ, zero, suc, _+_, _/_, _≤_, _<_}
+use native.Mathlib.Nat.{le-refl}
 use native.Mathlib.Omega.{arith}
-use lib.ListN.{length, getD, drop}
+use lib.ListN.{length, getD, take, drop, length-take}
 use Rattle.chain.specs.Verdict.{fine, refused, _then_, refuseAt}
 use Rattle.chain.specs.Written.{over}
-use Rattle.chain.specs.Chain.{outputsRule, exponents}
+use Rattle.chain.specs.Chain.{pairs, outputsRule, exponents}
 use Rattle.chain.specs.declared.Step.{Step}
 use Rattle.chain.proofs.Rules.{stop, pass}
 use Rattle.chain.proofs.Exponents.{length-exponents}
+use Rattle.chain.proofs.Pairs.{length-pairs}
+use Rattle.chain.proofs.Written.{past-over}
 use Rattle.chain.proofs.Outputs.{outputs-low}
 use Rattle.verify.specs.Verify.{earlier, earliest, firstOver, firstOther, exponentsRule, payslipsRule}
+use Rattle.verify.specs.Inner.{stepsBefore, SummedUp}
 use Rattle.verify.proofs.Places.{earlier-none, earliest-next}
 use Rattle.verify.proofs.Other.{other-over}
 
@@ -23,17 +27,38 @@ largeIn p steps c = firstOver 1 (drop (p + 1) (exponents p c steps))
 abbrev pub otherIn : ℕ → List ℕ → List Step → List ℕ → ℕ → ℕ
 otherIn p amounts steps outputs c = firstOther p c amounts (exponents p c steps) 0 outputs
 
+-- the scratch after the sums of column c, of which none is too large
+pub summed-all : (p c : ℕ) (steps : List Step) (d vs : List ℕ) (place : ℕ) → SummedUp p (exponents p c) steps d vs place → place ≡ 0
+    → vs ≡ over (exponents p c steps) d
+unfolding stepsBefore
+summed-all p c steps d vs place s none = s .cells ∙ ap (λ (k : ℕ). over (exponents p c (stepsBefore k steps)) d) none
+
+-- no cell past the values changed, whatever was found
+pub summed-past : (p c : ℕ) (l : List ℕ) (d vs : List ℕ) (place : ℕ) → SummedUp p (exponents p c) (pairs l) d vs place
+    → drop (p + length l / 2 + 1) vs ≡ drop (p + length l / 2 + 1) d
+unfolding stepsBefore
+summed-past p c l d vs place s =
+    ap (drop (p + length l / 2 + 1)) (s .cells)
+    ∙ past-over (p + length l / 2 + 1) (exponents p c (stepsBefore place (pairs l))) d
+    (omega (arith, length-exponents p c (stepsBefore place (pairs l)), before-few place, length-pairs l))
+  where
+    before-few : (k : ℕ) → length (stepsBefore k (pairs l)) ≤ length (pairs l)
+    before-few zero = le-refl _
+    before-few (suc k) = omega (arith, length-take k (pairs l))
+
 -- column c compared, where no exponent was too large: `vs` is the scratch after its sums, `r` the place found in it
 pub other-next : (p c : ℕ) (amounts : List ℕ) (steps : List Step) (outputs : List ℕ) (large place large′ other r other′ : ℕ) (d vs : List ℕ)
-    → outputsRule (p + length steps) 1 outputs ≡ fine → large′ ≡ earlier large place → large′ ≡ 0 → (place ≡ 0 → vs ≡ over (exponents p c steps) d)
+    → outputsRule (p + length steps) 1 outputs ≡ fine → large′ ≡ earlier large place → large′ ≡ 0 → SummedUp p (exponents p c) steps d vs place
     → (large ≡ 0 → other ≡ earliest c (otherIn p amounts steps outputs)) → r ≡ firstOther p c amounts vs 0 outputs → other′ ≡ earlier other r
     → other′ ≡ earliest (c + 1) (otherIn p amounts steps outputs)
-other-next p c amounts steps outputs large place large′ other r other′ d vs ok e z written before found e′ =
+other-next p c amounts steps outputs large place large′ other r other′ d vs ok e z summed before found e′ =
     let none = earlier-none large place (sym e ∙ z) in
-    let n : length (exponents p c steps) ≡ p + 1 + length steps = length-exponents p c steps in
-    let low : (i : ℕ) → i < length outputs → getD outputs i 0 < length (exponents p c steps) = λ i h. omega (arith, outputs-low (p + length steps) 1 outputs ok i h) in
+    let stands = summed-all p c steps d vs place summed (none .1) in
     earliest-next c (otherIn p amounts steps outputs) other r other′ e′ (before (none .0))
-    (found ∙ ap (λ (t : List ℕ). firstOther p c amounts t 0 outputs) (written (none .1)) ∙ other-over p c amounts (exponents p c steps) d 0 outputs low)
+    (found ∙ ap (λ (t : List ℕ). firstOther p c amounts t 0 outputs) stands ∙ other-over p c amounts (exponents p c steps) d 0 outputs low)
+  where
+    low : (i : ℕ) → i < length outputs → getD outputs i 0 < length (exponents p c steps)
+    low i h = omega (arith, outputs-low (p + length steps) 1 outputs ok i h, length-exponents p c steps)
 
 -- a place, or none, as a verdict
 at-some : (n k s : ℕ) → (s ≡ 0 → ⊥) → s ≡ k → refused n s ≡ refuseAt n k

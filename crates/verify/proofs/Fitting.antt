@@ -1,4 +1,4 @@
--- What it means that nothing is found before the scratch is used.
+-- Nothing is found before the scratch is used exactly if the chain is legal, the amounts are p times q and the scratch is long enough.
 use mathlib.Core.Path.{_≡_, sym}
 use mathlib.Core.List.{List}
 use Prim.Native.Nat.{ℕ, _+_, _*_, _≤_}
@@ -20,11 +20,10 @@ pub fitting : (p : ℕ) (steps : List Step) (outputs amounts : List ℕ) (scratc
 unfolding fittingRule legalRule
 fitting p steps outputs amounts scratch e =
     let a = then-fine _ _ e in
-    let b = then-fine _ _ (a .1) in
-    let k = then-fine _ _ (b .1) in
+    let k = then-fine _ _ (a .1) in
     let f = then-fine _ _ (k .1) in
     record {
-      legal = sym (pass _ _ fine (sym (a .0)) (pass _ _ fine (sym (b .0)) (sym (f .0))));
+      legal = sym (pass _ _ fine (sym (a .0)) (sym (f .0)));
       amounts-fit = amounts-fit p (length outputs) amounts (k .0);
       room = not-lt _ _ (refuseIf-fine _ 5 0 (f .1));
     }
@@ -34,9 +33,7 @@ pub fits : (p : ℕ) (steps : List Step) (outputs amounts : List ℕ) (scratch :
 unfolding fittingRule legalRule
 fits p steps outputs amounts scratch f =
     let a = then-fine _ _ (f .legal) in
-    let b = then-fine _ _ (a .1) in
     sym
     (pass _ _ fine (sym (a .0))
-    (pass _ _ fine (sym (b .0))
     (pass _ _ fine (sym (fit-amounts p (length outputs) amounts (f .amounts-fit)))
-    (pass _ _ fine (sym (b .1)) (refuse-no _ 5 0 (lt-no _ _ (f .room)))))))
+    (pass _ _ fine (sym (a .1)) (refuse-no _ 5 0 (lt-no _ _ (f .room))))))

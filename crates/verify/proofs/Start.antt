@@ -1,24 +1,24 @@
--- The start of a column: value 0 and the bases in the scratch, whose first p + 1 cells were cleared.
-use mathlib.Core.Path.{_≡_, sym, ap, ap₂, _∙_}
+-- A column begins with value 0 and the bases in the scratch, whose first p + 1 cells were cleared: so its sums are the exponents.
+use mathlib.Core.Path.{_≡_, ap, ap₂, _∙_}
 use mathlib.Core.List.{List, _∷_}
-use Prim.Native.Nat.{ℕ, _+_, _/_, _<_}
+use Prim.Native.Nat.{ℕ, _+_, _<_}
 use native.Mathlib.Omega.{arith}
 use native.Mathlib.Numerals.{add-one}
 use lib.ListN.{length, take, drop, set, replicate, length-replicate}
 use lib.Seq.{take-set-lt}
 use Rattle.chain.specs.Written.{over}
 use Rattle.chain.specs.Chain.{pairs, values, exponents}
-use Rattle.chain.proofs.Pairs.{length-pairs}
+use Rattle.chain.specs.declared.Step.{Step}
 use Rattle.chain.proofs.Exponents.{length-exponents}
 use Rattle.chain.proofs.Written.{take-over, over-set, over-over}
 use Rattle.verify.specs.Verify.{firstOver}
-use Rattle.verify.proofs.Sums.{sums, drop-over}
+use Rattle.verify.specs.Inner.{stepsBefore, SummedUp}
 
 -- `d` is the scratch as lent, `d′` once it was cleared
-module _ (p c : ℕ) (l d d′ : List ℕ) (h : c < p) (e : d′ ≡ over (replicate (p + 1) 0) d) where
-  start-sums : sums p l (set d′ (c + 1) 1) ≡ exponents p c (pairs l)
+module _ (p c : ℕ) (d d′ : List ℕ) (h : c < p) (e : d′ ≡ over (replicate (p + 1) 0) d) where
+  start-sums : (steps : List Step) → values _+_ (take (p + 1) (set d′ (c + 1) 1)) steps ≡ exponents p c steps
   unfolding exponents
-  start-sums = ap (λ (vs : List ℕ). values _+_ vs (pairs l)) front
+  start-sums steps = ap (λ (vs : List ℕ). values _+_ vs steps) front
     where
       front : take (p + 1) (set d′ (c + 1) 1) ≡ 0 ∷ set (replicate p 0) c 1
       front =
@@ -26,27 +26,20 @@ module _ (p c : ℕ) (l d d′ : List ℕ) (h : c < p) (e : d′ ≡ over (repli
           ∙ ap (λ (t : List ℕ). set t (c + 1) 1) (ap (take (p + 1)) e ∙ take-over (p + 1) (replicate (p + 1) 0) d (length-replicate (p + 1) 0))
           ∙ ap₂ (λ (m k : ℕ). set (replicate m 0) k 1) (add-one p) (add-one c)
 
-  -- the start shows nowhere once all exponents are written
-  start-over : over (exponents p c (pairs l)) (set d′ (c + 1) 1) ≡ over (exponents p c (pairs l)) d
-  start-over =
-      let n : length (exponents p c (pairs l)) ≡ p + 1 + length (pairs l) = length-exponents p c (pairs l) in
-      over-set (exponents p c (pairs l)) d′ (c + 1) 1 (omega arith)
-      ∙ ap (over (exponents p c (pairs l))) e
-      ∙ over-over (replicate (p + 1) 0) (exponents p c (pairs l)) d (omega (arith, length-replicate {A = ℕ} (p + 1) 0))
+  -- the start shows nowhere once exponents are written
+  start-over : (steps : List Step) → over (exponents p c steps) (set d′ (c + 1) 1) ≡ over (exponents p c steps) d
+  start-over steps =
+      let n : length (exponents p c steps) ≡ p + 1 + length steps = length-exponents p c steps in
+      over-set (exponents p c steps) d′ (c + 1) 1 (omega arith)
+      ∙ ap (over (exponents p c steps)) e
+      ∙ over-over (replicate (p + 1) 0) (exponents p c steps) d (omega (arith, length-replicate {A = ℕ} (p + 1) 0))
 
   -- `r` is the place that the sums give, `d″` the scratch after them
-  pub start-place : (r : ℕ) → r ≡ firstOver 1 (drop (p + 1) (sums p l (set d′ (c + 1) 1))) → r ≡ firstOver 1 (drop (p + 1) (exponents p c (pairs l)))
-  start-place r f = f ∙ ap (λ (t : List ℕ). firstOver 1 (drop (p + 1) t)) start-sums
-
-  pub start-written : (r : ℕ) (d″ : List ℕ) → (r ≡ 0 → d″ ≡ over (sums p l (set d′ (c + 1) 1)) (set d′ (c + 1) 1))
-      → r ≡ 0 → d″ ≡ over (exponents p c (pairs l)) d
-  start-written r d″ w z = w z ∙ ap (λ (t : List ℕ). over t (set d′ (c + 1) 1)) start-sums ∙ start-over
-
-  pub start-past : (d″ : List ℕ) → drop (p + length l / 2 + 1) d″ ≡ drop (p + length l / 2 + 1) (set d′ (c + 1) 1)
-      → drop (p + length l / 2 + 1) d″ ≡ drop (p + length l / 2 + 1) d
-  start-past d″ w =
-      let n : length (exponents p c (pairs l)) ≡ p + length l / 2 + 1 = omega (arith, length-exponents p c (pairs l), length-pairs l) in
-      w
-      ∙ sym (drop-over (p + length l / 2 + 1) (exponents p c (pairs l)) (set d′ (c + 1) 1) n)
-      ∙ ap (drop (p + length l / 2 + 1)) start-over
-      ∙ drop-over (p + length l / 2 + 1) (exponents p c (pairs l)) d n
+  pub start-summed : (l : List ℕ) (r : ℕ) (d″ : List ℕ)
+      → SummedUp p (values _+_ (take (p + 1) (set d′ (c + 1) 1))) (pairs l) (set d′ (c + 1) 1) d″ r → SummedUp p (exponents p c) (pairs l) d d″ r
+  start-summed l r d″ s =
+      let before : List Step = stepsBefore r (pairs l) in
+      record {
+        place = s .place ∙ ap (λ (t : List ℕ). firstOver 1 (drop (p + 1) t)) (start-sums (pairs l));
+        cells = s .cells ∙ ap (λ (t : List ℕ). over t (set d′ (c + 1) 1)) (start-sums before) ∙ start-over before;
+      }

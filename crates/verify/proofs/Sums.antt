@@ -1,77 +1,77 @@
--- The loop that sums one column in the scratch.
+-- The loop that sums one column in the scratch: the sum at hand is that step's value, so the first that is too large is met at its place.
 use mathlib.Core.Path.{_≡_, sym, ap, _∙_}
 use mathlib.Core.List.{List}
 use Prim.Native.Nat.{ℕ, _+_, _/_, _≤_, _<_}
+use native.Mathlib.Numerals.{add-one}
 use native.Mathlib.Omega.{arith}
-use lib.ListN.{length, getD, take, drop, set, length-drop, length-set}
-use lib.Seq.{length-take-le, getD-take, getD-set-same, drop-at}
+use lib.ListN.{length, getD, take, drop, set, take-append-drop}
+use lib.Seq.{length-take-le, getD-set-same}
 use Rattle.chain.specs.Verdict.{fine}
 use Rattle.chain.specs.Written.{over}
 use Rattle.chain.specs.Chain.{mostAmount, pairs, stepsRule, values}
+use Rattle.chain.specs.Inner.{stepAt}
+use Rattle.chain.specs.declared.Step.{Step}
 use Rattle.chain.proofs.Pairs.{length-pairs}
-use Rattle.chain.proofs.Values.{length-values, values-before}
-use Rattle.chain.proofs.Filling.{filledFrom, valueAt, fill-on}
-use Rattle.chain.proofs.Written.{over-getD}
+use Rattle.chain.proofs.Values.{length-values, values-keep}
+use Rattle.chain.proofs.Filling.{madeTo, valueAt, length-made, fill-on, fill-end}
+use Rattle.chain.proofs.Written.{over-length, over-getD}
+use Rattle.verify.specs.Inner.{stepsBefore}
 use Rattle.verify.proofs.Over.{overLeft, over-on, over-bad, over-end}
 
 -- the sums of all steps after the p + 1 values at the front of d
 abbrev pub sums : ℕ → List ℕ → List ℕ → List ℕ
 sums p l d = values _+_ (take (p + 1) d) (pairs l)
 
-pub length-sums : (p : ℕ) (l d : List ℕ) → p < length d → length (sums p l d) ≡ p + length l / 2 + 1
-length-sums p l d h = omega (arith, length-values _+_ (take (p + 1) d) (pairs l), length-take-le (p + 1) d (omega arith), length-pairs l)
-
--- past a list that was written over the front
-pub drop-over : (n : ℕ) (l old : List ℕ) → length l ≡ n → drop n (over l old) ≡ drop n old
-unfolding over
-drop-over n l old e = drop-at l (drop (length l) old) n e ∙ ap (λ (k : ℕ). drop k old) e
-
--- after s steps the values made already stand in the scratch
-made : (p : ℕ) (l : List ℕ) (s : ℕ) (vs : List ℕ) (i : ℕ) → i < p + s + 1 → p + s < length vs → getD (filledFrom _+_ p l s vs) i 0 ≡ getD vs i 0
-unfolding filledFrom
-made p l s vs i h room =
-    let n : length (take (p + s + 1) vs) ≡ p + s + 1 = length-take-le (p + s + 1) vs (omega arith) in
-    over-getD (values _+_ (take (p + s + 1) vs) (drop s (pairs l))) vs i (omega (arith, length-values _+_ (take (p + s + 1) vs) (drop s (pairs l))))
-    ∙ values-before _+_ (take (p + s + 1) vs) (drop s (pairs l)) i (omega arith)
-    ∙ getD-take (p + s + 1) vs i 0 h
+-- the step at hand: its number is in range, the steps are legal, and the scratch has room for all values
+pub record AtStep (p : ℕ) (l d : List ℕ) (s : ℕ) : Type 0 where
+  pub there : s < length l / 2
+  pub legal : stepsRule p 1 (pairs l) ≡ fine
+  pub room : p + length l / 2 < length d
 
 -- `d` is the scratch as lent, `vs` as it is after s steps
 module _ (p : ℕ) (l d : List ℕ) (s : ℕ) (vs : List ℕ) where
-  -- the sum at hand is that of the step
-  sum-is : (x : ℕ) → s < length l / 2 → stepsRule p 1 (pairs l) ≡ fine → p + length l / 2 < length vs → length vs ≡ length d → x ≡ valueAt _+_ l s vs
-      → over (sums p l d) d ≡ filledFrom _+_ p l s vs → x ≡ getD (sums p l d) (p + s + 1) 0
-  sum-is x h ok room same e i =
-      let long : p + s + 1 < length (sums p l d) = omega (arith, length-sums p l d (omega arith)) in
-      sym
-      (sym (over-getD (sums p l d) d (p + s + 1) long)
-      ∙ ap (λ (t : List ℕ). getD t (p + s + 1) 0) (fill-on _+_ p l s vs (over (sums p l d) d) x h ok room e i)
-      ∙ made p l (s + 1) (set vs (p + s + 1) x) (p + s + 1) (omega arith) (simp length-set (omega arith))
-      ∙ getD-set-same vs (p + s + 1) x 0 (omega arith))
+  long : p + length l / 2 < length d → length (sums p l d) ≡ p + length l / 2 + 1
+  long room = omega (arith, length-values _+_ (take (p + 1) d) (pairs l), length-take-le (p + 1) d (omega arith), length-pairs l)
+
+  -- the sum at hand is the value of the step
+  sum-is : (x : Step) (v : ℕ) → AtStep p l d s → x ≡ stepAt l s → v ≡ valueAt _+_ x vs → vs ≡ madeTo _+_ p l s d → v ≡ getD (sums p l d) (p + s + 1) 0
+  unfolding madeTo
+  sum-is x v at is e made =
+      let start : List ℕ = take (p + 1) d in
+      let first : List Step = take (s + 1) (pairs l) in
+      let room = at .room in
+      let there = at .there in
+      let next = fill-on _+_ p l s d vs x v there is (at .legal) room e made in
+      let few = length-made _+_ p l (s + 1) d (omega arith) (omega arith) in
+      let so-far = length-made _+_ p l s d (omega arith) (omega arith) in
+      let front-low : length (values _+_ start (take s (pairs l))) ≤ length d = omega arith in
+      let same : length vs ≡ length d = ap length made ∙ over-length (values _+_ start (take s (pairs l))) d front-low in
+      sym (getD-set-same vs (p + s + 1) v 0 (omega arith))
+      ∙ ap (λ (t : List ℕ). getD t (p + s + 1) 0) next
+      ∙ over-getD (values _+_ start first) d (p + s + 1) (omega arith)
+      ∙ sym (values-keep _+_ start first (drop (s + 1) (pairs l)) (p + s + 1) (omega (arith, length-values _+_ start first)))
+      ∙ ap (λ (t : List Step). getD (values _+_ start t) (p + s + 1) 0) (take-append-drop (s + 1) (pairs l))
 
   -- `f` is the place of the first sum that is too large
   module _ (f : ℕ) where
-    pub sum-on : (x : ℕ) → s < length l / 2 → stepsRule p 1 (pairs l) ≡ fine → p + length l / 2 < length vs → length vs ≡ length d
-        → x ≡ valueAt _+_ l s vs → over (sums p l d) d ≡ filledFrom _+_ p l s vs → x ≤ mostAmount → f ≡ overLeft p (sums p l d) s
-        → f ≡ overLeft p (sums p l d) (s + 1)
-    sum-on x h ok room same e i low w =
-        over-on p (sums p l d) s f (omega (arith, length-sums p l d (omega arith))) (rw (sum-is x h ok room same e i) at low) w
+    pub sum-on : (x : Step) (v : ℕ) → AtStep p l d s → x ≡ stepAt l s → v ≡ valueAt _+_ x vs → vs ≡ madeTo _+_ p l s d → v ≤ mostAmount
+        → f ≡ overLeft p (sums p l d) s → f ≡ overLeft p (sums p l d) (s + 1)
+    sum-on x v at is e made low w =
+        over-on p (sums p l d) s f (omega (arith, long (at .room), at .there)) (rw (sum-is x v at is e made) at low) w
 
-    pub sum-bad : (x : ℕ) → s < length l / 2 → stepsRule p 1 (pairs l) ≡ fine → p + length l / 2 < length vs → length vs ≡ length d
-        → x ≡ valueAt _+_ l s vs → over (sums p l d) d ≡ filledFrom _+_ p l s vs → mostAmount < x → f ≡ overLeft p (sums p l d) s → s + 1 ≡ f
-    sum-bad x h ok room same e i high w =
-        over-bad p (sums p l d) s f (omega (arith, length-sums p l d (omega arith))) (rw (sum-is x h ok room same e i) at high) w
+    pub sum-bad : (x : Step) (v : ℕ) → AtStep p l d s → x ≡ stepAt l s → v ≡ valueAt _+_ x vs → vs ≡ madeTo _+_ p l s d → mostAmount < v
+        → f ≡ overLeft p (sums p l d) s → s + 1 ≡ f
+    sum-bad x v at is e made high w =
+        over-bad p (sums p l d) s f (omega (arith, long (at .room), at .there)) (rw (sum-is x v at is e made) at high) w
 
-    pub sum-end : length l / 2 ≤ s → p + length l / 2 < length vs → length vs ≡ length d → f ≡ overLeft p (sums p l d) s → 0 ≡ f
-    sum-end h room same w = over-end p (sums p l d) s f (omega (arith, length-sums p l d (omega arith))) w
+    pub sum-end : length l / 2 ≤ s → p + length l / 2 < length d → f ≡ overLeft p (sums p l d) s → 0 ≡ f
+    sum-end h room w = over-end p (sums p l d) s f (omega (arith, long room)) w
 
-  -- cells past the last value never change
-  pub sum-past : s ≤ length l / 2 → p + length l / 2 < length vs → length vs ≡ length d → over (sums p l d) d ≡ filledFrom _+_ p l s vs
-      → drop (p + length l / 2 + 1) vs ≡ drop (p + length l / 2 + 1) d
-  unfolding filledFrom
-  sum-past h room same i =
-      let all : List ℕ = values _+_ (take (p + s + 1) vs) (drop s (pairs l)) in
-      let n : length all ≡ p + length l / 2 + 1 = omega (arith, length-values _+_ (take (p + s + 1) vs) (drop s (pairs l)), length-take-le (p + s + 1) vs (omega arith), length-drop s (pairs l), length-pairs l) in
-      sym
-      (sym (drop-over (p + length l / 2 + 1) (sums p l d) d (length-sums p l d (omega arith)))
-      ∙ ap (drop (p + length l / 2 + 1)) i
-      ∙ drop-over (p + length l / 2 + 1) all vs n)
+  -- the scratch where the sum of step s is too large, and after all steps
+  pub sums-stopped : vs ≡ madeTo _+_ p l s d → vs ≡ over (values _+_ (take (p + 1) d) (stepsBefore (s + 1) (pairs l))) d
+  unfolding madeTo stepsBefore
+  sums-stopped made = rw (add-one s) made
+
+  pub sums-all : length l / 2 ≤ s → vs ≡ madeTo _+_ p l s d → vs ≡ over (values _+_ (take (p + 1) d) (stepsBefore 0 (pairs l))) d
+  unfolding stepsBefore
+  sums-all h made = fill-end _+_ p l s d vs h made

@@ -1,2 +1,3 @@
 pub mod Verify
 pub mod Verified
+pub mod Inner

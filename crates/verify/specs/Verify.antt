@@ -6,7 +6,7 @@ use lib.ListN.{length, getD, drop, replicate}
 use Rattle.chain.specs.Tests.{_<?_, _=?_}
 use Rattle.chain.specs.Verdict.{Verdict, _then_, refuseIf, refuseAt, Answer, answer, onFine}
 use Rattle.chain.specs.Written.{over}
-use Rattle.chain.specs.Chain.{mostSteps, mostAmount, sizesRule, lengthRule, chainRule, exponents}
+use Rattle.chain.specs.Chain.{mostSteps, mostAmount, shapeRule, chainRule, exponents}
 use Rattle.chain.specs.declared.Step.{Step}
 use Rattle.sheet.specs.Sheet.{amount, amountsRule}
 
@@ -54,8 +54,7 @@ scratchSize p n = p + n + 1
 -- "check 1, 4, 2, steps, 12, 5": what is found before the scratch is used; the last argument is how many numbers are lent
 unfoldable pub fittingRule : ℕ → List Step → List ℕ → List ℕ → ℕ → Verdict
 fittingRule p steps outputs amounts scratch =
-    sizesRule p (length outputs)
-    then lengthRule mostSteps (length steps)
+    shapeRule mostSteps p (length outputs) (length steps)
     then amountsRule p (length outputs) amounts
     then chainRule p steps outputs
     then refuseIf (scratch <? scratchSize p (length steps)) 5 0

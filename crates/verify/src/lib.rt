@@ -10,6 +10,7 @@ ghost use Rattle.chain.specs.Chain.{mostColumns, pairs, stepsRule, outputsRule,
 ghost use Rattle.chain.specs.Judgement.{verdictOf};
 ghost use Rattle.verify.specs.Verify.{earlier, firstOver, firstOther, exponentsRule, payslipsRule, scratchSize, fittingRule, verifyAnswer, verifyScratch};
 ghost use Rattle.verify.specs.Verified.{verifiedOf};
+ghost use Rattle.verify.specs.Inner.{SummedUp, Held};
 use chain::Judgement;
 
 // What the check answers: the chain passed, or a refusal with its number in document 01 and its place, 0 for none.
@@ -17,9 +18,6 @@ pub enum Verified {
     Passed,
     Refused(u32, usize),
 }
-
-// The largest exponent.
-const MOST_AMOUNT: u64 = 4294967295;
 
 // The steps, 12, then 5: scratch is the number of cells lent.
 fn judge_room(p: usize, steps: &[u32], outputs: &[u32], scratch: usize) -> Judgement
@@ -42,13 +40,7 @@ fn judge_room(p: usize, steps: &[u32], outputs: &[u32], scratch: usize) -> Judge
 fn judge(p: usize, steps: &[u32], outputs: &[u32], amounts: &[u32], scratch: usize) -> Judgement
     ensures { λ r. ⌜ verdictOf r ≡ fittingRule p (pairs (now (steps .entry))) (now (outputs .entry)) (now (amounts .entry)) scratch ⌝ }
 {
-    match chain::judge_sizes(p, outputs.len()) {
-        Judgement::Refused(number, place) => {
-            return Judgement::Refused(number, place);
-        }
-        Judgement::Fine => {}
-    }
-    match chain::judge_length(chain::MOST_STEPS, steps.len() / 2) {
+    match chain::judge_shape(chain::MOST_STEPS, p, outputs.len(), steps.len() / 2) {
         Judgement::Refused(number, place) => {
             return Judgement::Refused(number, place);
         }
@@ -98,23 +90,23 @@ fn plus(a: u32, b: u32) -> u64
     (a as u64) + (b as u64)
 }
 
-// One sum for each step, after the p + 1 values that stand in the scratch already, up to the first that is too large: its place, 0 for none.
+// One sum for each step, after the p + 1 values that stand in the scratch already, up to the first that is too large, which is not stored: its place,
+// 0 for none.
 fn sum(p: usize, steps: &[u32], scratch: &mut [u32]) -> usize
     requires { ⌜ (p ≤ mostColumns) × (stepsRule p 1 (pairs (now steps)) ≡ fine) × (p + length (now steps) / 2 < length (now scratch)) ⌝ }
-    ensures { λ r. ⌜ r ≡ firstOver 1 (drop (p + 1) (values _+_ (take (p + 1) (now (scratch .entry))) (pairs (now (steps .entry))))) ⌝ }
-    ensures { λ r. ⌜ (r ≡ 0 → now (scratch .exit) ≡ over (values _+_ (take (p + 1) (now (scratch .entry))) (pairs (now (steps .entry)))) (now (scratch .entry))) ⌝ }
-    ensures { λ r. ⌜ drop (p + length (now (steps .entry)) / 2 + 1) (now (scratch .exit)) ≡ drop (p + length (now (steps .entry)) / 2 + 1) (now (scratch .entry)) ⌝ }
+    ensures { λ r. ⌜ SummedUp p (values _+_ (take (p + 1) (now (scratch .entry)))) (pairs (now (steps .entry))) (now (scratch .entry)) (now (scratch .exit)) r ⌝ }
 {
     let n = steps.len() / 2;
     let mut s: usize = 0;
     while s < n {
-        let a = steps[2 * s] as usize;
-        let b = steps[2 * s + 1] as usize;
-        let x = plus(scratch[a], scratch[b]);
-        if MOST_AMOUNT < x {
+        let x = chain::step_at(steps, s);
+        let a = x.first as usize;
+        let b = x.second as usize;
+        let e = plus(scratch[a], scratch[b]);
+        if (chain::MOST_AMOUNT as u64) < e {
             return s + 1;
         }
-        scratch[p + s + 1] = x as u32;
+        scratch[p + s + 1] = e as u32;
         s += 1;
     }
     0
@@ -123,9 +115,7 @@ fn sum(p: usize, steps: &[u32], scratch: &mut [u32]) -> usize
 // The exponents of column c into the scratch, up to the first that is too large: its place, 0 for none.
 pub fn column(p: usize, c: usize, steps: &[u32], scratch: &mut [u32]) -> usize
     requires { ⌜ (c < p) × (p ≤ mostColumns) × (stepsRule p 1 (pairs (now steps)) ≡ fine) × (p + length (now steps) / 2 < length (now scratch)) ⌝ }
-    ensures { λ r. ⌜ r ≡ firstOver 1 (drop (p + 1) (exponents p c (pairs (now (steps .entry))))) ⌝ }
-    ensures { λ r. ⌜ (r ≡ 0 → now (scratch .exit) ≡ over (exponents p c (pairs (now (steps .entry)))) (now (scratch .entry))) ⌝ }
-    ensures { λ r. ⌜ drop (p + length (now (steps .entry)) / 2 + 1) (now (scratch .exit)) ≡ drop (p + length (now (steps .entry)) / 2 + 1) (now (scratch .entry)) ⌝ }
+    ensures { λ r. ⌜ SummedUp p (exponents p c) (pairs (now (steps .entry))) (now (scratch .entry)) (now (scratch .exit)) r ⌝ }
 {
     clear(p + 1, scratch);
     scratch[c + 1] = 1;
@@ -151,8 +141,7 @@ fn compare(p: usize, c: usize, outputs: &[u32], amounts: &[u32], scratch: &[u32]
 // 13, then 14: column by column, each place the earliest over all columns. With an exponent too large no payslip is looked at any more.
 fn hold(p: usize, steps: &[u32], outputs: &[u32], amounts: &[u32], scratch: &mut [u32]) -> Judgement
     requires { ⌜ (p ≤ mostColumns) × (stepsRule p 1 (pairs (now steps)) ≡ fine) × (outputsRule (p + length (pairs (now steps))) 1 (now outputs) ≡ fine) × (length (now amounts) ≡ p * length (now outputs)) × (p + length (now steps) / 2 < length (now scratch)) ⌝ }
-    ensures { λ r. ⌜ verdictOf r ≡ (exponentsRule p (pairs (now (steps .entry))) then payslipsRule p (now (amounts .entry)) (pairs (now (steps .entry))) (now (outputs .entry))) ⌝ }
-    ensures { λ r. ⌜ drop (p + length (now (steps .entry)) / 2 + 1) (now (scratch .exit)) ≡ drop (p + length (now (steps .entry)) / 2 + 1) (now (scratch .entry)) ⌝ }
+    ensures { λ r. ⌜ Held (verdictOf r) (exponentsRule p (pairs (now (steps .entry))) then payslipsRule p (now (amounts .entry)) (pairs (now (steps .entry))) (now (outputs .entry))) (p + length (now (steps .entry)) / 2 + 1) (now (scratch .entry)) (now (scratch .exit)) ⌝ }
 {
     let mut large: usize = 0;
     let mut other: usize = 0;

@@ -1,4 +1,4 @@
--- Gathering: what b makes, and how many steps it costs, once it is multiplied by each power whose digit is d.
+-- By induction on the powers: b gets the weight of each whose digit is d, and a step for each but the first into an empty product.
 use mathlib.Core.Path.{_≡_, ap, _∙_, sym}
 use mathlib.Core.List.{List}
 use Prim.Native.Nat.{ℕ, zero, suc, _+_, _*_, _^_, _≤_, _<_}

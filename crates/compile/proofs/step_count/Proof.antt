@@ -1,14 +1,15 @@
+-- Each arm counts by the method that the number names.
 use mathlib.Core.Path.{sym, _∙_}
 use native.Mathlib.Omega.{arith}
 use denote.Ref.{now}
-use Rattle.compile.proofs.Fits.{Fitting, fitting, first-asks, other-asks}
+use Rattle.compile.proofs.Fits.{InRange, in-range, first-asks, other-asks}
 use Rattle.compile.proofs.ByMethod.{is-straus, is-yao, is-partition, same-count}
 use Rattle.compile.proofs.step_count.Statement.{statement}
 use Rattle.compile.proofs.step_count.Tie as tie
 
 -- what the caller promises
-given : (s : tie.Start) → Fitting (s .args .p) (s .args .q) (now (s .args .amounts)) (s .args .method) (s .args .k)
-given s = fitting _ _ _ _ _ (s .pre .0) (s .pre .1)
+given : (s : tie.Start) → InRange (s .args .p) (s .args .q) (now (s .args .amounts)) (s .args .method) (s .args .k)
+given s = in-range _ _ _ _ _ (s .pre .0) (s .pre .1)
 
 count-requires : tie.Need-count-requires
 count-requires c κs = first-asks (given (c .before .before)) (omega arith)

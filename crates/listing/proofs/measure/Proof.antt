@@ -10,7 +10,7 @@ use Rattle.chain.proofs.Pairs.{length-pairs}
 use Rattle.verify.specs.Verify.{earliest}
 use Rattle.verify.proofs.Places.{earliest-next}
 use Rattle.verify.proofs.Columns.{largeIn, exponents-large, exponents-fine}
-use Rattle.listing.specs.Table.{Holds}
+use Rattle.listing.specs.Inner.{TableHolds}
 use Rattle.listing.proofs.Tables.{atOutputs, filled-on}
 use Rattle.listing.proofs.measure.Statement.{statement}
 use Rattle.listing.proofs.measure.Tie as tie
@@ -21,7 +21,7 @@ Inv-loop p steps outputs scratch₀ table₀ large₀ c₀ scratch table large c
     × (length scratch ≡ length scratch₀)
     × (length table ≡ length table₀)
     × (large ≡ earliest c (largeIn p (pairs steps)))
-    × (large ≡ 0 → Holds table (length outputs) c (atOutputs p (pairs steps) outputs))
+    × (large ≡ 0 → TableHolds table (length outputs) c (atOutputs p (pairs steps) outputs))
 
 abbrev μ-loop : tie.MeasureT-loop
 μ-loop p steps outputs scratch₀ table₀ large₀ c₀ scratch table large c = p - c
@@ -61,8 +61,8 @@ loop-again c =
       search needs,
       b .column .kept .1 .1 .1 .0 ∙ l .loop .inv .1,
       g .gather .kept .1 .1 .1 .0 ∙ l .loop .inv .2,
-      earliest-next (l .loop .c) (largeIn (s .args .p) (pairs (s .args .steps .now))) _ _ _ (c .earlier .ensures) (l .loop .inv .3) (b .column .ensures .0),
-      filled-on (s .args .p) (l .loop .c) (pairs (s .args .steps .now)) (s .args .outputs .now) _ _ _ _ _ _ _ (s .pre .2) (s .pre .3) (omega (arith, b .before .before .loop-test .taken, s .pre .0)) (l .loop .inv .2 ∙ s .pre .5) (c .earlier .ensures) (b .column .ensures .1 .0) (l .loop .inv .4) (g .gather .ensures),
+      earliest-next (l .loop .c) (largeIn (s .args .p) (pairs (s .args .steps .now))) _ _ _ (c .earlier .ensures) (l .loop .inv .3) (b .column .ensures .place),
+      filled-on (s .args .p) (l .loop .c) (pairs (s .args .steps .now)) (s .args .outputs .now) _ _ _ _ _ _ _ (s .pre .2) (s .pre .3) (omega (arith, b .before .before .loop-test .taken, s .pre .0)) (l .loop .inv .2 ∙ s .pre .5) (c .earlier .ensures) (b .column .ensures) (l .loop .inv .4) (g .gather .ensures),
     )
 
 same-length : tie.Need-same-length Inv-loop μ-loop

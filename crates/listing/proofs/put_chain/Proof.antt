@@ -1,5 +1,5 @@
 use borrow.Author.Needs.{needs}
-use Rattle.listing.specs.Table.{amountIn}
+use Rattle.listing.specs.Inner.{amountIn}
 use Rattle.listing.proofs.Lines.{put-listing}
 use Rattle.listing.proofs.put_chain.Statement.{statement}
 use Rattle.listing.proofs.put_chain.Tie as tie

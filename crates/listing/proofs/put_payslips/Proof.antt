@@ -4,10 +4,9 @@ use Prim.Native.Nat.{_+_, _*_, _-_, _≤_}
 use native.Mathlib.Omega.{arith}
 use lib.ListN.{length}
 use Rattle.listing.specs.Listing.{payslipLines}
-use Rattle.listing.specs.Table.{amountIn}
-use Rattle.listing.specs.Room.{mostLine}
-use Rattle.listing.specs.Put.{Put}
-use Rattle.listing.proofs.Putting.{put-none}
+use Rattle.listing.specs.Inner.{amountIn, mostLine}
+use Rattle.decimal.specs.Inner.{Put}
+use Rattle.decimal.proofs.Putting.{put-none}
 use Rattle.listing.proofs.Lines.{put-next}
 use Rattle.listing.proofs.put_payslips.Statement.{statement}
 use Rattle.listing.proofs.put_payslips.Tie as tie

@@ -3,8 +3,8 @@ use Prim.Native.Nat.{_≤_}
 use native.Mathlib.Omega.{arith}
 use mathlib.Core.Path.{_∙_}
 use lib.ListN.{length, length-set}
-use Rattle.listing.specs.Listing.{decimal}
-use Rattle.listing.proofs.Decimal.{decimal-short}
+use Rattle.decimal.specs.Decimal.{decimal}
+use Rattle.decimal.proofs.Decimal.{decimal-short}
 use Rattle.listing.proofs.Lines.{put-two, put-line}
 use Rattle.listing.proofs.put_sizes.Statement.{statement}
 use Rattle.listing.proofs.put_sizes.Tie as tie

@@ -10,6 +10,9 @@ mul-y c = search needs
 add-y : tie.Need-add-y
 add-y c = search needs
 
+cast-if1 : tie.Need-cast-if1
+cast-if1 c = search needs
+
 returns : tie.Need-returns
 unfolding grown
 returns c = search choosing
@@ -22,4 +25,4 @@ unfolding grown
 returns-2 c = search choosing
 
 pub grow-spec : {M : Type 1} → statement M
-grow-spec = tie.close (tie.spec mul-y add-y returns cast-t8 returns-2)
+grow-spec = tie.close (tie.spec mul-y add-y cast-if1 returns cast-t8 returns-2)

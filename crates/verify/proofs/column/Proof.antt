@@ -1,7 +1,8 @@
+-- Cleared cells with a 1 in the column's place are the start of its exponents, and the sums do the rest.
 use borrow.Author.Needs.{needs}
 use mathlib.Core.Path.{_∙_}
 use lib.ListN.{length-set}
-use Rattle.verify.proofs.Start.{start-place, start-written, start-past}
+use Rattle.verify.proofs.Start.{start-summed}
 use Rattle.verify.proofs.column.Statement.{statement}
 use Rattle.verify.proofs.column.Tie as tie
 
@@ -35,10 +36,8 @@ returns c =
     let start = k .before .before .before .before in
     let l = start .args .steps .now in
     let h = start .pre .0 in
-    let e = k .clear .ensures in (
-      start-place _ _ l _ _ h e _ (b .sum .ensures .0),
-      (start-written _ _ l _ _ h e _ _ (b .sum .ensures .1 .0), start-past _ _ l _ _ h e (b .sum .last .1 .1 .0) (b .sum .ensures .1 .1)),
-    )
+    let e = k .clear .ensures in
+    start-summed _ _ _ _ h e l _ _ (b .sum .ensures)
 
 pub column-spec : {M : Type 1} → statement M
 column-spec =

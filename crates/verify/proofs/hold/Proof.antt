@@ -1,3 +1,4 @@
+-- After c columns the earliest places of 13 and 14 are those of the first c; cells past the values never changed.
 use borrow.Author.Needs.{needs}
 use mathlib.Core.Path.{_≡_, refl, _∙_}
 use mathlib.Core.Logic.{⊎-elim}
@@ -9,7 +10,7 @@ use Rattle.chain.proofs.Outputs.{outputs-low}
 use Rattle.chain.proofs.Pairs.{length-pairs}
 use Rattle.verify.specs.Verify.{earliest}
 use Rattle.verify.proofs.Places.{earliest-next}
-use Rattle.verify.proofs.Columns.{largeIn, otherIn, other-next, held-large, held-other, held-fine}
+use Rattle.verify.proofs.Columns.{largeIn, otherIn, other-next, summed-past, held-large, held-other, held-fine}
 use Rattle.verify.proofs.hold.Statement.{statement}
 use Rattle.verify.proofs.hold.Tie as tie
 
@@ -59,13 +60,13 @@ loop-again c =
     let start = b .before .before .before .before .before .before .before .before in (
       search needs,
       b .column .kept .1 .1 .1 .0 ∙ l .inv .1,
-      earliest-next (l .c) (largeIn (start .args .p) (pairs (start .args .steps .now))) _ _ _ (c .before .earlier .ensures) (l .inv .2) (b .column .ensures .0),
+      earliest-next (l .c) (largeIn (start .args .p) (pairs (start .args .steps .now))) _ _ _ (c .before .earlier .ensures) (l .inv .2) (b .column .ensures .place),
       λ z. ⊎-elim
           (λ w. w .4
-          ∙ other-next _ _ _ (pairs (start .args .steps .now)) (start .args .outputs .now) _ _ _ _ _ _ _ _ (start .pre .2) (c .before .earlier .ensures) z (b .column .ensures .1 .0) (l .inv .3) (w .2 .ensures) (w .3 .ensures))
+          ∙ other-next _ _ _ (pairs (start .args .steps .now)) (start .args .outputs .now) _ _ _ _ _ _ _ _ (start .pre .2) (c .before .earlier .ensures) z (b .column .ensures) (l .inv .3) (w .2 .ensures) (w .3 .ensures))
           (λ w. absurd (w .0 .left z))
           (c .if1 .came),
-      b .column .ensures .1 .1 ∙ l .inv .4,
+      summed-past _ _ (start .args .steps .now) _ _ _ (b .column .ensures) ∙ l .inv .4,
     )
 
 same-length : tie.Need-same-length Inv-loop μ-loop
@@ -74,7 +75,7 @@ same-length c = search needs
 returns : tie.Need-returns Inv-loop μ-loop
 returns c =
     let l = c .before .before .loop in
-    (held-large _ _ _ _ (c .before .loop-test .left) (l .inv .0) (l .inv .2) _ _ 0 (c .if2 .taken), l .inv .4)
+    record { verdict = held-large _ _ _ _ (c .before .loop-test .left) (l .inv .0) (l .inv .2) _ _ 0 (c .if2 .taken); past = l .inv .4 }
 
 same-length-2 : tie.Need-same-length-2 Inv-loop μ-loop
 same-length-2 c = search needs
@@ -82,7 +83,11 @@ same-length-2 c = search needs
 returns-2 : tie.Need-returns-2 Inv-loop μ-loop
 returns-2 c =
     let l = c .before .before .before .loop in
-    (held-other _ _ _ _ (c .before .before .loop-test .left) (l .inv .0) (l .inv .2) _ _ _ (c .before .if2 .left) (l .inv .3) (c .if3 .taken), l .inv .4)
+    let end = c .before .before .loop-test .left in
+    record {
+      verdict = held-other _ _ _ _ end (l .inv .0) (l .inv .2) _ _ _ (c .before .if2 .left) (l .inv .3) (c .if3 .taken);
+      past = l .inv .4;
+    }
 
 same-length-3 : tie.Need-same-length-3 Inv-loop μ-loop
 same-length-3 c = search needs
@@ -90,7 +95,11 @@ same-length-3 c = search needs
 returns-3 : tie.Need-returns-3 Inv-loop μ-loop
 returns-3 c =
     let l = c .before .before .before .loop in
-    (held-fine _ _ _ _ (c .before .before .loop-test .left) (l .inv .0) (l .inv .2) _ _ _ (c .before .if2 .left) (l .inv .3) (c .if3 .left), l .inv .4)
+    let end = c .before .before .loop-test .left in
+    record {
+      verdict = held-fine _ _ _ _ end (l .inv .0) (l .inv .2) _ _ _ (c .before .if2 .left) (l .inv .3) (c .if3 .left);
+      past = l .inv .4;
+    }
 
 pub hold-spec : {M : Type 1} → statement M
 hold-spec =

@@ -1,14 +1,14 @@
+-- After s turns the scratch has the sums of the first s steps, and the first place over the limit is the first among those that are left.
 use borrow.Author.Needs.{needs}
 use mathlib.Core.Path.{_≡_}
-use Prim.Native.Nat.{_+_, _*_, _-_, _≤_, _<_}
+use Prim.Native.Nat.{_+_, _-_, _≤_, _<_}
 use native.Mathlib.Omega.{arith}
 use lib.ListN.{length, drop, length-set}
-use Rattle.chain.specs.Written.{over}
-use Rattle.chain.proofs.Steps.{within}
-use Rattle.chain.proofs.Filling.{filledFrom, fill-start, fill-on, fill-end}
+use Rattle.chain.proofs.Steps.{first-within, second-within, within}
+use Rattle.chain.proofs.Filling.{madeTo, fill-start, fill-on}
 use Rattle.verify.specs.Verify.{firstOver}
 use Rattle.verify.proofs.Over.{overLeft, over-start}
-use Rattle.verify.proofs.Sums.{sums, sum-on, sum-bad, sum-end, sum-past}
+use Rattle.verify.proofs.Sums.{sums, sum-on, sum-bad, sum-end, sums-stopped, sums-all}
 use Rattle.verify.proofs.sum.Statement.{statement}
 use Rattle.verify.proofs.sum.Tie as tie
 
@@ -17,7 +17,7 @@ Inv-loop p steps scratch₀ n s₀ scratch s =
     (s ≤ n)
     × (length scratch ≡ length scratch₀)
     × (p + n < length scratch)
-    × (over (sums p steps scratch₀) scratch₀ ≡ filledFrom _+_ p steps s scratch)
+    × (scratch ≡ madeTo _+_ p steps s scratch₀)
     × (firstOver 1 (drop (p + 1) (sums p steps scratch₀)) ≡ overLeft p (sums p steps scratch₀) s)
 
 abbrev μ-loop : tie.MeasureT-loop
@@ -26,47 +26,38 @@ abbrev μ-loop : tie.MeasureT-loop
 loop-holds : tie.Need-loop-holds Inv-loop μ-loop
 loop-holds c = (search needs, search needs, search needs, search fill-start, search over-start)
 
-mul-a : tie.Need-mul-a Inv-loop μ-loop
-mul-a c = search needs
-
-mul-a-2 : tie.Need-mul-a-2 Inv-loop μ-loop
-mul-a-2 c = search needs
-
-shared-slice-read-a : tie.Need-shared-slice-read-a Inv-loop μ-loop
-shared-slice-read-a c = search needs
+step-at-requires : tie.Need-step-at-requires Inv-loop μ-loop
+step-at-requires c κs = search needs
 
 cast-a : tie.Need-cast-a Inv-loop μ-loop
-cast-a c = omega (arith, c .shared-slice-known2 .given (2 * c .before .before .loop .s))
-
-mul-b : tie.Need-mul-b Inv-loop μ-loop
-mul-b c = search needs
-
-add-b : tie.Need-add-b Inv-loop μ-loop
-add-b c = search needs
-
-mul-b-2 : tie.Need-mul-b-2 Inv-loop μ-loop
-mul-b-2 c = search needs
-
-shared-slice-read-b : tie.Need-shared-slice-read-b Inv-loop μ-loop
-shared-slice-read-b c = search needs
+cast-a c = search needs
 
 cast-b : tie.Need-cast-b Inv-loop μ-loop
-cast-b c = omega (arith, c .shared-slice-known3 .given (2 * c .before .before .before .loop .s + 1))
+cast-b c = search needs
 
 mul-plus : tie.Need-mul-plus Inv-loop μ-loop
 mul-plus c = search (needs, within)
 
 slice-read-plus : tie.Need-slice-read-plus Inv-loop μ-loop
-slice-read-plus c = search (needs, within)
+slice-read-plus c =
+    let l = c .before .before .before .before .before in
+    let t = c .before .before .before .before .loop-test .taken in
+    first-within _ _ _ _ _ (c .before .before .before .step-at .ensures) t (l .before .before .before .pre .1) (l .loop .inv .2)
 
 mul-plus-2 : tie.Need-mul-plus-2 Inv-loop μ-loop
 mul-plus-2 c = search (needs, within)
 
 slice-read-plus-2 : tie.Need-slice-read-plus-2 Inv-loop μ-loop
-slice-read-plus-2 c = search (needs, within)
+slice-read-plus-2 c =
+    let l = c .before .before .before .before .before .before in
+    let t = c .before .before .before .before .before .loop-test .taken in
+    second-within _ _ _ _ _ (c .before .before .before .before .step-at .ensures) t (l .before .before .before .pre .1) (l .loop .inv .2)
 
 plus-requires : tie.Need-plus-requires Inv-loop μ-loop
 plus-requires c κs = search needs
+
+cast-if1 : tie.Need-cast-if1 Inv-loop μ-loop
+cast-if1 c = search needs
 
 add-result : tie.Need-add-result Inv-loop μ-loop
 add-result c = search needs
@@ -77,9 +68,13 @@ same-length c = search needs
 returns : tie.Need-returns Inv-loop μ-loop
 returns c =
     let b = c .before .before .before .before .before .before in
-    let l = b .before .loop in
-    let start = b .before .before .before .before in
-    (sum-bad _ _ _ _ _ _ _ (b .loop-test .taken) (start .pre .1) (l .inv .2) (l .inv .1) (c .before .plus .ensures) (l .inv .3) (c .if1 .taken) (l .inv .4), (λ z. absurd (omega arith), search sum-past))
+    let l = b .before .before in
+    let start = l .before .before .before .pre in
+    record {
+      place =
+          sum-bad _ _ _ _ _ _ _ _ (record { there = b .before .loop-test .taken; legal = start .1; room = start .2 }) (b .step-at .ensures) (c .before .plus .ensures) (l .loop .inv .3) (c .if1 .taken) (l .loop .inv .4);
+      cells = search sums-stopped;
+    }
 
 cast-scratch : tie.Need-cast-scratch Inv-loop μ-loop
 cast-scratch c = search needs
@@ -105,15 +100,20 @@ loop-less c = search needs
 loop-again : tie.Need-loop-again Inv-loop μ-loop
 loop-again c =
     let b = c .before .before .before .before .before .before in
-    let l = b .before .loop in
-    let start = b .before .before .before .before in
-    (search needs, simp length-set (search needs), simp length-set (search needs), search fill-on, sum-on _ _ _ _ _ _ _ (b .loop-test .taken) (start .pre .1) (l .inv .2) (l .inv .1) (c .before .plus .ensures) (l .inv .3) (c .if1 .left) (l .inv .4))
+    let l = b .before .before in
+    let start = l .before .before .before .pre in (
+      search needs,
+      simp length-set (search needs),
+      simp length-set (search needs),
+      search fill-on,
+      sum-on _ _ _ _ _ _ _ _ (record { there = b .before .loop-test .taken; legal = start .1; room = start .2 }) (b .step-at .ensures) (c .before .plus .ensures) (l .loop .inv .3) (c .if1 .left) (l .loop .inv .4),
+    )
 
 same-length-2 : tie.Need-same-length-2 Inv-loop μ-loop
 same-length-2 c = search needs
 
 returns-2 : tie.Need-returns-2 Inv-loop μ-loop
-returns-2 c = (search sum-end, (λ z. search fill-end, search sum-past))
+returns-2 c = record { place = search sum-end; cells = search sums-all }
 
 pub sum-spec : {M : Type 1} → statement M
 sum-spec =
@@ -122,20 +122,15 @@ sum-spec =
     Inv-loop
     μ-loop
     loop-holds
-    mul-a
-    mul-a-2
-    shared-slice-read-a
+    step-at-requires
     cast-a
-    mul-b
-    add-b
-    mul-b-2
-    shared-slice-read-b
     cast-b
     mul-plus
     slice-read-plus
     mul-plus-2
     slice-read-plus-2
     plus-requires
+    cast-if1
     add-result
     same-length
     returns

@@ -1,3 +1,4 @@
+-- What is found first answers; else the columns' verdict does, and the cleared scratch is what the definition says.
 use borrow.Author.Needs.{needs}
 use mathlib.Core.Path.{_≡_, sym}
 use Prim.Native.Nat.{_+_, _/_, _<_}
@@ -74,8 +75,8 @@ returns-2 c =
     let h = k .before .before .before .before in
     let a = h .before .before .before .before .before .before .before .before .before .args in
     let e = first (h .before .before) in (
-      late-answer _ (a .steps .now) _ _ (a .scratch .now) e _ _ (h .hold .ensures .0) (c .tell .ensures),
-      late-scratch _ (a .steps .now) _ _ _ e (h .hold .last .1 .1 .1 .1 .0) _ (h .hold .ensures .1) (k .clear .ensures),
+      late-answer _ (a .steps .now) _ _ (a .scratch .now) e _ _ (h .hold .ensures .verdict) (c .tell .ensures),
+      late-scratch _ (a .steps .now) _ _ _ e (h .hold .last .1 .1 .1 .1 .0) _ (h .hold .ensures .past) (k .clear .ensures),
     )
 
 pub verify-spec : {M : Type 1} → statement M

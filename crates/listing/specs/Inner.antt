@@ -1,0 +1,35 @@
+-- Inner vocabulary: the table of amounts that is filled column by column, and how long the parts of a listing can be. Nobody has to believe it to believe
+-- an entry point's promise.
+use mathlib.Core.Path.{_≡_}
+use mathlib.Core.List.{List}
+use Prim.Native.Nat.{ℕ, _+_, _*_, _<_}
+use lib.ListN.{getD}
+use Rattle.chain.specs.Chain.{mostColumns, mostPayslips}
+
+-- a cell for each payslip, column after column
+abbrev pub tableSize : ℕ
+tableSize = mostPayslips * mostColumns
+
+-- the amount of payslip i in column c
+abbrev pub amountIn : List ℕ → ℕ → ℕ → ℕ
+amountIn table i c = getD table (mostPayslips * c + i) 0
+
+-- the table has the amounts of the first q payslips in the first p columns; f i c is that of payslip i in column c
+pub record TableHolds (table : List ℕ) (q p : ℕ) (f : ℕ → ℕ → ℕ) : Type 0 where
+  pub each : (i c : ℕ) → i < q → c < p → amountIn table i c ≡ f i c
+
+-- a blank and the 10 digits of the largest amount
+abbrev pub mostField : ℕ
+mostField = 11
+
+-- the first line: p and q of 2 digits each, n of 5, two blanks and the newline
+abbrev pub mostSizes : ℕ
+mostSizes = 2 + 1 + 2 + 1 + 5 + 1
+
+-- a payslip's line: its number of 2 digits, its amounts and the newline
+abbrev pub mostLine : ℕ
+mostLine = 2 + mostField * mostColumns + 1
+
+-- room for every listing
+abbrev pub mostText : ℕ
+mostText = mostSizes + mostLine * mostPayslips

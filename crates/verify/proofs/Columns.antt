@@ -61,7 +61,7 @@ other-next p c amounts steps outputs large place large′ other r other′ d vs 
     low i h = omega (arith, outputs-low (p + length steps) 1 outputs ok i h, length-exponents p c steps)
 
 -- a place, or none, as a verdict
-at-some : (n k s : ℕ) → (s ≡ 0 → ⊥) → s ≡ k → refused n s ≡ refuseAt n k
+pub at-some : (n k s : ℕ) → (s ≡ 0 → ⊥) → s ≡ k → refused n s ≡ refuseAt n k
 unfolding refuseAt
 at-some n k zero some e = absurd (some refl)
 at-some n k (suc s) some e = rw (← e)

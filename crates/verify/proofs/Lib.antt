@@ -5,6 +5,8 @@ pub mod Cleared
 pub mod Sums
 pub mod Start
 pub mod Columns
+pub mod First
+pub mod Refused
 pub mod Fitting
 pub mod Answers
 pub mod Passing

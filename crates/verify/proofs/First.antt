@@ -1,4 +1,4 @@
--- The first place at which something holds is found by one walk over the places, and the earliest of the columns' is the first at which it holds in some column.
+-- One walk over the places finds the first at which something holds; the earliest of the columns' is the first at which it holds in some column.
 use mathlib.Core.Path.{_≡_, refl, sym, ap, subst, _∙_}
 use mathlib.Core.Logic.{_↔_}
 use Prim.Native.Nat.{ℕ, zero, suc, _+_, _≤_, _<_}
@@ -44,7 +44,8 @@ module _ (count : ℕ) (B : ℕ → Type 0) (decide : (t : ℕ) → Dec (B t)) (
           let last : t ≡ suc k = omega arith in
           rw last not
 
-      by-test : (left 0 ≡ left (suc k) → ((t : ℕ) → 1 ≤ t → t ≤ suc k → B t → ⊥) → Place count B (left 0)) → Dec (B (suc k)) → Place count B (left 0)
+      by-test : (left 0 ≡ left (suc k) → ((t : ℕ) → 1 ≤ t → t ≤ suc k → B t → ⊥) → Place count B (left 0)) → Dec (B (suc k))
+          → Place count B (left 0)
       by-test ih (yes b) =
           rw (is ∙ found k (omega arith) b)
           (first {s = suc k} (record { some = omega arith; inside = omega arith; here = b; before = λ t h g. past t h (omega arith) }))

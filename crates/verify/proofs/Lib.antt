@@ -6,7 +6,8 @@ pub mod Sums
 pub mod Start
 pub mod Columns
 pub mod First
-pub mod Refused
 pub mod Fitting
 pub mod Answers
 pub mod Passing
+pub mod Numbers
+pub mod Refused

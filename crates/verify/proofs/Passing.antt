@@ -42,7 +42,7 @@ start-low p steps c (suc b) h g = by-base (ℕ-discrete b c)
 
 -- the steps' exponents alone decide whether any is too large
 module _ (p : ℕ) (steps : List Step) where
-  exponents-within : exponentsRule p steps ≡ fine → Within p steps mostAmount
+  pub exponents-within : exponentsRule p steps ≡ fine → Within p steps mostAmount
   unfolding exponentsRule
   exponents-within e = record { low = λ v c h g. by-value v c h g (decLt p v) }
     where
@@ -55,7 +55,7 @@ module _ (p : ℕ) (steps : List Step) where
           rw (getD-drop (p + 1) (exponents p c steps) i 0, at) at low
       by-value v c h g (no start) = omega (arith, start-low p steps c v g (omega arith))
 
-  within-exponents : Within p steps mostAmount → fine ≡ exponentsRule p steps
+  pub within-exponents : Within p steps mostAmount → fine ≡ exponentsRule p steps
   unfolding exponentsRule
   within-exponents w = at-none 13 _ (none-earliest p (largeIn p steps) (λ c g. none-over 1 (drop (p + 1) (exponents p c steps)) (low c g)))
     where

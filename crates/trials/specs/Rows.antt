@@ -21,7 +21,8 @@ use Rattle.products.specs.Product.{times}
 use Rattle.tables.specs.Table.{entry, tableNext}
 use Rattle.straus.specs.Straus.{strausDigits, straus, strausCount, strausCeiling}
 use Rattle.yao.specs.Yao.{yaoDigits, gatherOne, yao, yaoCount, yaoCeiling}
-use Rattle.partition.specs.Partition.{columnBits, inputs, selection, partition, partitionCount, partitionCeiling}
+use Rattle.groups.specs.Groups.{columnBits, inputs, selection}
+use Rattle.partition.specs.Partition.{partition, partitionCount, partitionCeiling}
 use Rattle.compile.specs.Compile.{methodRule, methodOf, acceptedRule, compileRule, compileAnswer, compileSteps, compileOutputs}
 use Rattle.choose.specs.Choose.{Choice, first, second, neither, fileRule, better, unless, chooseRule, choice}
 use Rattle.listing.specs.Listing.{decimal, lineOf, listingRule, chainText, refusedText, textFor, listing}

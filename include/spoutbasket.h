@@ -23,12 +23,24 @@ extern "C" {
 #define SPOUTBASKET_MOST_COLUMNS 16
 #define SPOUTBASKET_MOST_PAYSLIPS 64
 #define SPOUTBASKET_MOST_STEPS 16000
-#define SPOUTBASKET_LONGEST_FILE 56116    /* bytes */
-#define SPOUTBASKET_LONGEST_LISTING 11468 /* bytes; no listing is longer */
+#define SPOUTBASKET_MOST_STEPS_EDITION_1 16000 /* in a file of edition 1 */
+
+/* The bits of n in a file of edition 1, and those before its steps: edition, p - 1, q - 1 and n. */
+#define SPOUTBASKET_LENGTH_BITS 14
+#define SPOUTBASKET_HEADER_BITS (4 + 4 + 6 + SPOUTBASKET_LENGTH_BITS)
+
+/* The bytes of the longest file, whose fields are as wide as n. */
+#define SPOUTBASKET_LONGEST_FILE \
+    ((SPOUTBASKET_HEADER_BITS \
+      + (2 * SPOUTBASKET_MOST_STEPS_EDITION_1 + SPOUTBASKET_MOST_PAYSLIPS) * SPOUTBASKET_LENGTH_BITS + 7) \
+     / 8)
+
+/* Bytes enough for every listing: the line "16 64 16000" and, for each payslip, its number, a blank and ten digits for each column, and a newline. */
+#define SPOUTBASKET_LONGEST_LISTING (12 + (2 + 11 * SPOUTBASKET_MOST_COLUMNS + 1) * SPOUTBASKET_MOST_PAYSLIPS)
 
 /* The values of a chain with p columns and n steps: what the check's scratch and the run's values need. */
 #define SPOUTBASKET_VALUES(p, n) ((size_t)(p) + (size_t)(n) + 1)
-#define SPOUTBASKET_MOST_VALUES 16017
+#define SPOUTBASKET_MOST_VALUES (SPOUTBASKET_MOST_COLUMNS + SPOUTBASKET_MOST_STEPS + 1)
 
 /* The bytes of the file of a legal chain with p columns, q payslips and n steps. */
 static inline size_t spoutbasket_file_length(size_t p, size_t q, size_t n)
@@ -37,7 +49,7 @@ static inline size_t spoutbasket_file_length(size_t p, size_t q, size_t n)
     size_t last;
     for (last = p + n; last > 0; last /= 2)
         width++;
-    return (28 + width * (2 * n + q) + 7) / 8;
+    return (SPOUTBASKET_HEADER_BITS + width * (2 * n + q) + 7) / 8;
 }
 
 /* The methods, by number, and the range of each one's parameter. */

@@ -4,6 +4,7 @@ mod methods;
 mod plain;
 mod sheet;
 
+use spoutbasket::{LONGEST_FILE, MOST_COLUMNS, MOST_PAYSLIPS, MOST_STEPS, MOST_VALUES};
 use spoutbasket_tests::ffi;
 use spoutbasket_tests::random::{legal_chain, Chain, Random};
 use std::hint::black_box;
@@ -36,17 +37,17 @@ fn report(job: &str, (ours, theirs): (f64, f64)) {
     );
 }
 
-/// 16,000 steps over 16 columns whose exponents stay small: each step multiplies by a base.
+/// The most steps over the most columns, whose exponents stay small: each step multiplies by a base.
 fn long_chain() -> Chain {
     let mut r = Random(11);
-    let (p, n) = (16, 16_000);
+    let (p, n) = (MOST_COLUMNS, MOST_STEPS);
     let steps = (1..=n)
         .flat_map(|s| [(p + s - 1) as u32, r.within(1, p) as u32])
         .collect();
     Chain {
         p,
         steps,
-        outputs: (0..64).map(|i| (p + n - i) as u32).collect(),
+        outputs: (0..MOST_PAYSLIPS).map(|i| (p + n - i) as u32).collect(),
     }
 }
 
@@ -61,9 +62,9 @@ fn main() {
         .iter()
         .flat_map(|&o| all[o as usize].iter().map(|&e| e as u32))
         .collect();
-    let (mut scratch, mut other) = (vec![0; 16_017], vec![0; 16_017]);
+    let (mut scratch, mut other) = (vec![0; MOST_VALUES], vec![0; MOST_VALUES]);
     report(
-        "check, 16,000 steps, p = 16, q = 64",
+        &format!("check, {MOST_STEPS} steps, p = {MOST_COLUMNS}, q = {MOST_PAYSLIPS}"),
         medians(
             301,
             || {
@@ -80,22 +81,27 @@ fn main() {
             },
         ),
     );
-    let scattered = legal_chain(&mut Random(12), 16, 64, 16_000, true);
-    for (name, chain) in [
-        ("run, 16,000 steps, p = 16, each on the last", &c),
-        ("run, 16,000 steps, p = 16, scattered", &scattered),
-    ] {
+    let scattered = legal_chain(
+        &mut Random(12),
+        MOST_COLUMNS,
+        MOST_PAYSLIPS,
+        MOST_STEPS,
+        true,
+    );
+    for (name, chain) in [("each on the last", &c), ("scattered", &scattered)] {
         let m = 4_294_967_291;
-        let bases: Vec<u32> = (0..16).map(|i| 1_000_003 * (i + 1)).collect();
-        let (mut values, mut other) = (vec![0; 16_017], vec![0; 16_017]);
-        let (mut figures, mut other_figures) = (vec![0; 64], vec![0; 64]);
+        let bases: Vec<u32> = (0..MOST_COLUMNS as u32)
+            .map(|i| 1_000_003 * (i + 1))
+            .collect();
+        let (mut values, mut other) = (vec![0; MOST_VALUES], vec![0; MOST_VALUES]);
+        let (mut figures, mut other_figures) = (vec![0; MOST_PAYSLIPS], vec![0; MOST_PAYSLIPS]);
         report(
-            name,
+            &format!("run, {MOST_STEPS} steps, p = {MOST_COLUMNS}, {name}"),
             medians(
                 1001,
                 || {
                     assert!(ffi::run(
-                        16,
+                        MOST_COLUMNS,
                         &chain.steps,
                         &chain.outputs,
                         black_box(m),
@@ -107,7 +113,7 @@ fn main() {
                 },
                 || {
                     assert!(plain::run(
-                        16,
+                        MOST_COLUMNS,
                         &chain.steps,
                         &chain.outputs,
                         black_box(m),
@@ -121,14 +127,14 @@ fn main() {
         );
         assert_eq!(figures, other_figures);
     }
-    let (mut bytes, mut other) = (vec![0; 56_116], vec![0; 56_116]);
+    let (mut bytes, mut other) = (vec![0; LONGEST_FILE], vec![0; LONGEST_FILE]);
     report(
-        "write, a file of 56,116 bytes",
+        &format!("write, a file of {LONGEST_FILE} bytes"),
         medians(
             1001,
             || {
                 assert!(ffi::write(
-                    16,
+                    MOST_COLUMNS,
                     black_box(&scattered.steps),
                     &scattered.outputs,
                     &mut bytes
@@ -137,7 +143,7 @@ fn main() {
             },
             || {
                 assert!(plain::write(
-                    16,
+                    MOST_COLUMNS,
                     black_box(&scattered.steps),
                     &scattered.outputs,
                     &mut other
@@ -147,10 +153,10 @@ fn main() {
         ),
     );
     assert_eq!(bytes, other);
-    let (mut steps, mut other_steps) = (vec![0; 32_000], vec![0; 32_000]);
-    let (mut outputs, mut other_outputs) = (vec![0; 64], vec![0; 64]);
+    let (mut steps, mut other_steps) = (vec![0; 2 * MOST_STEPS], vec![0; 2 * MOST_STEPS]);
+    let (mut outputs, mut other_outputs) = (vec![0; MOST_PAYSLIPS], vec![0; MOST_PAYSLIPS]);
     report(
-        "read, a file of 56,116 bytes",
+        &format!("read, a file of {LONGEST_FILE} bytes"),
         medians(
             1001,
             || assert!(ffi::read(black_box(&bytes), &mut steps, &mut outputs).is_ok()),

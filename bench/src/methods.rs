@@ -1,5 +1,7 @@
 //! The three methods in plain Rust, written for speed: what compile is measured against.
 
+use spoutbasket::{MOST_COLUMNS, MOST_PAYSLIPS, MOST_STEPS};
+
 /// Compile: counted and judged before anything is stored.
 pub fn compile(
     p: usize,
@@ -10,7 +12,7 @@ pub fn compile(
     steps: &mut [u32],
     outputs: &mut [u32],
 ) -> Result<usize, (u32, usize)> {
-    if p == 0 || p > 16 || q == 0 || q > 64 {
+    if p == 0 || p > MOST_COLUMNS || q == 0 || q > MOST_PAYSLIPS {
         return Err((1, 0));
     }
     if amounts.len() != p * q {
@@ -29,7 +31,7 @@ pub fn compile(
         2 => yao_count(p, amounts, k),
         _ => partition_count(p, amounts, k),
     };
-    if n > 16_000 {
+    if n > MOST_STEPS {
         return Err((4, 0));
     }
     if steps.len() / 2 < n || outputs.len() < q {
@@ -92,8 +94,8 @@ fn digit(k: usize, amount: u32, place: usize) -> usize {
 }
 
 /// The digits of the largest amount of each column.
-fn column_digits(p: usize, amounts: &[u32], k: usize) -> [usize; 16] {
-    let mut most = [0; 16];
+fn column_digits(p: usize, amounts: &[u32], k: usize) -> [usize; MOST_COLUMNS] {
+    let mut most = [0; MOST_COLUMNS];
     for slip in amounts.chunks_exact(p) {
         for (most, &amount) in most.iter_mut().zip(slip) {
             *most = amount.max(*most);
@@ -127,7 +129,7 @@ fn straus_count(p: usize, amounts: &[u32], k: usize) -> usize {
 }
 
 fn straus(p: usize, amounts: &[u32], k: usize, steps: &mut Steps, outputs: &mut [u32]) {
-    let mut bases = [0; 16];
+    let mut bases = [0; MOST_COLUMNS];
     for (c, base) in bases.iter_mut().enumerate() {
         *base = c as u32 + 1;
     }
@@ -167,7 +169,7 @@ fn yao_count(p: usize, amounts: &[u32], k: usize) -> usize {
 
 fn yao(p: usize, amounts: &[u32], k: usize, steps: &mut Steps, outputs: &mut [u32]) {
     let columns = column_digits(p, amounts, k);
-    let mut powers = [[0; 32]; 16];
+    let mut powers = [[0; 32]; MOST_COLUMNS];
     for (c, (powers, &j)) in powers.iter_mut().zip(&columns).enumerate() {
         let mut value = c as u32 + 1;
         for (i, power) in powers[..j].iter_mut().enumerate() {
@@ -237,7 +239,7 @@ fn partition_count(p: usize, amounts: &[u32], c: usize) -> usize {
 
 fn partition(p: usize, amounts: &[u32], c: usize, steps: &mut Steps, outputs: &mut [u32]) {
     let bits = column_digits(p, amounts, 1);
-    let (mut inputs, mut w) = ([0; 512], 0);
+    let (mut inputs, mut w) = ([0; 32 * MOST_COLUMNS], 0);
     for (column, &width) in bits.iter().enumerate() {
         let mut value = column as u32 + 1;
         for i in 0..width {

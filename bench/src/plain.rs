@@ -1,5 +1,7 @@
 //! The same jobs in plain Rust, written for speed: what the library is measured against.
 
+use spoutbasket::{MOST_COLUMNS, MOST_PAYSLIPS, MOST_STEPS};
+
 /// The check of a legal chain that fits: column by column over the scratch, like the library.
 pub fn verify(
     p: usize,
@@ -99,10 +101,10 @@ fn step(p: usize, s: usize, a: usize, b: usize) -> Result<(), (u32, usize)> {
 /// Legality: 1, 4, steps, 12.
 fn judge(p: usize, steps: &[u32], outputs: &[u32]) -> Result<(), (u32, usize)> {
     let (n, q) = (steps.len() / 2, outputs.len());
-    if p == 0 || p > 16 || q == 0 || q > 64 {
+    if p == 0 || p > MOST_COLUMNS || q == 0 || q > MOST_PAYSLIPS {
         return Err((1, 0));
     }
-    if n > 16_000 {
+    if n > MOST_STEPS {
         return Err((4, 0));
     }
     for (s, pair) in steps.chunks_exact(2).enumerate() {
@@ -218,7 +220,7 @@ pub fn read(
         take.field(6) as usize + 1,
         take.field(14) as usize,
     );
-    if n > 16_000 {
+    if n > MOST_STEPS {
         return Err((4, 0));
     }
     let w = width(p, n);

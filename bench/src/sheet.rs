@@ -1,6 +1,7 @@
 //! A month's sheet, 9 pay elements by 48 payslips, amounts of pence up to 20 bits: what the chain spares a receiver, and what compile and the whole
 //! path cost beside plain Rust.
 use crate::{medians, methods, plain, report};
+use spoutbasket::{LONGEST_FILE, MOST_PAYSLIPS, MOST_STEPS, MOST_VALUES};
 use spoutbasket_tests::ffi;
 use spoutbasket_tests::random::Random;
 use spoutbasket_tests::reference::{Job, Lent};
@@ -54,14 +55,14 @@ fn powers(m: u32, bases: &[u32], amounts: &[u32], figures: &mut [u32]) -> usize 
 /// Slices long enough for every chain.
 fn lent() -> Lent {
     Lent {
-        steps: vec![0; 32_000],
-        outputs: vec![0; 64],
-        bytes: vec![0; 56_116],
-        read_steps: vec![0; 32_000],
-        read_outputs: vec![0; 64],
-        scratch: vec![0; 16_017],
-        values: vec![0; 16_017],
-        figures: vec![0; 64],
+        steps: vec![0; 2 * MOST_STEPS],
+        outputs: vec![0; MOST_PAYSLIPS],
+        bytes: vec![0; LONGEST_FILE],
+        read_steps: vec![0; 2 * MOST_STEPS],
+        read_outputs: vec![0; MOST_PAYSLIPS],
+        scratch: vec![0; MOST_VALUES],
+        values: vec![0; MOST_VALUES],
+        figures: vec![0; MOST_PAYSLIPS],
     }
 }
 

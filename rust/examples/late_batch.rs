@@ -1,13 +1,13 @@
 //! The late batch's week on one sheet: the chain with the fewest steps, its file, the check of what is read back, and a receiver's control figures.
 //!
 //! The sheet is a text: a line `p q`, then for each payslip a line of p whole amounts.
-use spoutbasket::{Chain, Method, Refusal, Sheet};
+use spoutbasket::{Chain, Method, Refusal, Sheet, MOST_COLUMNS};
 use std::error::Error;
 use std::process::ExitCode;
 
 /// A receiver's modulus and bases, of which a sheet takes as many as it has pay elements.
 const MODULUS: u32 = 4_294_967_291;
-const BASES: [u32; 16] = [2, 3, 5, 7, 11, 13, 17, 19, 23, 29, 31, 37, 41, 43, 47, 53];
+const BASES: [u32; MOST_COLUMNS] = [2, 3, 5, 7, 11, 13, 17, 19, 23, 29, 31, 37, 41, 43, 47, 53];
 
 fn main() -> ExitCode {
     let Some(name) = std::env::args().nth(1) else {

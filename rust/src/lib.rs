@@ -49,7 +49,18 @@ pub const MOST_PAYSLIPS: usize = 64;
 pub const MOST_STEPS: usize = 16_000;
 /// The most values of a chain: value 0, the bases and what the steps make.
 pub const MOST_VALUES: usize = 1 + MOST_COLUMNS + MOST_STEPS;
+/// The most steps of a chain in a file of edition 1.
+pub const MOST_STEPS_EDITION_1: usize = 16_000;
+// The bits of n in a file of edition 1; no field of a step or an output is wider.
+const LENGTH_BITS: usize = 14;
+// The bits of a file before its steps: edition, p − 1, q − 1 and n.
+const HEADER_BITS: usize = 4 + 4 + 6 + LENGTH_BITS;
 /// The bytes of the longest file.
-pub const LONGEST_FILE: usize = 56_116;
+pub const LONGEST_FILE: usize =
+    (HEADER_BITS + (2 * MOST_STEPS_EDITION_1 + MOST_PAYSLIPS) * LENGTH_BITS).div_ceil(8);
+// The longest parts of a listing: a blank and an amount, the first line, and a payslip's line.
+const LONGEST_FIELD: usize = " 4294967295".len();
+const LONGEST_SIZES: usize = "16 64 16000\n".len();
+const LONGEST_LINE: usize = "64\n".len() + LONGEST_FIELD * MOST_COLUMNS;
 /// Bytes enough for every listing.
-pub const LONGEST_LISTING: usize = 11_468;
+pub const LONGEST_LISTING: usize = LONGEST_SIZES + LONGEST_LINE * MOST_PAYSLIPS;

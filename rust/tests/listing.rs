@@ -1,5 +1,5 @@
 //! Listings through the wrapper: document 01's example, refusals, and the largest sheet.
-use spoutbasket::{list, Chain, Method, Refusal, Sheet};
+use spoutbasket::{list, Chain, Method, Refusal, Sheet, MOST_COLUMNS, MOST_PAYSLIPS};
 
 #[test]
 fn example_and_refusals() -> Result<(), Refusal> {
@@ -19,11 +19,15 @@ fn example_and_refusals() -> Result<(), Refusal> {
 
 #[test]
 fn largest() -> Result<(), Refusal> {
-    let sheet = Sheet::new(16, 64, [u32::MAX; 16 * 64])?;
+    let sheet = Sheet::new(
+        MOST_COLUMNS,
+        MOST_PAYSLIPS,
+        [u32::MAX; MOST_COLUMNS * MOST_PAYSLIPS],
+    )?;
     let chain = sheet.compile(Method::Partition(4))?;
-    let mut text = format!("16 64 {}\n", chain.n());
-    for payslip in 1..=64 {
-        text += &format!("{payslip}{}\n", " 4294967295".repeat(16));
+    let mut text = format!("{MOST_COLUMNS} {MOST_PAYSLIPS} {}\n", chain.n());
+    for payslip in 1..=MOST_PAYSLIPS {
+        text += &format!("{payslip}{}\n", " 4294967295".repeat(MOST_COLUMNS));
     }
     assert_eq!(list(&chain.to_file()?), text);
     Ok(())

@@ -1,5 +1,6 @@
 //! The small example of each refusal of document 01, through the wrapper's types.
 use spoutbasket::{choose, slices, Chain, Method, Refusal, Sheet};
+use spoutbasket::{MOST_COLUMNS, MOST_PAYSLIPS, MOST_STEPS};
 
 fn refused<T: std::fmt::Debug>(number: u32, place: usize, call: Result<T, Refusal>) {
     assert_eq!(call.unwrap_err(), Refusal { number, place });
@@ -38,11 +39,15 @@ fn sheets_and_methods() -> Result<(), Refusal> {
 /// 4: a chain that is lent and one that would be compiled.
 #[test]
 fn too_many_steps() -> Result<(), Refusal> {
-    let long = chain(1, &[[1, 1]; 16_001], &[1]);
+    let long = chain(1, &[[1, 1]; MOST_STEPS + 1], &[1]);
     refused(4, 0, long.to_file());
     refused(4, 0, long.run(7, &[2]));
     refused(4, 0, long.check(&Sheet::new(1, 1, [1])?));
-    let wide = Sheet::new(16, 64, [u32::MAX; 16 * 64])?;
+    let wide = Sheet::new(
+        MOST_COLUMNS,
+        MOST_PAYSLIPS,
+        [u32::MAX; MOST_COLUMNS * MOST_PAYSLIPS],
+    )?;
     refused(4, 0, wide.compile(Method::Yao(1)));
     Ok(())
 }

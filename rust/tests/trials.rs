@@ -1,5 +1,6 @@
 //! Trials A and J of document 01 through the wrapper.
 use spoutbasket::{choose, Chain, Method, Refusal, Sheet};
+use spoutbasket::{MOST_COLUMNS, MOST_PAYSLIPS, MOST_STEPS, MOST_VALUES};
 
 const FILE_A: [u8; 7] = [0x11, 0x00, 0x00, 0x34, 0x5b, 0x86, 0x80];
 
@@ -71,26 +72,32 @@ fn trial_j() -> Result<(), Refusal> {
 /// A sheet with as many columns and payslips as there may be, and a chain with as many steps: what is lent is enough.
 #[test]
 fn largest() -> Result<(), Refusal> {
-    let amounts: Vec<u32> = (0..16 * 64u32)
+    let amounts: Vec<u32> = (0..(MOST_COLUMNS * MOST_PAYSLIPS) as u32)
         .map(|i| i.wrapping_mul(2_654_435_761) >> 20)
         .collect();
-    let sheet = Sheet::new(16, 64, amounts)?;
+    let sheet = Sheet::new(MOST_COLUMNS, MOST_PAYSLIPS, amounts)?;
     let bases: Vec<u32> = (2..18).collect();
     let first = figures(&sheet, Method::Yao(4), u32::MAX, &bases)?;
     let second = figures(&sheet, Method::Partition(8), u32::MAX, &bases)?;
     assert_eq!(first, second);
 
     // each step multiplies the last value by a base, so that no exponent is large
-    let steps: Vec<[u32; 2]> = (1..=16_000).map(|s| [15 + s, 1 + s % 16]).collect();
+    let columns = MOST_COLUMNS as u32;
+    let steps: Vec<[u32; 2]> = (1..=MOST_STEPS as u32)
+        .map(|s| [columns - 1 + s, 1 + s % columns])
+        .collect();
     let chain = Chain {
-        columns: 16,
+        columns: MOST_COLUMNS,
         steps,
-        outputs: vec![16_016; 64],
+        outputs: vec![MOST_VALUES as u32 - 1; MOST_PAYSLIPS],
     };
     let file = chain.to_file()?;
     assert_eq!(file.len(), spoutbasket::LONGEST_FILE);
     assert_eq!(Chain::from_file(&file)?, chain);
-    assert_eq!(chain.run(2, &[1; 16])?.figures, [1; 64]);
+    assert_eq!(
+        chain.run(2, &[1; MOST_COLUMNS])?.figures,
+        [1; MOST_PAYSLIPS]
+    );
     assert_eq!(chain.check(&sheet).unwrap_err().number, 14);
     Ok(())
 }

@@ -1,7 +1,7 @@
 //! The three methods of document 01 in plain Rust, from the document's words: the chain that a method makes of a sheet, and apart from the chain
 //! its count and its ceiling by the closed formulas.
 
-use crate::reference::{length, sizes, Answer};
+use crate::reference::{length, sizes, Answer, MOST_STEPS};
 
 /// What compile is asked for: a sheet, a method and a parameter.
 #[derive(Clone, Debug)]
@@ -396,7 +396,7 @@ pub fn compile(
     }
     judge_method(p, method, parameter)?;
     let n = count(p, q, amounts, method, parameter);
-    length(n)?;
+    length(MOST_STEPS, n)?;
     if steps.len() / 2 < n || outputs.len() < q {
         return Err((5, 0));
     }

@@ -1,6 +1,7 @@
 //! Random numbers from a fixed seed, random chains, sheets, moduli and bases.
 
 use crate::compiler::{methods, Job};
+use crate::reference::{MOST_COLUMNS, MOST_PAYSLIPS};
 
 /// splitmix64.
 pub struct Random(pub u64);
@@ -137,10 +138,11 @@ pub fn job(r: &mut Random, most_columns: usize, most_payslips: usize) -> Job {
     Job::new(p, q, &amounts, method, parameter)
 }
 
-/// A job of 16 columns and 64 payslips whose count is just n: amounts are raised one by one as long as the count stays within n.
+/// A job of the most columns and payslips whose count is just n: amounts are raised one by one as long as the count stays within n.
 pub fn job_counting(n: usize, method: usize, parameter: usize) -> Job {
     let mut r = Random(n as u64);
-    let mut job = Job::new(16, 64, &[0; 16 * 64], method, parameter);
+    let zeros = [0; MOST_COLUMNS * MOST_PAYSLIPS];
+    let mut job = Job::new(MOST_COLUMNS, MOST_PAYSLIPS, &zeros, method, parameter);
     let mut count = job.count();
     while count != n {
         let at = r.below(job.amounts.len());

@@ -9,6 +9,7 @@ pub type Answer = Result<Vec<u64>, (u32, u64)>;
 pub const MOST_COLUMNS: usize = 16;
 pub const MOST_PAYSLIPS: usize = 64;
 pub const MOST_STEPS: usize = 16_000;
+pub const MOST_VALUES: usize = MOST_COLUMNS + MOST_STEPS + 1;
 pub const MOST_AMOUNT: u64 = 4_294_967_295;
 
 /// The steps of a flat slice; an odd last number belongs to no pair.
@@ -26,8 +27,8 @@ pub(crate) fn sizes(p: usize, q: usize) -> Result<(), (u32, u64)> {
     Ok(())
 }
 
-pub(crate) fn length(n: usize) -> Result<(), (u32, u64)> {
-    if n > MOST_STEPS {
+pub(crate) fn length(limit: usize, n: usize) -> Result<(), (u32, u64)> {
+    if n > limit {
         return Err((4, 0));
     }
     Ok(())
@@ -82,7 +83,7 @@ pub fn verify(
 ) -> Answer {
     let steps = pairs(steps);
     sizes(p, outputs.len())?;
-    length(steps.len())?;
+    length(MOST_STEPS, steps.len())?;
     if amounts.len() != p * outputs.len() {
         return Err((2, 0));
     }
@@ -121,7 +122,7 @@ pub fn run(
 ) -> Answer {
     let steps = pairs(steps);
     sizes(p, outputs.len())?;
-    length(steps.len())?;
+    length(MOST_STEPS, steps.len())?;
     if m == 0 {
         return Err((15, 0));
     }
@@ -161,7 +162,17 @@ pub fn figure(m: u32, bases: &[u32], payslip: &[u32]) -> u32 {
     product as u32
 }
 
-pub const LONGEST_FILE: usize = 56_116;
+/// The most steps of a file of edition 1, and its bits of n.
+pub const EDITION_STEPS: usize = 16_000;
+const LENGTH_BITS: usize = 14;
+const HEADER_BITS: usize = 4 + 4 + 6 + LENGTH_BITS;
+
+/// The bytes of the longest file; its widest field has as many bits as n.
+pub const LONGEST_FILE: usize =
+    (HEADER_BITS + (2 * EDITION_STEPS + MOST_PAYSLIPS) * LENGTH_BITS).div_ceil(8);
+
+/// Numbers enough to check any file's chain.
+pub const EDITION_VALUES: usize = MOST_COLUMNS + EDITION_STEPS + 1;
 
 fn bit_length(x: usize) -> usize {
     (usize::BITS - x.leading_zeros()) as usize
@@ -169,7 +180,7 @@ fn bit_length(x: usize) -> usize {
 
 /// The bytes of the file of a chain with n steps.
 pub fn file_length(p: usize, q: usize, n: usize) -> usize {
-    (28 + bit_length(p + n) * (2 * n + q)).div_ceil(8)
+    (HEADER_BITS + bit_length(p + n) * (2 * n + q)).div_ceil(8)
 }
 
 /// The file of a legal chain, as a list of bits.
@@ -184,7 +195,7 @@ fn file_bits(p: usize, steps: &[(u32, u32)], outputs: &[u32]) -> Vec<bool> {
     field(4, 1);
     field(4, p - 1);
     field(6, outputs.len() - 1);
-    field(14, steps.len());
+    field(LENGTH_BITS, steps.len());
     for &(first, second) in steps {
         field(width, first as usize);
         field(width, second as usize);
@@ -198,7 +209,7 @@ fn file_bits(p: usize, steps: &[(u32, u32)], outputs: &[u32]) -> Vec<bool> {
 pub fn write(p: usize, steps: &[u32], outputs: &[u32], bytes: &mut [u8]) -> Answer {
     let steps = pairs(steps);
     sizes(p, outputs.len())?;
-    length(steps.len())?;
+    length(EDITION_STEPS, steps.len())?;
     chain(p, &steps, outputs)?;
     let needed = file_length(p, outputs.len(), steps.len());
     if bytes.len() < needed {
@@ -222,8 +233,8 @@ pub fn read(bytes: &[u8], steps: &mut [u32], outputs: &mut [u32]) -> Answer {
     if bytes[0] >> 4 != 1 {
         return Err((7, 0));
     }
-    let (p, q, n) = (field(4, 4) + 1, field(8, 6) + 1, field(14, 14));
-    length(n)?;
+    let (p, q, n) = (field(4, 4) + 1, field(8, 6) + 1, field(14, LENGTH_BITS));
+    length(EDITION_STEPS, n)?;
     if bytes.len() != file_length(p, q, n) {
         return Err((6, 0));
     }
@@ -231,12 +242,12 @@ pub fn read(bytes: &[u8], steps: &mut [u32], outputs: &mut [u32]) -> Answer {
         return Err((5, 0));
     }
     let width = bit_length(p + n);
-    let end = 28 + width * (2 * n + q);
+    let end = HEADER_BITS + width * (2 * n + q);
     if (end..8 * bytes.len()).any(|i| bit(i) == 1) {
         return Err((8, 0));
     }
     let numbers: Vec<u32> = (0..2 * n + q)
-        .map(|i| field(28 + i * width, width) as u32)
+        .map(|i| field(HEADER_BITS + i * width, width) as u32)
         .collect();
     chain(p, &pairs(&numbers[..2 * n]), &numbers[2 * n..])?;
     steps[..2 * n].copy_from_slice(&numbers[..2 * n]);
@@ -307,11 +318,11 @@ pub fn choose(
     if amounts.len() != p * q {
         return Err((2, 0));
     }
-    if pairs_lent < MOST_STEPS || outputs_lent < MOST_PAYSLIPS || numbers_lent < 16_017 {
+    if pairs_lent < EDITION_STEPS || outputs_lent < MOST_PAYSLIPS || numbers_lent < EDITION_VALUES {
         return Err((5, 0));
     }
     let judge = |file: &[u8]| -> Result<u64, (u32, u64)> {
-        let (mut steps, mut outputs) = (vec![0; 2 * MOST_STEPS], vec![0; MOST_PAYSLIPS]);
+        let (mut steps, mut outputs) = (vec![0; 2 * EDITION_STEPS], vec![0; MOST_PAYSLIPS]);
         let read = read(file, &mut steps, &mut outputs)?;
         if read[0] != p as u64 || read[1] != q as u64 {
             return Err((14, 0));
@@ -322,7 +333,7 @@ pub fn choose(
             &steps[..2 * n as usize],
             &outputs[..q],
             amounts,
-            &mut vec![0; 16_017],
+            &mut vec![0; EDITION_VALUES],
         )?;
         Ok(n)
     };
@@ -340,7 +351,7 @@ pub fn listing(bytes: &[u8]) -> String {
         if bytes.len() > LONGEST_FILE {
             return Err((6, 0));
         }
-        let (mut steps, mut outputs) = (vec![0; 2 * MOST_STEPS], vec![0; MOST_PAYSLIPS]);
+        let (mut steps, mut outputs) = (vec![0; 2 * EDITION_STEPS], vec![0; MOST_PAYSLIPS]);
         let read = read(bytes, &mut steps, &mut outputs)?;
         let (p, q, n) = (read[0] as usize, read[1] as usize, read[2] as usize);
         let all = exponents(p, &pairs(&steps[..2 * n]));

@@ -1,5 +1,6 @@
 //! The check and the run against the reference, every lent cell included, each with the steps lent flat and as structs.
 use spoutbasket_tests::random::{bases, legal_chain, modulus, Chain, Random};
+use spoutbasket_tests::reference::{MOST_COLUMNS, MOST_PAYSLIPS, MOST_STEPS};
 use spoutbasket_tests::{ffi, reference};
 
 /// The steps of a chain as pairs, which lie in memory as the library's structs do. An odd last number belongs to none.
@@ -82,9 +83,9 @@ fn random_legal_chains() {
     let mut r = Random(1);
     let mut passed = 0;
     for round in 0..6000 {
-        let (p, q) = (r.within(1, 16), r.within(1, 64));
+        let (p, q) = (r.within(1, MOST_COLUMNS), r.within(1, MOST_PAYSLIPS));
         let n = if round % 500 == 0 {
-            r.within(15_000, 16_000)
+            r.within(15_000, MOST_STEPS)
         } else if r.one_in(3) {
             r.below(4)
         } else {
@@ -124,7 +125,7 @@ fn damaged_chains_and_short_slices() {
         } else {
             r.below(20)
         };
-        let (p, q) = (r.within(1, 16), r.within(1, 12));
+        let (p, q) = (r.within(1, MOST_COLUMNS), r.within(1, 12));
         let slow = r.one_in(2);
         let mut c = legal_chain(&mut r, p, q, n, slow);
         let mut amounts = sheet_of(&c).unwrap_or_else(|| vec![1; p * q]);
@@ -196,7 +197,13 @@ fn damaged_chains_and_short_slices() {
 /// Slices of steps up to the limit and past it, sound or with one wrong step; of results one cell too long, just long enough and too short.
 #[test]
 fn lengths_near_the_limit() {
-    for n in [15_999, 16_000, 16_001, 16_002, 20_000] {
+    for n in [
+        MOST_STEPS - 1,
+        MOST_STEPS,
+        MOST_STEPS + 1,
+        MOST_STEPS + 2,
+        MOST_STEPS + 4_000,
+    ] {
         for wrong in [None, Some(0), Some(n - 1)] {
             let mut c = Chain {
                 p: 1,
@@ -208,7 +215,7 @@ fn lengths_near_the_limit() {
             }
             for cells in [n + 3, n + 2, n + 1] {
                 let expected = match wrong {
-                    _ if n > 16_000 => Err((4, 0)),
+                    _ if n > MOST_STEPS => Err((4, 0)),
                     Some(s) => Err((9, s as u64 + 1)),
                     None if cells < n + 2 => Err((5, 0)),
                     None => Ok(n as u64),

@@ -1,7 +1,7 @@
 //! The chooser against the reference, over pairs of good, bad and mismatched files.
 use spoutbasket_tests::ffi::{self, Scratch};
 use spoutbasket_tests::random::Random;
-use spoutbasket_tests::reference;
+use spoutbasket_tests::reference::{self, EDITION_STEPS, EDITION_VALUES, MOST_PAYSLIPS};
 
 /// A file for the sheet by some method, damaged or of another shape now and then.
 fn some_file(r: &mut Random, p: usize, q: usize, amounts: &[u32]) -> Vec<u8> {
@@ -42,8 +42,8 @@ fn pairs_of_files() {
     let mut seen = std::collections::BTreeMap::new();
     let mut scratch = Scratch {
         steps: r.words(32_001),
-        outputs: r.words(64),
-        numbers: r.words(16_017),
+        outputs: r.words(MOST_PAYSLIPS),
+        numbers: r.words(EDITION_VALUES),
     };
     for _ in 0..6000 {
         let (p, q) = (r.within(1, 6), r.within(1, 6));
@@ -58,7 +58,14 @@ fn pairs_of_files() {
         let got = ffi::choose(p, q, &amounts, &a, &b, &mut scratch);
         assert_eq!(
             got,
-            reference::choose(p, q, &amounts, &a, &b, (16_000, 64, 16_017)),
+            reference::choose(
+                p,
+                q,
+                &amounts,
+                &a,
+                &b,
+                (EDITION_STEPS, MOST_PAYSLIPS, EDITION_VALUES)
+            ),
             "{p} {q} {amounts:?} {a:02x?} {b:02x?}"
         );
         *seen
@@ -77,10 +84,25 @@ fn pairs_of_files() {
 fn scratch_of_full_size() {
     let file = [0x11, 0x00, 0x00, 0x34, 0x5b, 0x86, 0x80];
     for (pairs, outputs, numbers, want) in [
-        (16_000, 64, 16_017, Ok(vec![1])),
-        (15_999, 64, 16_017, Err((5, 0))),
-        (16_000, 63, 16_017, Err((5, 0))),
-        (16_000, 64, 16_016, Err((5, 0))),
+        (EDITION_STEPS, MOST_PAYSLIPS, EDITION_VALUES, Ok(vec![1])),
+        (
+            EDITION_STEPS - 1,
+            MOST_PAYSLIPS,
+            EDITION_VALUES,
+            Err((5, 0)),
+        ),
+        (
+            EDITION_STEPS,
+            MOST_PAYSLIPS - 1,
+            EDITION_VALUES,
+            Err((5, 0)),
+        ),
+        (
+            EDITION_STEPS,
+            MOST_PAYSLIPS,
+            EDITION_VALUES - 1,
+            Err((5, 0)),
+        ),
     ] {
         let mut scratch = Scratch {
             steps: vec![9; 2 * pairs],

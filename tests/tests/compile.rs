@@ -2,7 +2,7 @@
 use spoutbasket_tests::compiler::methods;
 use spoutbasket_tests::ffi;
 use spoutbasket_tests::random::{job_counting, sheet, Random};
-use spoutbasket_tests::reference::{self, Answer, Job};
+use spoutbasket_tests::reference::{self, Answer, Job, MOST_COLUMNS, MOST_PAYSLIPS, MOST_STEPS};
 
 /// What compile answers and leaves in its two slices.
 struct Compiled {
@@ -68,7 +68,7 @@ fn random_sheets() {
     let (mut compiled, mut too_long) = (0, 0);
     for round in 0..400 {
         let (p, q) = if round % 4 == 0 {
-            (r.within(1, 16), r.within(1, 64))
+            (r.within(1, MOST_COLUMNS), r.within(1, MOST_PAYSLIPS))
         } else {
             (r.within(1, 10), r.within(1, 12))
         };
@@ -137,11 +137,11 @@ fn damaged_jobs_and_short_slices() {
     let mut r = Random(42);
     let mut seen = [0usize; 6];
     // a chain too long by every method that can be
-    let long = job_counting(16_001, 3, 1).amounts;
+    let long = job_counting(MOST_STEPS + 1, 3, 1).amounts;
     for _ in 0..30_000 {
         let mut job = if r.one_in(60) {
             let (method, k) = r.pick(&[(2, 1), (2, 8), (3, 1)]);
-            Job::new(16, 64, &long, method, k)
+            Job::new(MOST_COLUMNS, MOST_PAYSLIPS, &long, method, k)
         } else {
             spoutbasket_tests::random::job(&mut r, 6, 6)
         };
@@ -158,7 +158,7 @@ fn damaged_jobs_and_short_slices() {
                 4 => job.method = r.pick(&[0, 4, usize::MAX, (1 << 32) + 1]),
                 5 => job.parameter = r.pick(&[0, 6, 9, usize::MAX, 1 << 63, (1 << 32) + 1]),
                 6 => cells = r.pick(&[0, cells.saturating_sub(1), cells.saturating_sub(2)]),
-                7 => outputs = r.pick(&[0, job.q.min(64).saturating_sub(1)]),
+                7 => outputs = r.pick(&[0, job.q.min(MOST_PAYSLIPS).saturating_sub(1)]),
                 _ => cells += 1,
             }
         }
@@ -171,20 +171,20 @@ fn damaged_jobs_and_short_slices() {
     }
 }
 
-/// Chains of exactly 16,000 steps are compiled, and of 16,001 refused, by every method and parameter that can get there: Straus stays below 5,000,
+/// Chains of exactly the most steps are compiled, and of one more refused, by every method and parameter that can get there: Straus stays below 5,000,
 /// partition with 3 to 7 below 14,000.
 #[test]
 fn longest_chains() {
     let reaching = (1..=8).map(|k| (2, k)).chain([1, 2, 8].map(|c| (3, c)));
     for (method, k) in reaching {
-        let job = job_counting(16_000, method, k);
-        accepted(&job, &[9; 32_000], &[9; 64]);
-        let short = same_compile(&job, &[9; 31_999], &[9; 64]).answer;
+        let job = job_counting(MOST_STEPS, method, k);
+        accepted(&job, &[9; 2 * MOST_STEPS], &[9; MOST_PAYSLIPS]);
+        let short = same_compile(&job, &[9; 2 * MOST_STEPS - 1], &[9; MOST_PAYSLIPS]).answer;
         assert_eq!(short, Err((5, 0)));
-        let job = job_counting(16_001, method, k);
-        assert_eq!(job.count(), 16_001);
-        for cells in [0, 32_000, 32_002] {
-            let answer = same_compile(&job, &vec![9; cells], &[9; 64]).answer;
+        let job = job_counting(MOST_STEPS + 1, method, k);
+        assert_eq!(job.count(), MOST_STEPS + 1);
+        for cells in [0, 2 * MOST_STEPS, 2 * (MOST_STEPS + 1)] {
+            let answer = same_compile(&job, &vec![9; cells], &[9; MOST_PAYSLIPS]).answer;
             assert_eq!(answer, Err((4, 0)));
         }
     }
@@ -195,19 +195,19 @@ fn longest_chains() {
 fn refusals_and_their_neighbours() {
     let answer = |p, q, amounts: usize, method, k| {
         let job = Job::new(p, q, &vec![1; amounts], method, k);
-        same_compile(&job, &[9; 2500], &[9; 64])
+        same_compile(&job, &[9; 2500], &[9; MOST_PAYSLIPS])
             .answer
             .map_or_else(|refused| refused, |_| (0, 0))
     };
     for (p, q, number) in [
         (0, 1, 1),
         (1, 1, 0),
-        (16, 1, 0),
+        (MOST_COLUMNS, 1, 0),
         (17, 1, 1),
         (1, 0, 1),
-        (1, 64, 0),
+        (1, MOST_PAYSLIPS, 0),
         (1, 65, 1),
-        (16, 64, 0),
+        (MOST_COLUMNS, MOST_PAYSLIPS, 0),
     ] {
         assert_eq!(answer(p, q, p * q, 2, 1), (number, 0), "{p} {q}");
     }
@@ -232,14 +232,14 @@ fn refusals_and_their_neighbours() {
         (1, 1, 5, 0),
         (1, 1, 6, 3),
         (2, 1, 1 << 63, 3),
-        (16, 2, 0, 3),
-        (16, 2, 1, 0),
-        (16, 2, 8, 0),
-        (16, 2, 9, 3),
-        (16, 3, 0, 3),
-        (16, 3, 1, 0),
-        (16, 3, 8, 0),
-        (16, 3, 9, 3),
+        (MOST_COLUMNS, 2, 0, 3),
+        (MOST_COLUMNS, 2, 1, 0),
+        (MOST_COLUMNS, 2, 8, 0),
+        (MOST_COLUMNS, 2, 9, 3),
+        (MOST_COLUMNS, 3, 0, 3),
+        (MOST_COLUMNS, 3, 1, 0),
+        (MOST_COLUMNS, 3, 8, 0),
+        (MOST_COLUMNS, 3, 9, 3),
     ] {
         assert_eq!(
             answer(p, 2, 2 * p, method, k),
@@ -257,7 +257,7 @@ fn refusals_and_their_neighbours() {
     // the earlier number is told where two are due
     assert_eq!(answer(0, 1, 1, 2, 1), (1, 0));
     assert_eq!(answer(2, 1, 3, 0, 1), (2, 0));
-    let long = job_counting(16_001, 2, 8);
+    let long = job_counting(MOST_STEPS + 1, 2, 8);
     let wrong = Job {
         parameter: 9,
         ..long.clone()

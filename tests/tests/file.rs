@@ -1,7 +1,7 @@
 //! Write and read against the reference, every lent cell included.
 use spoutbasket_tests::ffi;
 use spoutbasket_tests::random::{legal_chain, Chain, Random};
-use spoutbasket_tests::reference::{self, Answer};
+use spoutbasket_tests::reference::{self, Answer, EDITION_STEPS, MOST_COLUMNS, MOST_PAYSLIPS};
 
 /// Write by the library and by the reference into equal bytes: the same answer and the same bytes.
 fn same_write(c: &Chain, bytes: &[u8]) -> (Answer, Vec<u8>) {
@@ -51,9 +51,9 @@ fn file_of(c: &Chain) -> Vec<u8> {
 fn there_and_back() {
     let mut r = Random(21);
     for round in 0..4000 {
-        let (p, q) = (r.within(1, 16), r.within(1, 64));
+        let (p, q) = (r.within(1, MOST_COLUMNS), r.within(1, MOST_PAYSLIPS));
         let n = if round % 400 == 0 {
-            r.within(15_900, 16_000)
+            r.within(15_900, EDITION_STEPS)
         } else {
             r.below(300)
         };
@@ -76,7 +76,7 @@ fn there_and_back() {
 fn refused_writes() {
     let mut r = Random(22);
     for _ in 0..20_000 {
-        let (p, q, n) = (r.within(1, 16), r.within(1, 8), r.below(12));
+        let (p, q, n) = (r.within(1, MOST_COLUMNS), r.within(1, 8), r.below(12));
         let mut c = legal_chain(&mut r, p, q, n, false);
         let mut room = file_of(&c).len();
         match r.below(7) {
@@ -96,7 +96,7 @@ fn refused_writes() {
     }
     let long = Chain {
         p: 1,
-        steps: vec![1; 32_002],
+        steps: vec![1; 2 * (EDITION_STEPS + 1)],
         outputs: vec![1],
     };
     assert_eq!(same_write(&long, &[9; 60_000]).0, Err((4, 0)));
@@ -108,17 +108,22 @@ fn damaged_files() {
     let mut r = Random(23);
     for round in 0..60 {
         let (p, q, n) = (
-            r.within(1, 16),
-            r.within(1, 64),
+            r.within(1, MOST_COLUMNS),
+            r.within(1, MOST_PAYSLIPS),
             r.below(if round < 50 { 12 } else { 120 }),
         );
         let c = legal_chain(&mut r, p, q, n, false);
         let file = file_of(&c);
         // room for what a changed header may say, and too little
-        for (pairs, outputs) in [(16_000, 64), (n, q), (n.saturating_sub(1), q), (n, q - 1)] {
+        for (pairs, outputs) in [
+            (EDITION_STEPS, MOST_PAYSLIPS),
+            (n, q),
+            (n.saturating_sub(1), q),
+            (n, q - 1),
+        ] {
             let (steps, outputs) = (r.words(2 * pairs), r.words(outputs));
             let _ = same_read(&file, &steps, &outputs);
-            if pairs == 16_000 && round % 10 != 0 {
+            if pairs == EDITION_STEPS && round % 10 != 0 {
                 continue;
             }
             for bit in 0..8 * file.len() {
@@ -140,8 +145,8 @@ fn damaged_files() {
 #[test]
 fn every_file_of_four_bytes() {
     let worker = |half: u32| {
-        let (mut steps, mut outputs) = ([9u32; 2], [9u32; 64]);
-        let (mut other_steps, mut other_outputs) = ([9u32; 2], [9u32; 64]);
+        let (mut steps, mut outputs) = ([9u32; 2], [9u32; MOST_PAYSLIPS]);
+        let (mut other_steps, mut other_outputs) = ([9u32; 2], [9u32; MOST_PAYSLIPS]);
         let mut read = 0;
         for low in 0..1u32 << 31 {
             let bytes = (half << 31 | low).to_be_bytes();
@@ -156,7 +161,7 @@ fn every_file_of_four_bytes() {
                 }
                 Err((refused, place)) => {
                     assert_eq!((number, words), (refused, [place, 0, 0, 0]));
-                    assert_eq!(outputs, [9; 64]);
+                    assert_eq!(outputs, [9; MOST_PAYSLIPS]);
                 }
             }
         }
@@ -178,7 +183,7 @@ fn every_file_of_four_bytes() {
 /// Files of 5 bytes: the first 28 bits decide unless they state 5 bytes, so there is one file for each such header, and all files for the others.
 #[test]
 fn files_of_five_bytes() {
-    let (steps, outputs) = (vec![9; 20], vec![9; 64]);
+    let (steps, outputs) = (vec![9; 20], vec![9; MOST_PAYSLIPS]);
     let mut read = 0;
     for header in 0..1u64 << 28 {
         let edition = header >> 24;
@@ -244,7 +249,13 @@ fn examples() {
 /// The longest file.
 #[test]
 fn longest() {
-    let c = legal_chain(&mut Random(24), 16, 64, 16_000, true);
+    let c = legal_chain(
+        &mut Random(24),
+        MOST_COLUMNS,
+        MOST_PAYSLIPS,
+        EDITION_STEPS,
+        true,
+    );
     assert_eq!(file_of(&c).len(), reference::LONGEST_FILE);
     assert_eq!(
         same_write(&c, &vec![7; reference::LONGEST_FILE]).0,

@@ -2,7 +2,9 @@
 use spoutbasket::LONGEST_LISTING;
 use spoutbasket_tests::ffi;
 use spoutbasket_tests::random::{legal_chain, Chain, Random};
-use spoutbasket_tests::reference::{self, LONGEST_FILE};
+use spoutbasket_tests::reference::{
+    self, EDITION_STEPS, LONGEST_FILE, MOST_COLUMNS, MOST_PAYSLIPS,
+};
 use spoutbasket_tests::tool;
 
 fn file_of(chain: &Chain) -> Vec<u8> {
@@ -12,9 +14,9 @@ fn file_of(chain: &Chain) -> Vec<u8> {
     bytes
 }
 
-/// The largest sheet that a listing can have to show: each of 16 by 64 amounts has ten digits.
+/// The largest sheet that a listing can have to show: each of its amounts has ten digits.
 fn largest() -> Chain {
-    let (p, q) = (16, 64);
+    let (p, q) = (MOST_COLUMNS, MOST_PAYSLIPS);
     let amounts = vec![u32::MAX - 1; p * q];
     let (steps, outputs) = reference::make(p, q, &amounts, 3, 4);
     let steps = steps.iter().flat_map(|&(a, b)| [a, b]).collect();
@@ -36,7 +38,7 @@ fn files() -> Vec<Vec<u8>> {
         file_of(&largest()),
     ];
     for _ in 0..3000 {
-        let (p, q) = (r.within(1, 16), r.within(1, 64));
+        let (p, q) = (r.within(1, MOST_COLUMNS), r.within(1, MOST_PAYSLIPS));
         let n = r.pick(&[0, 1, 5, 40, 400]);
         let slow = !r.one_in(4);
         let mut bytes = file_of(&legal_chain(&mut r, p, q, n, slow));
@@ -85,7 +87,7 @@ fn the_largest_listing() {
     let first_line = text.lines().next().unwrap().len() + 1;
     assert_eq!(
         text.len() - first_line,
-        LONGEST_LISTING - "16 64 16000\n".len() - 9
+        LONGEST_LISTING - format!("{MOST_COLUMNS} {MOST_PAYSLIPS} {EDITION_STEPS}\n").len() - 9
     );
 }
 

@@ -2,7 +2,9 @@
 use spoutbasket_tests::compiler::methods;
 use spoutbasket_tests::ffi;
 use spoutbasket_tests::random::{bases, job, job_counting, modulus, Random};
-use spoutbasket_tests::reference::{self, Answer, Job, Lent};
+use spoutbasket_tests::reference::{
+    self, Answer, Job, Lent, MOST_COLUMNS, MOST_PAYSLIPS, MOST_STEPS,
+};
 
 /// Slices for a job's path with just the cells that it needs and `spare` more, whatever they hold.
 fn lent(r: &mut Random, job: &Job, spare: usize) -> Lent {
@@ -65,7 +67,7 @@ fn random_sheets() {
     let mut walked = 0;
     for round in 0..3000 {
         let job = if round % 20 == 0 {
-            job(&mut r, 16, 64)
+            job(&mut r, MOST_COLUMNS, MOST_PAYSLIPS)
         } else {
             job(&mut r, 8, 8)
         };
@@ -196,7 +198,7 @@ fn refused_sheets() {
         (Job::new(2, 1, &[3, 2, 1], 1, 1), 2),
         (Job::new(11, 1, &[0; 11], 1, 1), 3),
         (Job::new(2, 1, &[3, 2], 4, 1), 3),
-        (job_counting(16_001, 2, 8), 4),
+        (job_counting(MOST_STEPS + 1, 2, 8), 4),
         (Job::new(2, 1, &[3, 255], 1, 1), 5),
     ] {
         // the run's own refusal comes later
@@ -229,14 +231,14 @@ fn small_sheets() {
     assert_eq!(round, (8 + 64 + 64 + 820) * 21);
 }
 
-/// The longest chains, of 16,000 steps, by Yao and by partition.
+/// The longest chains by Yao and by partition.
 #[test]
 fn longest_chains() {
     let mut r = Random(56);
     for (method, k) in [(2, 1), (2, 3), (2, 8), (3, 1), (3, 8)] {
-        let job = job_counting(16_000, method, k);
+        let job = job_counting(MOST_STEPS, method, k);
         for m in [u32::MAX, 4_294_967_291] {
-            let bases = bases(&mut r, 16, m);
+            let bases = bases(&mut r, MOST_COLUMNS, m);
             let after = walk(&mut r, &job, m, &bases, 1);
             assert_eq!(after.bytes.len(), reference::LONGEST_FILE + 1);
         }

@@ -150,7 +150,7 @@ fn compiled_chains_pass() {
         let bits = r.below(33);
         let amounts = sheet(&mut r, p, q, bits);
         for (method, k) in methods(p) {
-            let (mut steps, mut outputs) = (vec![0; 32_000], vec![0; q]);
+            let (mut steps, mut outputs) = (vec![0; 2 * MOST_STEPS], vec![0; q]);
             let n = compile(p, q, &amounts, method, k, &mut steps, &mut outputs).unwrap()[0];
             let n = n as usize;
             assert_eq!(

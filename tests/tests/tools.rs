@@ -1,6 +1,8 @@
 //! The tools of the command line against the reference: what they write, and the one line that says what is wrong.
 use spoutbasket_tests::random::{bases, job, modulus, Random};
-use spoutbasket_tests::reference::{self, figure, Job, LONGEST_FILE};
+use spoutbasket_tests::reference::{
+    self, figure, Job, EDITION_STEPS, LONGEST_FILE, MOST_COLUMNS, MOST_PAYSLIPS,
+};
 use spoutbasket_tests::tool;
 use std::path::PathBuf;
 
@@ -77,7 +79,7 @@ fn text_of(r: &mut Random, job: &Job) -> String {
 
 /// The file of the job's chain, or the refusal.
 fn file_of(job: &Job) -> Result<Vec<u8>, (u32, u64)> {
-    let (mut steps, mut outputs) = (vec![0; 32_000], vec![0; 64]);
+    let (mut steps, mut outputs) = (vec![0; 2 * EDITION_STEPS], vec![0; MOST_PAYSLIPS]);
     let compiled = reference::compile(
         job.p,
         job.q,
@@ -170,7 +172,10 @@ fn from_sheets_to_figures() {
 
 #[test]
 fn texts_that_are_not_read() {
-    let most = format!("16 64{}", " 7".repeat(1_024));
+    let most = format!(
+        "{MOST_COLUMNS} {MOST_PAYSLIPS}{}",
+        " 7".repeat(MOST_COLUMNS * MOST_PAYSLIPS)
+    );
     let one_more = format!("{most} 8");
     for (text, line) in [
         ("2 1 3 x", "line 1, column 7: neither a digit nor a blank\n"),

@@ -1,4 +1,4 @@
--- Lists of fields of one width; the bits of bytes are such a list.
+-- Fields of one width meet at multiples of it, so a field is found by dropping whole fields; bytes are fields of 8 bits, and a field is read out of any window of bytes that covers it.
 use mathlib.Core.Path.{_≡_, refl, sym, ap, ap₂, _∙_}
 use mathlib.Core.Bool.{Bool}
 use mathlib.Core.List.{List, [], _∷_, _++_, append-assoc}
@@ -10,7 +10,7 @@ use lib.ListN.{length, take, drop, getD, length-append, length-take, length-drop
 use lib.Seq.{length-take-le, take-nil, take-add, drop-nil, drop-drop, drop-cons, take-append-add, drop-append-add}
 use lib.Pow.{pow-mono}
 use Rattle.bits.specs.Bits.{bits, fields, value, bytesBits, fieldAt, fieldsAt}
-use Rattle.bits.specs.Cursor.{window}
+use Rattle.bits.specs.Inner.{window}
 use Rattle.bits.proofs.Parts.{drop-take, take-none, take-both}
 use Rattle.bits.proofs.Values.{length-bits, value-bits-lt, value-lt, bits-value, value-append, value-slice}
 

@@ -1,4 +1,4 @@
--- A buffer that is written from its first bit on, and what is read from it.
+-- A buffer is thought of as all bits written so far, filled up: writing more replaces that by a longer one, and each field is read back from the bits it was written as.
 use mathlib.Core.Path.{_≡_, refl, sym, ap, ap₂, _∙_}
 use mathlib.Core.Bool.{Bool, false}
 use mathlib.Core.List.{List, [], _∷_, _++_, append-assoc}
@@ -9,7 +9,7 @@ use lib.Seq.{length-take-le, take-all, take-append-seam, take-take, take-at, dro
 use Rattle.chain.specs.Written.{over}
 use Rattle.chain.proofs.Written.{over-over}
 use Rattle.bits.specs.Bits.{bits, fields, value, bytesBits, front, pack, bytesFor, fieldAt, fieldsAt}
-use Rattle.bits.specs.Cursor.{filed, Stored}
+use Rattle.bits.specs.Inner.{filed, FieldStored}
 use Rattle.bits.proofs.Parts.{drop-take}
 use Rattle.bits.proofs.Values.{length-bits, value-bits-lt, value-zeros, zeros}
 use Rattle.bits.proofs.Fields.{length-bytesBits, bytesBits-append}
@@ -41,7 +41,7 @@ filed-more b more old at lb =
     ap (λ (r : List Bool). filed (r ++ more) (filed b old)) (ap (λ (k : ℕ). take k (bytesBits (filed b old))) (sym lb) ∙ filed-bits b old)
     ∙ filed-filed b (b ++ more) old (omega (arith, length-append b more))
 
-pub put-next : (b more : List Bool) (old now new : List ℕ) (at w next : ℕ) → length b ≡ at → now ≡ filed b old → Stored now at w more new next
+pub put-next : (b more : List Bool) (old now new : List ℕ) (at w next : ℕ) → length b ≡ at → now ≡ filed b old → FieldStored now at w more new next
     → new ≡ filed (b ++ more) old
 put-next b more old now new at w next lb em s =
     s .is ∙ ap (λ (r : List ℕ). filed (take at (bytesBits r) ++ more) r) em ∙ filed-more b more old at lb

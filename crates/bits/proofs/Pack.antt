@@ -1,4 +1,4 @@
--- Bits to bytes and back, with zero bits to the byte.
+-- Packing is undone by taking the bytes' bits: filling up on the right is a shift, and whole bytes in front stay as they are.
 use mathlib.Core.Path.{_≡_, refl, sym, ap, ap₂, _∙_, subst}
 use mathlib.Core.Bool.{Bool, false}
 use mathlib.Core.List.{List, [], _∷_, _++_, append-assoc, append-nil}

@@ -1,4 +1,4 @@
--- Parts of lists that are joined.
+-- A part of two joined lists is a part of the first and then one of the second, by how far it reaches.
 use mathlib.Core.Path.{_≡_, sym, ap, _∙_}
 use mathlib.Core.List.{List, [], _∷_, _++_}
 use Prim.Native.Nat.{ℕ, zero, suc, _+_, _-_}

@@ -1,4 +1,4 @@
--- What `scatter` and `Cursor::put` store.
+-- What a byte holds before the field, and the field, are one number of at most 32 bits, whose leading bytes are exactly those that the bits fill.
 use mathlib.Core.Path.{_≡_, refl, sym, ap, ap₂, _∙_, subst}
 use mathlib.Core.Bool.{Bool}
 use mathlib.Core.List.{List, [], _∷_, _++_, append-assoc}
@@ -12,7 +12,7 @@ use lib.Pow.{split, pow-add, shl-exact, shr-le, shr-mod}
 use Rattle.chain.specs.Written.{over, laid}
 use Rattle.chain.proofs.Written.{laid-nil, laid-one, laid-laid, laid-length}
 use Rattle.bits.specs.Bits.{bits, value, bytesBits, front, pack, bytesFor}
-use Rattle.bits.specs.Cursor.{filed, spread, Fill, Stored}
+use Rattle.bits.specs.Inner.{filed, spread, FieldFill, FieldStored}
 use Rattle.bits.proofs.Values.{length-bits, value-bits-lt, value-lt, bits-value, value-append, value-slice}
 use Rattle.bits.proofs.Fields.{length-bytesBits, bytesBits-cons, take-bytesBits, drop-bytesBits}
 use Rattle.bits.proofs.Pack.{Bytes, length-front, front-take, value-front, length-pack, pack-onto, take-pack, pack-front, Bytes-take}
@@ -91,7 +91,7 @@ value-head b o hb ho =
     ∙ shr-mod o (8 - o) (subst (λ (k : ℕ). b < 2 ^ k) (sym e) hb)
 
 -- a field of value v is put where byte b stands
-module _ (l : List ℕ) (at w v b : ℕ) (ok : Bytes l) (fill : Fill l at w v) (is : b ≡ getD l (at / 8) 0) where
+module _ (l : List ℕ) (at w v b : ℕ) (ok : Bytes l) (fill : FieldFill l at w v) (is : b ≡ getD l (at / 8) 0) where
   hb : b < 256
   hb = subst (λ (x : ℕ). x < 256) (sym is) (ok (at / 8))
 
@@ -155,7 +155,7 @@ module _ (l : List ℕ) (at w v b : ℕ) (ok : Bytes l) (fill : Fill l at w v) (
 
   pub put-stored : (new : List ℕ)
       → new ≡ laid (at / 8) (take ((at % 8 + w + 7) / 8) (spread (head * 2 ^ 24 + field))) l
-      → Stored l at w (bits w v) new (at + w)
+      → FieldStored l at w (bits w v) new (at + w)
   unfolding over laid
   put-stored new en =
       let i : ℕ = at / 8 in

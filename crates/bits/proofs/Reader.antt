@@ -1,4 +1,4 @@
--- A reader in a walk by hand: what it owns, and one call of `bits::BitReader::take`.
+-- A call of `BitReader::take` as one step of a walk by hand: what the bytes own goes in with the reader and comes back, and the machine value is that of the field read.
 --     reader-own, reader-bytes     what the bytes own is what a reader of them owns, at any position, and back
 --     takes          the call, as a step: the machine value handed back is that of the field and of the reader past it, and the lifetime's token and what the bytes own are still there
 -- Assumes nothing.
@@ -40,7 +40,7 @@ use denote.Triple.Spec.{tripleOf}
 use denote.Triple.Walked.{says}
 use denote.Triple.Clauses.{ensured, lasts}
 use Rattle.bits.specs.Bits.{fieldAt}
-use Rattle.bits.specs.Cursor.{Room, Taken}
+use Rattle.bits.specs.Inner.{FieldRoom, FieldTaken}
 use Rattle.bits.specs.declared.BitReader.{BitReader}
 use Rattle.bits.specs.declared.ReadField.{ReadField}
 use Rattle.bits.proofs.Fields.{field-lt}
@@ -75,7 +75,7 @@ abbrev pub readAt : RefT (List ℕ) → ℕ → ℕ → ReadField
 readAt s at w = record { value = fieldAt (now s) at w; next = readerAt s (at + w) }
 
 -- their machine values are of their types
-module _ (s : RefT (List ℕ)) (at w : ℕ) (wt : WT (bytesVal s)) (room : Room (now s) at w) where
+module _ (s : RefT (List ℕ)) (at w : ℕ) (wt : WT (bytesVal s)) (room : FieldRoom (now s) at w) where
   pub next-typed : WT (B′.lowered (readerAt s (at + w)))
   next-typed = (wt, ((record { fits = room .fits }, tt), tt))
 
@@ -120,7 +120,7 @@ module _ {M : Type 1} (𝓤 : URA M) (H : Heap 𝓤) (A : Atoms 𝓤) (κ : Lft)
     abbrev pub to-take : Take 𝓤 H A mem run .Ghost
     to-take = (((κ, tt), (q, tt), tt, passed, (B′.lowered (readerAt s at) ∷ [], (vint w64 w ∷ [], tt))), tt)
 
-    asks-take : Given 𝓤 H A → Room (now s) at w → ent 𝓤 (⋆ 𝓤 H A (Token κ q ∷ ‵ (Bytes κ s) ∷ [])) (Take 𝓤 H A mem run .pre to-take)
+    asks-take : Given 𝓤 H A → FieldRoom (now s) at w → ent 𝓤 (⋆ 𝓤 H A (Token κ q ∷ ‵ (Bytes κ s) ∷ [])) (Take 𝓤 H A mem run .pre to-take)
     asks-take W room =
         let at-fits : at < 2 ^ 64 = omega (arith, room .fits) in
         let w-fits : w < 2 ^ 64 = omega (arith, room .fits) in
@@ -128,7 +128,7 @@ module _ {M : Type 1} (𝓤 : URA M) (H : Heap 𝓤) (A : Atoms 𝓤) (κ : Lft)
         nothing ! $ owned ! usize (Is usize) (uint-makes 𝓤 H A W w64) w _ (refl, w-fits) $ fjoin ! $ move ! (1 ∷ 0 ∷ []) $ fjoin ! $ done !
 
     abbrev Found : ReadField → Type 0
-    Found r = Taken (now s) at w (r .value) (r .next .cursor .at) × (r .next .bytes ≡ s)
+    Found r = FieldTaken (now s) at w (r .value) (r .next .cursor .at) × (r .next .bytes ≡ s)
 
     found : (r : ReadField) → ent 𝓤 (ensured 𝓤 H A take.ended (take.clauses 𝓤 H A mem run) (κ, tt) passed tt r) (fact 𝓤 (Found r))
     found r = exE 𝓤 _ (λ ws. snd∗ 𝓤 (sem 𝓤 H A (lasts take.ended (κ, tt) passed ws)) (fact 𝓤 (Found r)))
@@ -140,7 +140,7 @@ module _ {M : Type 1} (𝓤 : URA M) (H : Heap 𝓤) (A : Atoms 𝓤) (κ : Lft)
         ap₂ (λ (v : ℕ) (b : RefT (List ℕ)). result v b (r .next .cursor .at)) (taken .is) same ∙ ap (result (fieldAt (now s) at w) s) (taken .moved)
 
     module _ {K : Type 0} {W : Given 𝓤 H A} {Γ : List (Item 𝓤)} {E : Env 𝓤 H} {C : Calls 𝓤 H} {Λ : Loops 𝓤 H} {xs : List Operand} {d : Place} {rest : Body} {p : Post 𝓤 H} where
-      pub takes : K → FmC 𝓤 H (W .laws) C → Triple 𝓤 (C #bits·BitReader·take) (Take 𝓤 H A mem run) → Room (now s) at w
+      pub takes : K → FmC 𝓤 H (W .laws) C → Triple 𝓤 (C #bits·BitReader·take) (Take 𝓤 H A mem run) → FieldRoom (now s) at w
           → Opds K W (raw (Take 𝓤 H A mem run .pre to-take) ∷ ‵ (Bytes κ s) ∷ Γ) E xs (B′.lowered (readerAt s at) ∷ vint w64 w ∷ [])
           → Step K W (Token κ q ∷ ‵ (Bytes κ s) ∷ Γ) (lands C Λ E d (R′.lowered (readAt s at w)) rest p) (Token κ q ∷ ‵ (Bytes κ s) ∷ Γ) (runs C Λ E (seq (call #bits·BitReader·take xs d) rest) p)
       takes t fm known room os = step (λ z.

@@ -1,4 +1,4 @@
--- What `gather` and `Cursor::take` return.
+-- Four bytes as one word cover any field of up to 25 bits, whatever bit it begins at, so a shift and a remainder of the word are the field.
 use mathlib.Core.Path.{_≡_, refl, sym, ap, ap₂, _∙_, subst}
 use mathlib.Core.List.{List, [], _∷_}
 use Prim.Native.Nat.{ℕ, suc, _+_, _-_, _*_, _/_, _%_, _^_, _≤_, _<_}
@@ -8,7 +8,7 @@ use lib.ListN.{getD}
 use lib.Dec.{lit<}
 use lib.Pow.{pow-pos, shl-exact}
 use Rattle.bits.specs.Bits.{value, bytesBits}
-use Rattle.bits.specs.Cursor.{window, Gathered, Room, Taken}
+use Rattle.bits.specs.Inner.{widestField, window, Gathered, FieldRoom, FieldTaken}
 use Rattle.bits.proofs.Fields.{field-window, value-bytes}
 
 no-bytes : value (bytesBits []) ≡ 0
@@ -38,14 +38,14 @@ gathered l i a b c d pa pb pc pd =
       small = omega arith;
     }
 
-one-shl : (w : ℕ) → w ≤ 25 → 1 * 2 ^ w % 2 ^ 64 ≡ 2 ^ w
+one-shl : (w : ℕ) → w ≤ widestField → 1 * 2 ^ w % 2 ^ 64 ≡ 2 ^ w
 one-shl w h = shl-exact 1 w 64 (lit< tt) (omega arith) ∙ one-mul (2 ^ w)
 
-pub one-shl-pos : (w : ℕ) → w ≤ 25 → 0 < 1 * 2 ^ w % 2 ^ 64
+pub one-shl-pos : (w : ℕ) → w ≤ widestField → 0 < 1 * 2 ^ w % 2 ^ 64
 one-shl-pos w h = subst (λ (m : ℕ). 0 < m) (sym (one-shl w h)) (pow-pos w)
 
-pub taken : (l : List ℕ) (at w g : ℕ) → Room l at w → Gathered l (at / 8) g
-    → Taken l at w (g / 2 ^ (32 - (at % 8 + w)) % (1 * 2 ^ w % 2 ^ 64)) (at + w)
+pub taken : (l : List ℕ) (at w g : ℕ) → FieldRoom l at w → Gathered l (at / 8) g
+    → FieldTaken l at w (g / 2 ^ (32 - (at % 8 + w)) % (1 * 2 ^ w % 2 ^ 64)) (at + w)
 taken l at w g room got =
     let e : g / 2 ^ (32 - (at % 8 + w)) % (1 * 2 ^ w % 2 ^ 64) ≡ g / 2 ^ (32 - (at % 8 + w)) % 2 ^ w =
     ap (λ (m : ℕ). g / 2 ^ (32 - (at % 8 + w)) % m) (one-shl w (room .narrow)) in

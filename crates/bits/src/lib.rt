@@ -4,7 +4,7 @@ ghost use Prim.Native.Nat.{_+_, _*_, _%_, _^_, _≤_, _<_};
 ghost use lib.ListN.{length, take, getD};
 ghost use Rattle.chain.specs.Written.{laid};
 ghost use Rattle.bits.specs.Bits.{bits};
-ghost use Rattle.bits.specs.Cursor.{spread, Gathered, Room, Taken, Fill, Stored};
+ghost use Rattle.bits.specs.Inner.{spread, Gathered, FieldRoom, FieldTaken, FieldFill, FieldStored};
 
 // A bit position of a file.
 pub struct Cursor {
@@ -98,8 +98,8 @@ fn scatter(buf: &mut [u8], i: usize, count: usize, head: u64, x: u64)
 impl Cursor {
     // The field of width bits at the cursor, and the cursor past it.
     pub fn take(self, file: &[u8], width: usize) -> Field
-        requires { ⌜ Room (now file) (self .at) width ⌝ }
-        ensures { λ r. ⌜ Taken (now (file .entry)) (self .at) width (r .value) (r .next .at) ⌝ }
+        requires { ⌜ FieldRoom (now file) (self .at) width ⌝ }
+        ensures { λ r. ⌜ FieldTaken (now (file .entry)) (self .at) width (r .value) (r .next .at) ⌝ }
     {
         let at = self.at;
         let all = gather(file, at / 8);
@@ -113,8 +113,8 @@ impl Cursor {
 
     // Writes value as a field of width bits at the cursor, with zero bits after it to the end of its last byte.
     pub fn put(self, buf: &mut [u8], width: usize, value: u64) -> Cursor
-        requires { ⌜ Fill (now buf) (self .at) width value ⌝ }
-        ensures { λ r. ⌜ Stored (now (buf .entry)) (self .at) width (bits width value) (now (buf .exit)) (r .at) ⌝ }
+        requires { ⌜ FieldFill (now buf) (self .at) width value ⌝ }
+        ensures { λ r. ⌜ FieldStored (now (buf .entry)) (self .at) width (bits width value) (now (buf .exit)) (r .at) ⌝ }
     {
         let at = self.at;
         let i = at / 8;
@@ -129,8 +129,8 @@ impl Cursor {
 impl<'a> BitReader<'a> {
     // The field of width bits at the reader's position, and a reader of the same bytes past it.
     pub fn take(self, width: usize) -> ReadField<'a>
-        requires { ⌜ Room (now (self .bytes)) (self .cursor .at) width ⌝ }
-        ensures { λ r. ⌜ Taken (now (self .entry .bytes)) (self .entry .cursor .at) width (r .value) (r .next .cursor .at) × (r .next .bytes ≡ self .entry .bytes) ⌝ }
+        requires { ⌜ FieldRoom (now (self .bytes)) (self .cursor .at) width ⌝ }
+        ensures { λ r. ⌜ FieldTaken (now (self .entry .bytes)) (self .entry .cursor .at) width (r .value) (r .next .cursor .at) × (r .next .bytes ≡ self .entry .bytes) ⌝ }
     {
         let field = self.cursor.take(self.bytes, width);
         ReadField {

@@ -1,4 +1,4 @@
--- Which of two files is preferred.
+-- The preference is taken apart by what each file was judged: one law for each pair of cases.
 use mathlib.Core.Path.{_≡_, refl, sym, ap, ap₂, _∙_}
 use mathlib.Core.Bool.{Bool, cond}
 use Prim.Native.Nat.{ℕ, _≤_, _<_}

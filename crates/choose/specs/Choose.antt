@@ -6,21 +6,22 @@ use Prim.Native.Nat.{ℕ, _+_}
 use denote.Ref.{RefT, now}
 use Rattle.chain.specs.Tests.{_<?_, _≤?_, _≠?_, _or_}
 use Rattle.chain.specs.Verdict.{Verdict, fine, refused, _then_, refuseIf}
-use Rattle.chain.specs.Chain.{mostColumns, mostPayslips, mostSteps}
+use Rattle.chain.specs.Chain.{mostColumns, mostPayslips}
 use Rattle.sheet.specs.Sheet.{sheetRule}
 use Rattle.verify.specs.Verify.{scratchSize, verifyRule}
-use Rattle.file.specs.File.{columnsOf, payslipsOf, lengthOf, stepsOf, outputsOf, readRule}
+use Rattle.layout.specs.Layout.{edition1}
+use Rattle.layout.specs.File.{columnsOf, payslipsOf, lengthOf, stepsOf, outputsOf, readRule}
 
 -- "its scratch must hold 16,000 pairs, 64 outputs and 16,017 numbers"
 abbrev pub mostScratch : ℕ
-mostScratch = scratchSize mostColumns mostSteps
+mostScratch = scratchSize mostColumns (edition1 .limit)
 
 -- "those that read and pass": a file read, and held against the sheet. "A file that reads but has another p or q than the sheet is 14, place 0."
 unfoldable pub fileRule : ℕ → ℕ → List ℕ → List ℕ → Verdict
 fileRule p q amounts file =
-    readRule file mostSteps mostPayslips
+    readRule edition1 file (edition1 .limit) mostPayslips
     then refuseIf (columnsOf file ≠? p or payslipsOf file ≠? q) 14 0
-    then verifyRule p (stepsOf file) (outputsOf file) amounts mostScratch
+    then verifyRule p (stepsOf edition1 file) (outputsOf edition1 file) amounts mostScratch
 
 -- which file is handed back, or the refusal
 pub data Choice : Type 0 where
@@ -45,12 +46,12 @@ unless (refused k s) c = neither k s
 unfoldable pub chooseRule : ℕ → ℕ → List ℕ → ℕ → ℕ → ℕ → Verdict
 chooseRule p q amounts pairsLent outputsLent numbersLent =
     sheetRule p q amounts
-    then refuseIf (pairsLent <? mostSteps or outputsLent <? mostPayslips or numbersLent <? mostScratch) 5 0
+    then refuseIf (pairsLent <? edition1 .limit or outputsLent <? mostPayslips or numbersLent <? mostScratch) 5 0
 
 unfoldable pub choice : ℕ → ℕ → List ℕ → List ℕ → List ℕ → ℕ → ℕ → ℕ → Choice
 choice p q amounts a b pairsLent outputsLent numbersLent =
     unless (chooseRule p q amounts pairsLent outputsLent numbersLent)
-    (better (fileRule p q amounts a) (fileRule p q amounts b) (lengthOf a) (lengthOf b))
+    (better (fileRule p q amounts a) (fileRule p q amounts b) (lengthOf edition1 a) (lengthOf edition1 b))
 
 -- What is handed back of files a and b: "the lender's own bytes", that very slice, with number and place 0; or an empty part and the refusal.
 abbrev pub Handed : Choice → RefT (List ℕ) → RefT (List ℕ) → RefT (List ℕ) → ℕ → ℕ → Type 0

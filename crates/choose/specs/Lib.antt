@@ -1,2 +1,3 @@
 pub mod Choose
 pub mod Answers
+pub mod Inner

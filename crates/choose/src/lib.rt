@@ -1,15 +1,13 @@
 // The choice between two files.
 ghost use mathlib.Core.Path.{_≡_};
-ghost use Prim.Native.Nat.{_/_, _≤_};
+ghost use Prim.Native.Nat.{_/_};
 ghost use lib.ListN.{length};
-ghost use Rattle.chain.specs.Verdict.{fine};
 ghost use Rattle.chain.specs.Judgement as judgement;
-ghost use Rattle.chain.specs.Chain.{mostPayslips, mostSteps};
-ghost use Rattle.file.specs.File.{lengthOf};
-ghost use Rattle.choose.specs.Choose.{mostScratch, fileRule, better, chooseRule, choice, Handed};
+ghost use Rattle.choose.specs.Choose.{better, chooseRule, choice, Handed};
 ghost use Rattle.choose.specs.Answers.{verdictOf, countOf, choiceOf};
+ghost use Rattle.choose.specs.Inner.{Enough, FileJudged};
 use chain::Judgement;
-use file::Reading;
+use reading::Reading;
 use verify::Verified;
 
 // A file's number of steps where it reads and passes, or a refusal.
@@ -25,8 +23,8 @@ pub enum Chosen {
     Neither(u32, usize),
 }
 
-// As many numbers as the check of any chain asks for.
-const MOST_SCRATCH: usize = 16017;
+// As many numbers as the check of any chain of edition 1 asks for.
+const MOST_SCRATCH: usize = chain::MOST_COLUMNS + layout::EDITION_1_STEPS + 1;
 
 // 1, 2, then 5: what is found before either file, for so many pairs, outputs and numbers lent.
 fn judge_lent(
@@ -45,7 +43,7 @@ fn judge_lent(
         }
         Judgement::Fine => {}
     }
-    if pairs < chain::MOST_STEPS {
+    if pairs < layout::EDITION_1_STEPS {
         return Judgement::Refused(5, 0);
     }
     if outputs < chain::MOST_PAYSLIPS {
@@ -87,11 +85,10 @@ pub fn judge_file(
     outputs: &mut [u32],
     numbers: &mut [u32],
 ) -> Judged
-    requires { ⌜ (mostSteps ≤ length (now steps) / 2) × (mostPayslips ≤ length (now outputs)) × (mostScratch ≤ length (now numbers)) ⌝ }
-    ensures { λ r. ⌜ verdictOf r ≡ fileRule p q (now (amounts .entry)) (now (bytes .entry)) ⌝ }
-    ensures { λ r. ⌜ (fileRule p q (now (amounts .entry)) (now (bytes .entry)) ≡ fine → countOf r ≡ lengthOf (now (bytes .entry))) ⌝ }
+    requires { ⌜ Enough (length (now steps) / 2) (length (now outputs)) (length (now numbers)) ⌝ }
+    ensures { λ r. ⌜ FileJudged p q (now (amounts .entry)) (now (bytes .entry)) r ⌝ }
 {
-    match file::read(bytes, steps, outputs) {
+    match reading::read(bytes, steps, outputs) {
         Reading::Refused(number, place) => Judged::Refused(number, place),
         Reading::Chain {
             p: columns,

@@ -8,11 +8,12 @@ use Rattle.chain.specs.Verdict.{Verdict, fine, refused, Answer, done, refusal, 
 use Rattle.chain.proofs.Rules.{kept}
 use Rattle.chain.specs.declared.Step.{Step}
 use Rattle.compile.specs.Compile.{chainOf, compileRule}
-use Rattle.file.specs.File.{writeAnswer, writeBytes}
-use Rattle.file.specs.Answers.{writtenOf}
-use Rattle.file.specs.declared.Written.{Written}
-use Rattle.file.specs.declared.Written.the-variants.{Bytes}
-use Rattle.file.proofs.Taken.{write-room}
+use Rattle.layout.specs.Layout.{edition1}
+use Rattle.layout.specs.File.{writeAnswer, writeBytes}
+use Rattle.writing.specs.Answers.{writtenOf}
+use Rattle.writing.specs.declared.Written.{Written}
+use Rattle.writing.specs.declared.Written.the-variants.{Bytes}
+use Rattle.writing.proofs.Told.{write-room}
 use Rattle.compiler.specs.Made.{orElse, columnsIn, chainIn, ruleIn, madeAnswer, madeBytes}
 
 module _ (numbers : List ℕ) (method k pairsLent outputsLent : ℕ) (old : List ℕ) where
@@ -25,7 +26,7 @@ module _ (numbers : List ℕ) (method k pairsLent outputsLent : ℕ) (old : List
   -- compile passed: what write answers and leaves, for the chain as the code has it
   pub made : (p : ℕ) (steps : List Step) (outputs : List ℕ) (a : Answer) (bytes : List ℕ) → fine ≡ ruleIn numbers method k pairsLent outputsLent
       → p ≡ columnsIn numbers method k → steps ≡ chainIn numbers method k .steps → outputs ≡ chainIn numbers method k .outputs
-      → a ≡ writeAnswer p steps outputs (length old) → bytes ≡ writeBytes p steps outputs old
+      → a ≡ writeAnswer edition1 p steps outputs (length old) → bytes ≡ writeBytes edition1 p steps outputs old
       → (a ≡ madeAnswer numbers method k pairsLent outputsLent (length old)) × (bytes ≡ madeBytes numbers method k pairsLent outputsLent old)
   unfolding madeAnswer madeBytes orElse onFine
   made p steps outputs a bytes e ep es eo f g = (rw (← e) (rw (ep, es, eo) at f), rw (← e) (rw (ep, es, eo) at g))
@@ -36,9 +37,9 @@ module _ (numbers : List ℕ) (method k pairsLent outputsLent : ℕ) (old : List
   unfolding madeAnswer madeBytes orElse onFine
   made-within w n bytes is f g = by-rule (ruleIn numbers method k pairsLent outputsLent) f g
     where
-      by-rule : (v : Verdict) → writtenOf w ≡ orElse v (writeAnswer (columnsIn numbers method k) (chainIn numbers method k .steps) (chainIn numbers method k .outputs) (length old))
-          → bytes ≡ onFine v (writeBytes (columnsIn numbers method k) (chainIn numbers method k .steps) (chainIn numbers method k .outputs) old) old → n ≤ length bytes
-      by-rule fine f g = write-room (columnsIn numbers method k) (chainIn numbers method k .steps) (chainIn numbers method k .outputs) old w f n is bytes g
+      by-rule : (v : Verdict) → writtenOf w ≡ orElse v (writeAnswer edition1 (columnsIn numbers method k) (chainIn numbers method k .steps) (chainIn numbers method k .outputs) (length old))
+          → bytes ≡ onFine v (writeBytes edition1 (columnsIn numbers method k) (chainIn numbers method k .steps) (chainIn numbers method k .outputs) old) old → n ≤ length bytes
+      by-rule fine f g = write-room edition1 (columnsIn numbers method k) (chainIn numbers method k .steps) (chainIn numbers method k .outputs) old w f n is bytes g
       by-rule (refused m s) f g =
           let e : done (n ∷ []) ≡ refusal m s = sym (ap writtenOf is) ∙ f in
           let z : _≡_ {A = ℕ} 0 1 = cc in

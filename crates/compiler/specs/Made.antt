@@ -5,7 +5,8 @@ use lib.ListN.{getD, drop}
 use Rattle.chain.specs.Verdict.{Verdict, fine, refused, Answer, refusal, onFine}
 use Rattle.chain.specs.Chain.{Chain}
 use Rattle.compile.specs.Compile.{chainOf, compileRule}
-use Rattle.file.specs.File.{writeAnswer, writeBytes}
+use Rattle.layout.specs.Layout.{edition1}
+use Rattle.layout.specs.File.{writeAnswer, writeBytes}
 
 -- the refusal of a call, or what the next one answers
 unfoldable pub orElse : Verdict → Answer → Answer
@@ -25,9 +26,9 @@ module _ (numbers : List ℕ) (method k : ℕ) where
   -- compile's refusal, or what write answers to the chain compiled
   unfoldable pub madeAnswer : ℕ → ℕ → ℕ → Answer
   madeAnswer pairsLent outputsLent bytesLent =
-      orElse (ruleIn pairsLent outputsLent) (writeAnswer columnsIn (chainIn .steps) (chainIn .outputs) bytesLent)
+      orElse (ruleIn pairsLent outputsLent) (writeAnswer edition1 columnsIn (chainIn .steps) (chainIn .outputs) bytesLent)
 
   -- what the lent bytes are afterwards; they were old before
   unfoldable pub madeBytes : ℕ → ℕ → List ℕ → List ℕ
   madeBytes pairsLent outputsLent old =
-      onFine (ruleIn pairsLent outputsLent) (writeBytes columnsIn (chainIn .steps) (chainIn .outputs) old) old
+      onFine (ruleIn pairsLent outputsLent) (writeBytes edition1 columnsIn (chainIn .steps) (chainIn .outputs) old) old

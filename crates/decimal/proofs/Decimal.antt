@@ -1,4 +1,4 @@
--- Laws of numbers in decimal.
+-- The digits of a number are those of its tenth and then its remainder, however many steps the definition is allowed.
 use mathlib.Core.Path.{_≡_, refl, sym, ap, _∙_}
 use mathlib.Core.List.{List, [], _∷_, _++_, append-assoc}
 use Prim.Native.Nat.{ℕ, zero, suc, _+_, _/_, _%_, _^_, _≤_, _<_}

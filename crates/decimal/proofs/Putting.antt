@@ -1,4 +1,4 @@
--- Parts of the text written one after the other.
+-- Parts written one after the other are one part: each is laid where the one before ended.
 use mathlib.Core.Path.{_≡_, sym, ap, _∙_}
 use mathlib.Core.List.{List, [], _∷_, _++_}
 use Prim.Native.Nat.{ℕ, _+_, _/_, _%_, _≤_, _<_}

@@ -1,4 +1,4 @@
--- Laws of numbers one over the other: their digits are 0 together, and they are as many as the largest has.
+-- Numbers one over the other have a digit 0 exactly where all have, and as many digits as the largest: bit by bit.
 use mathlib.Core.Path.{_≡_, ap, ap₂, _∙_}
 use Prim.Native.Nat.{ℕ, zero, suc, _+_, _*_, _%_, _^_, _≤_, _<_}
 use native.Mathlib.Nat.{le-refl, le-antisymm, lt-of-le-of-lt}

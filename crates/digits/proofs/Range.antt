@@ -1,4 +1,4 @@
--- Laws of sums and maxima over the numbers below a bound.
+-- Sums and maxima over the numbers below a bound, by induction on the bound: term by term, split in two, bounded, exchanged.
 use mathlib.Core.Path.{_≡_, refl, sym, ap, ap₂, _∙_}
 use Prim.Native.Nat.{ℕ, zero, suc, _+_, _-_, _*_, _≤_, _<_, max, zero-le}
 use native.Mathlib.Nat.{add-mul, suc-mul, zero-mul, le-refl}

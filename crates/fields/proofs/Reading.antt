@@ -1,4 +1,4 @@
--- One call of `fields::read_fields`, for whoever walks code that reads list after list: the machine value handed back is that of the reader past the fields, and the lent cells are the list read, over what they were.
+-- A call of `read_fields` as one step of a walk by hand: the machine value is that of the reader past the fields, and the lent cells are the list read over what they were.
 -- Assumes nothing.
 use mathlib.Core.Path.{_≡_, refl, sym, ap, ap₂, subst, _∙_}
 use mathlib.Core.List.{List, [], _∷_}
@@ -37,7 +37,7 @@ use Rattle.bits.specs.declared.BitReader.{BitReader}
 use Rattle.bits.proofs.Reader.{lifetime, bytesVal, Bytes, readerAt, Reader, reader-own}
 use Rattle.bits.proofs.BitReader as B
 use Rattle.bits.proofs.BitReader.Laws as B′
-use Rattle.fields.specs.Fields.{RoomAll, TakenAll}
+use Rattle.fields.specs.Inner.{FieldsRoom, FieldsTaken}
 use Rattle.fields.proofs.read_fields as read
 use Rattle.fields.proofs.read_fields.Symbol.{name as #fields·read-fields}
 
@@ -68,7 +68,7 @@ module _ {M : Type 1} (𝓤 : URA M) (H : Heap 𝓤) (A : Atoms 𝓤) (mem : Mem
   abbrev to-read : Read 𝓤 H A mem run .Ghost
   to-read = (((κ, (κ₁, tt)), (q, (q₁, tt)), tt, passed, (B′.lowered (readerAt s at) ∷ [], (vint w64 w ∷ [], (vint w64 n ∷ [], (cellsVal x ∷ [], tt))))), tt)
 
-  asks-read : Given 𝓤 H A → w < 2 ^ 64 → n < 2 ^ 64 → RoomAll (now s) at w n (now x) → ent 𝓤 (⋆ 𝓤 H A (‵ (Bytes κ s) ∷ ‵ (flft κ q) ∷ ‵ (flft κ₁ q₁) ∷ ‵ (Cells κ₁ x) ∷ [])) (Read 𝓤 H A mem run .pre to-read)
+  asks-read : Given 𝓤 H A → w < 2 ^ 64 → n < 2 ^ 64 → FieldsRoom (now s) at w n (now x) → ent 𝓤 (⋆ 𝓤 H A (‵ (Bytes κ s) ∷ ‵ (flft κ q) ∷ ‵ (flft κ₁ q₁) ∷ ‵ (Cells κ₁ x) ∷ [])) (Read 𝓤 H A mem run .pre to-read)
   asks-read W w-fits n-fits room =
       let at-fits : at < 2 ^ 64 = omega (arith, room .fits) in
       qed W (‵ (Bytes κ s) ∷ ‵ (flft κ q) ∷ ‵ (flft κ₁ q₁) ∷ ‵ (Cells κ₁ x) ∷ []) ∵ says ! room $
@@ -78,14 +78,14 @@ module _ {M : Type 1} (𝓤 : URA M) (H : Heap 𝓤) (A : Atoms 𝓤) (mem : Mem
       owned ! usize (Is usize) (uint-makes 𝓤 H A W w64) n _ (refl, n-fits) $ fjoin ! $ owned ! usize (Is usize) (uint-makes 𝓤 H A W w64) w _ (refl, w-fits) $ fjoin ! $ move ! (1 ∷ 0 ∷ []) $ fjoin ! $ done !
 
   abbrev Found : BitReader → List ℕ → Type 0
-  Found r new = TakenAll (now s) at w n (now x) new (r .cursor .at) × (r .bytes ≡ s)
+  Found r new = FieldsTaken (now s) at w n (now x) new (r .cursor .at) × (r .bytes ≡ s)
 
   -- the contract leaves one result
   is-past : (r : BitReader) (new : List ℕ) → Found r new → r ≡ readerAt s (at + n * w)
   is-past r new (taken, same) = ap₂ readerAt same (taken .moved)
 
   module _ {K : Type 0} {W : Given 𝓤 H A} {Γ : List (Item 𝓤)} {E : Env 𝓤 H} {C : Calls 𝓤 H} {Λ : Loops 𝓤 H} {xs : List Operand} {d : Place} {rest : Body} {p : Post 𝓤 H} where
-    pub reads : K → FmC 𝓤 H (W .laws) C → Triple 𝓤 (C #fields·read-fields) (Read 𝓤 H A mem run) → w < 2 ^ 64 → n < 2 ^ 64 → RoomAll (now s) at w n (now x)
+    pub reads : K → FmC 𝓤 H (W .laws) C → Triple 𝓤 (C #fields·read-fields) (Read 𝓤 H A mem run) → w < 2 ^ 64 → n < 2 ^ 64 → FieldsRoom (now s) at w n (now x)
         → Opds K W (raw (Read 𝓤 H A mem run .pre to-read) ∷ ‵ (Bytes κ s) ∷ Γ) E xs (B′.lowered (readerAt s at) ∷ vint w64 w ∷ vint w64 n ∷ cellsVal x ∷ [])
         → (length list ≡ length (now x) → Seq K W (‵ (Bytes κ s) ∷ ‵ (flft κ q) ∷ ‵ (flft κ₁ q₁) ∷ ‵ (Last x list) ∷ Γ) (lands C Λ E d (B′.lowered (readerAt s (at + n * w))) rest p))
         → Seq K W (‵ (Bytes κ s) ∷ ‵ (flft κ q) ∷ ‵ (flft κ₁ q₁) ∷ ‵ (Cells κ₁ x) ∷ Γ) (runs C Λ E (seq (call #fields·read-fields xs d) rest) p)

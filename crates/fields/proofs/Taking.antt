@@ -1,4 +1,4 @@
--- A loop that reads fields one after the other into the cells of a slice.
+-- The loop's invariant: the cells as they will be are the cells so far with the fields still to be read laid behind them; each turn moves one over.
 use mathlib.Core.Path.{_≡_, sym, ap, ap₂, _∙_}
 use mathlib.Core.List.{List, _∷_}
 use Prim.Native.Nat.{ℕ, suc, _+_, _-_, _*_, _^_, _≤_, _<_}
@@ -9,8 +9,8 @@ use lib.Pow.{pow-mono}
 use Rattle.chain.specs.Written.{over, laid}
 use Rattle.chain.proofs.Written.{over-laid, laid-nil, laid-one}
 use Rattle.bits.specs.Bits.{fieldsAt}
-use Rattle.bits.specs.Cursor.{Room, Taken}
-use Rattle.fields.specs.Fields.{RoomAll, TakenAll}
+use Rattle.bits.specs.Inner.{FieldRoom, FieldTaken}
+use Rattle.fields.specs.Inner.{FieldsRoom, FieldsTaken}
 
 -- what out will be, from what it is with n fields to come, the first at position c for cell j
 unfoldable pub takenFrom : List ℕ → ℕ → ℕ → ℕ → ℕ → List ℕ → List ℕ
@@ -24,7 +24,7 @@ pub record Taking (file whole : List ℕ) (goal w n : ℕ) (out : List ℕ) (c j
   pub is : whole ≡ takenFrom file c w (n - j) j out
 
 module _ (file : List ℕ) (at w n : ℕ) (old : List ℕ) where
-  pub take-start : RoomAll file at w n old → Taking file (over (fieldsAt file at w n) old) (at + n * w) w n old at 0
+  pub take-start : FieldsRoom file at w n old → Taking file (over (fieldsAt file at w n) old) (at + n * w) w n old at 0
   unfolding takenFrom
   take-start ok =
       let e : n - 0 ≡ n = omega arith in
@@ -35,7 +35,7 @@ module _ (file : List ℕ) (at w n : ℕ) (old : List ℕ) where
         is = over-laid (fieldsAt file at w n) old ∙ ap (λ (k : ℕ). laid 0 (fieldsAt file at w k) old) (sym e);
       }
 
-  pub take-end : (out : List ℕ) (c j : ℕ) → n ≤ j → Taking file (over (fieldsAt file at w n) old) (at + n * w) w n out c j → TakenAll file at w n old out c
+  pub take-end : (out : List ℕ) (c j : ℕ) → n ≤ j → Taking file (over (fieldsAt file at w n) old) (at + n * w) w n out c j → FieldsTaken file at w n old out c
   unfolding takenFrom fieldsAt
   take-end out c j h inv =
       let left : n - j ≡ 0 = omega arith in
@@ -45,14 +45,14 @@ module _ (file : List ℕ) (at w n : ℕ) (old : List ℕ) where
       }
 
 -- a turn
-module _ (file whole : List ℕ) (at w n : ℕ) (old out : List ℕ) (c j : ℕ) (ok : RoomAll file at w n old) (h : j < n)
+module _ (file whole : List ℕ) (at w n : ℕ) (old out : List ℕ) (c j : ℕ) (ok : FieldsRoom file at w n old) (h : j < n)
     (inv : Taking file whole (at + n * w) w n out c j) where
   left : (n - j) * w ≡ w + (n - (j + 1)) * w
   left =
       let e : n - j ≡ suc (n - (j + 1)) = omega arith in
       ap (λ (k : ℕ). k * w) e ∙ omega (arith, suc-mul (n - (j + 1)) w)
 
-  pub take-room : Room file c w
+  pub take-room : FieldRoom file c w
   take-room =
       record {
         narrow = ok .narrow;
@@ -60,7 +60,7 @@ module _ (file whole : List ℕ) (at w n : ℕ) (old out : List ℕ) (c j : ℕ)
         fits = omega (arith, ok .fits, inv .place, left);
       }
 
-  pub take-on : (v next : ℕ) → Taken file c w v next → Taking file whole (at + n * w) w n (set out j v) next (j + 1)
+  pub take-on : (v next : ℕ) → FieldTaken file c w v next → Taking file whole (at + n * w) w n (set out j v) next (j + 1)
   unfolding takenFrom fieldsAt
   take-on v next t =
       let e : n - j ≡ suc (n - (j + 1)) = omega arith in

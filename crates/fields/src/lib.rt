@@ -3,8 +3,8 @@ ghost use mathlib.Core.Path.{_≡_};
 ghost use Prim.Native.Nat.{_*_, _≤_};
 ghost use lib.ListN.{length, take};
 ghost use Rattle.bits.specs.Bits.{fields};
-ghost use Rattle.bits.specs.Cursor.{Stored};
-ghost use Rattle.fields.specs.Fields.{FillAll, RoomAll, TakenAll};
+ghost use Rattle.bits.specs.Inner.{FieldStored};
+ghost use Rattle.fields.specs.Inner.{FieldsFill, FieldsRoom, FieldsTaken};
 use bits::BitReader;
 use bits::Cursor;
 
@@ -16,8 +16,8 @@ fn wide(x: u32) -> u64
 
 // Writes the first count numbers of the list as fields of width bits, one after the other.
 pub fn put_fields(buf: &mut [u8], from: Cursor, width: usize, list: &[u32], count: usize) -> Cursor
-    requires { ⌜ (count ≤ length (now list)) × FillAll (now buf) (from .at) width (take count (now list)) ⌝ }
-    ensures { λ r. ⌜ Stored (now (buf .entry)) (from .at) (count * width) (fields width (take count (now (list .entry)))) (now (buf .exit)) (r .at) ⌝ }
+    requires { ⌜ (count ≤ length (now list)) × FieldsFill (now buf) (from .at) width (take count (now list)) ⌝ }
+    ensures { λ r. ⌜ FieldStored (now (buf .entry)) (from .at) (count * width) (fields width (take count (now (list .entry)))) (now (buf .exit)) (r .at) ⌝ }
 {
     let mut c = from;
     let mut j = 0;
@@ -30,8 +30,8 @@ pub fn put_fields(buf: &mut [u8], from: Cursor, width: usize, list: &[u32], coun
 
 // Reads count fields of width bits into the first cells of out.
 pub fn take_fields(file: &[u8], from: Cursor, width: usize, count: usize, out: &mut [u32]) -> Cursor
-    requires { ⌜ RoomAll (now file) (from .at) width count (now out) ⌝ }
-    ensures { λ r. ⌜ TakenAll (now (file .entry)) (from .at) width count (now (out .entry)) (now (out .exit)) (r .at) ⌝ }
+    requires { ⌜ FieldsRoom (now file) (from .at) width count (now out) ⌝ }
+    ensures { λ r. ⌜ FieldsTaken (now (file .entry)) (from .at) width count (now (out .entry)) (now (out .exit)) (r .at) ⌝ }
 {
     let mut c = from;
     let mut i = 0;
@@ -52,8 +52,8 @@ pub fn read_fields<'a>(
     count: usize,
     out: &mut [u32],
 ) -> BitReader<'a>
-    requires { ⌜ RoomAll (now (reader .bytes)) (reader .cursor .at) width count (now out) ⌝ }
-    ensures { λ r. ⌜ TakenAll (now (reader .entry .bytes)) (reader .entry .cursor .at) width count (now (out .entry)) (now (out .exit)) (r .cursor .at) × (r .bytes ≡ reader .entry .bytes) ⌝ }
+    requires { ⌜ FieldsRoom (now (reader .bytes)) (reader .cursor .at) width count (now out) ⌝ }
+    ensures { λ r. ⌜ FieldsTaken (now (reader .entry .bytes)) (reader .entry .cursor .at) width count (now (out .entry)) (now (out .exit)) (r .cursor .at) × (r .bytes ≡ reader .entry .bytes) ⌝ }
 {
     let next = take_fields(reader.bytes, reader.cursor, width, count, out);
     BitReader {

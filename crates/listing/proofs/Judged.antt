@@ -1,4 +1,4 @@
--- The verdict on a file that is to be listed, from what reading it and measuring its columns find.
+-- The verdict on a file that is to be listed is its length's, then reading's, then the columns', each told by the call that finds it.
 use mathlib.Core.Path.{_≡_, sym, ap, ap₂, _∙_}
 use mathlib.Core.List.{List, [], _∷_}
 use Prim.Native.Nat.{ℕ, _+_, _*_, _/_, _≤_, _<_}
@@ -12,16 +12,17 @@ use Rattle.chain.proofs.Rules.{stop, pass, refuse-yes, refuse-no, lt-yes, lt-no
 use Rattle.chain.proofs.Legal.{chain-parts}
 use Rattle.chain.proofs.Pairs.{pairs-flat}
 use Rattle.verify.specs.Verify.{exponentsRule}
-use Rattle.file.specs.File.{longestFile, columnsOf, payslipsOf, lengthOf, stepsOf, outputsOf, readRule}
-use Rattle.file.proofs.Readable.{readable, columns-low}
-use Rattle.file.proofs.Good.{Good}
+use Rattle.layout.specs.Layout.{edition1}
+use Rattle.layout.specs.File.{longestFile, columnsOf, payslipsOf, lengthOf, stepsOf, outputsOf, readRule}
+use Rattle.layout.proofs.Readable.{readable, columns-low}
+use Rattle.reading.proofs.Good.{Good}
 use Rattle.listing.specs.Listing.{amountOf, listingRule}
 use Rattle.listing.specs.Inner.{TableHolds}
 use Rattle.listing.proofs.Tables.{atOutputs}
 
 -- what a file's listing begins with
 abbrev pub sizesOf : List ℕ → List ℕ
-sizesOf bytes = columnsOf bytes ∷ payslipsOf bytes ∷ lengthOf bytes ∷ []
+sizesOf bytes = columnsOf bytes ∷ payslipsOf bytes ∷ lengthOf edition1 bytes ∷ []
 
 -- the answer to a refusal, and what it says of a table, which is nothing
 pub listing-refused : (bytes table : List ℕ) (k s : ℕ) → refused k s ≡ listingRule bytes
@@ -33,14 +34,14 @@ module _ (bytes : List ℕ) where
   unfolding listingRule
   too-long h = stop _ _ 6 0 (refuse-yes _ 6 0 (lt-yes _ _ h))
 
-  pub unread : length bytes ≤ longestFile → (k s : ℕ) → refused k s ≡ readRule bytes mostSteps mostPayslips → refused k s ≡ listingRule bytes
+  pub unread : length bytes ≤ longestFile → (k s : ℕ) → refused k s ≡ readRule edition1 bytes (edition1 .limit) mostPayslips → refused k s ≡ listingRule bytes
   unfolding listingRule
   unread h k s e = pass _ _ _ (refuse-no _ 6 0 (lt-no _ _ h)) (stop _ _ k s e)
 
 -- a file that was read
-module _ (bytes steps outputs : List ℕ) (p q n : ℕ) (t : Good bytes steps outputs p q n) where
-  steps-are : pairs (take (2 * n) steps) ≡ stepsOf bytes
-  steps-are = ap pairs (t .taken .steps-front) ∙ pairs-flat (stepsOf bytes)
+module _ (bytes steps outputs : List ℕ) (p q n : ℕ) (t : Good edition1 bytes steps outputs p q n) where
+  steps-are : pairs (take (2 * n) steps) ≡ stepsOf edition1 bytes
+  steps-are = ap pairs (t .taken .steps-front) ∙ pairs-flat (stepsOf edition1 bytes)
 
   pub columns-few : p ≤ mostColumns
   columns-few = rw (t .taken .columns) (columns-low bytes)
@@ -48,16 +49,16 @@ module _ (bytes steps outputs : List ℕ) (p q n : ℕ) (t : Good bytes steps ou
   pub steps-fine : stepsRule p 1 (pairs (take (2 * n) steps)) ≡ fine
   steps-fine =
       ap₂ (λ (k : ℕ) (l : List Step). stepsRule k 1 l) (t .taken .columns) steps-are
-      ∙ chain-parts _ _ (outputsOf bytes) (readable bytes _ _ (sym (t .reads)) .chain) .0
+      ∙ chain-parts _ _ (outputsOf edition1 bytes) (readable edition1 bytes _ _ (sym (t .reads)) .chain) .0
 
   pub outputs-fine : outputsRule (p + length (pairs (take (2 * n) steps))) 1 (take q outputs) ≡ fine
   outputs-fine =
       ap₂ (λ (k : ℕ) (l : List Step). outputsRule (k + length l) 1 (take q outputs)) (t .taken .columns) steps-are
-      ∙ ap (outputsRule (columnsOf bytes + length (stepsOf bytes)) 1) (t .taken .outputs-front)
-      ∙ chain-parts _ _ (outputsOf bytes) (readable bytes _ _ (sym (t .reads)) .chain) .1
+      ∙ ap (outputsRule (columnsOf bytes + length (stepsOf edition1 bytes)) 1) (t .taken .outputs-front)
+      ∙ chain-parts _ _ (outputsOf edition1 bytes) (readable edition1 bytes _ _ (sym (t .reads)) .chain) .1
 
   pub outputs-few : length (take q outputs) ≤ mostPayslips
-  outputs-few = omega (arith, length-take-le q outputs (t .taken .outputs-room), readable bytes _ _ (sym (t .reads)) .outputs-room, t .taken .payslips)
+  outputs-few = omega (arith, length-take-le q outputs (t .taken .outputs-room), readable edition1 bytes _ _ (sym (t .reads)) .outputs-room, t .taken .payslips)
 
   pub room : p + length (take (2 * n) steps) / 2 < mostColumns + mostSteps + 1
   room = omega (arith, length-take-le (2 * n) steps (t .taken .steps-room), t .taken .few, columns-few)
@@ -80,6 +81,6 @@ module _ (bytes steps outputs : List ℕ) (p q n : ℕ) (t : Good bytes steps ou
             each = λ i c hi hc.
                 holds .each i c (omega (arith, length-take-le q outputs (t .taken .outputs-room), t .taken .payslips)) (omega (arith, t .taken .columns))
                 ∙ ap₂ (λ (k : ℕ) (l : List Step). atOutputs k l (take q outputs) i c) (t .taken .columns) steps-are
-                ∙ ap (λ (l : List ℕ). atOutputs (columnsOf bytes) (stepsOf bytes) l i c) (t .taken .outputs-front);
+                ∙ ap (λ (l : List ℕ). atOutputs (columnsOf bytes) (stepsOf edition1 bytes) l i c) (t .taken .outputs-front);
           },
     )

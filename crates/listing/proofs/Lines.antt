@@ -1,4 +1,4 @@
--- The lines of the text, written field by field.
+-- A line grows field by field and the text line by line: one part more at each turn.
 use mathlib.Core.Path.{_≡_, sym, ap, subst, _∙_}
 use mathlib.Core.List.{List, [], _∷_, _++_, append-assoc, append-nil}
 use Prim.Native.Nat.{ℕ, _+_, _≤_, _<_}

@@ -1,4 +1,4 @@
--- The text that was written is the listing.
+-- The verdict decides the text, and a table that holds the file's amounts gives the same lines as the file.
 use mathlib.Core.Path.{_≡_, refl, sym, ap, ap₂, subst, _∙_}
 use mathlib.Core.List.{List, [], _∷_, _++_}
 use Prim.Native.Nat.{ℕ, zero, suc, _+_, _≤_, _<_}
@@ -9,11 +9,12 @@ use Rattle.chain.specs.Written.{over}
 use Rattle.chain.specs.Chain.{mostColumns, mostPayslips, mostSteps}
 use Rattle.chain.proofs.Rules.{then-fine}
 use Rattle.chain.proofs.Written.{over-laid}
-use Rattle.file.specs.File.{columnsOf, payslipsOf, lengthOf}
-use Rattle.file.specs.Answers.{readOf}
-use Rattle.file.specs.declared.Reading.{Reading}
-use Rattle.file.specs.declared.Reading.the-variants as reading
-use Rattle.file.proofs.Readable.{readable, columns-low, payslips-low}
+use Rattle.layout.specs.Layout.{edition1}
+use Rattle.layout.specs.File.{columnsOf, payslipsOf, lengthOf}
+use Rattle.reading.specs.Answers.{readOf}
+use Rattle.reading.specs.declared.Reading.{Reading}
+use Rattle.reading.specs.declared.Reading.the-variants as reading
+use Rattle.layout.proofs.Readable.{readable, columns-low, payslips-low}
 use Rattle.chain.proofs.Told.{verdictIn, told, told-values}
 use Rattle.digits.specs.Range.{listTo}
 use Rattle.digits.proofs.Listed.{list-same}
@@ -54,7 +55,7 @@ module _ (bytes : List ℕ) (a : Reading) (answered : readOf a ≡ answer (listi
     payslips-are : q ≡ payslipsOf bytes
     payslips-are = ap (λ (l : List ℕ). getD l 1 0) sizes-are
 
-    steps-are : n ≡ lengthOf bytes
+    steps-are : n ≡ lengthOf edition1 bytes
     steps-are = ap (λ (l : List ℕ). getD l 2 0) sizes-are
 
     rule-fine : listingRule bytes ≡ fine
@@ -68,15 +69,15 @@ module _ (bytes : List ℕ) (a : Reading) (answered : readOf a ≡ answer (listi
 
     pub steps-few : n ≤ mostSteps
     unfolding listingRule
-    steps-few = rw steps-are (readable bytes _ _ (then-fine _ _ (then-fine _ _ rule-fine .1) .0) .few)
+    steps-few = rw steps-are (readable edition1 bytes _ _ (then-fine _ _ (then-fine _ _ rule-fine .1) .0) .few)
 
     pub listed-chain : (table old : List ℕ) (r : ℕ) (new : List ℕ)
         → (listingRule bytes ≡ fine → TableHolds table (payslipsOf bytes) (columnsOf bytes) (amountOf bytes))
         → Put 0 (chainText p q n (amountIn table)) old r new → (r ≡ length (listing bytes)) × (new ≡ over (listing bytes) old)
     unfolding listing textFor chainText
     listed-chain table old r new holds w =
-        let e : chainText p q n (amountIn table) ≡ chainText (columnsOf bytes) (payslipsOf bytes) (lengthOf bytes) (amountOf bytes) =
+        let e : chainText p q n (amountIn table) ≡ chainText (columnsOf bytes) (payslipsOf bytes) (lengthOf edition1 bytes) (amountOf bytes) =
         rw (columns-are, payslips-are, steps-are)
-        (ap (λ (l : List ℕ). lineOf (columnsOf bytes) (payslipsOf bytes ∷ lengthOf bytes ∷ []) ++ l)
+        (ap (λ (l : List ℕ). lineOf (columnsOf bytes) (payslipsOf bytes ∷ lengthOf edition1 bytes ∷ []) ++ l)
         (lines-same (columnsOf bytes) (amountIn table) (amountOf bytes) (payslipsOf bytes) (λ i c h k. holds rule-fine .each i c h k))) in
         rw rule-fine (over-front _ old r new (subst (λ (t : List ℕ). Put 0 t old r new) e w))

@@ -8,15 +8,16 @@ ghost use Rattle.chain.specs.Written.{over, laid};
 ghost use Rattle.chain.specs.Chain.{mostColumns, mostPayslips, mostSteps, pairs, stepsRule, outputsRule, pick, exponentOf};
 ghost use Rattle.chain.specs.Judgement.{verdictOf};
 ghost use Rattle.verify.specs.Verify.{exponentsRule};
-ghost use Rattle.file.specs.File.{columnsOf, payslipsOf, lengthOf};
-ghost use Rattle.file.specs.Answers.{readOf};
+ghost use Rattle.layout.specs.Layout.{edition1};
+ghost use Rattle.layout.specs.File.{columnsOf, payslipsOf, lengthOf};
+ghost use Rattle.reading.specs.Answers.{readOf};
 ghost use Rattle.listing.specs.Listing.{moreFields, lineOf, payslipLines, amountOf, listingRule, chainText, refusedText, listing};
 ghost use Rattle.listing.specs.Inner.{tableSize, amountIn, TableHolds, mostField, mostSizes, mostLine, mostText};
 ghost use Rattle.decimal.specs.Inner.{Put};
 ghost use Rattle.decimal.specs.Decimal.{blank, decimal};
 ghost use Rattle.digits.specs.Range.{listTo};
 use chain::Judgement;
-use file::Reading;
+use reading::Reading;
 
 // The longest parts of a listing: a blank and the digits of an amount; the first line; a payslip's line.
 const MOST_FIELD: usize = 11;
@@ -29,7 +30,7 @@ const MOST_LINE: usize = 2 + MOST_FIELD * chain::MOST_COLUMNS + 1;
 pub const MOST_TEXT: usize = MOST_SIZES + MOST_LINE * chain::MOST_PAYSLIPS;
 
 // The longest file.
-const MOST_BYTES: usize = 56116;
+const MOST_BYTES: usize = layout::LONGEST_FILE;
 
 // A blank and a number.
 fn put_field(x: u32, at: usize, text: &mut [u8]) -> usize
@@ -157,13 +158,13 @@ fn measure_file(
     table: &mut [u32],
 ) -> Reading
     requires { ⌜ (length (now steps) ≡ 2 * mostSteps) × (length (now outputs) ≡ mostPayslips) × (length (now scratch) ≡ mostColumns + mostSteps + 1) × (length (now table) ≡ tableSize) ⌝ }
-    ensures { λ r. ⌜ readOf r ≡ answer (listingRule (now (bytes .entry))) (columnsOf (now (bytes .entry)) ∷ payslipsOf (now (bytes .entry)) ∷ lengthOf (now (bytes .entry)) ∷ []) ⌝ }
+    ensures { λ r. ⌜ readOf r ≡ answer (listingRule (now (bytes .entry))) (columnsOf (now (bytes .entry)) ∷ payslipsOf (now (bytes .entry)) ∷ lengthOf edition1 (now (bytes .entry)) ∷ []) ⌝ }
     ensures { λ r. ⌜ (listingRule (now (bytes .entry)) ≡ fine → TableHolds (now (table .exit)) (payslipsOf (now (bytes .entry))) (columnsOf (now (bytes .entry))) (amountOf (now (bytes .entry)))) ⌝ }
 {
     if MOST_BYTES < bytes.len() {
         return Reading::Refused(6, 0);
     }
-    match file::read(bytes, steps, outputs) {
+    match reading::read(bytes, steps, outputs) {
         Reading::Refused(number, place) => Reading::Refused(number, place),
         Reading::Chain { p, q, n } => {
             match measure(p, &steps[..2 * n], &outputs[..q], scratch, table) {

@@ -1,4 +1,4 @@
--- Cells that have the first i of a list of steps over their front, first and second in turn.
+-- After i turns the cells are the first i steps, laid flat, over what they held; the next turn stores one pair behind them.
 use mathlib.Core.Path.{_≡_, refl, sym, ap, _∙_}
 use mathlib.Core.List.{List, [], _∷_, _++_}
 use Prim.Native.Nat.{ℕ, zero, suc, _+_, _*_, _≤_, _<_, min}

@@ -1,10 +1,10 @@
--- The call of `flatten_some` with a local array of zeros, as the walks of `run_pairs` and `verify_pairs` make it.
---     N, zeros         the array's length, two cells for each of 16,001 steps, one more than is legal; and its first contents
+-- The call of `flatten_some` with a local array of zeros as one step of a walk: the array holds one step more than is legal, so the front is as good as the whole.
+--     N, zeros         the array's length, two cells for each step, of one more than is legal; and its first contents
 --     Flatten          the contract.        to-flatten      what its triple binds outside.        asks-flatten    what it asks
 --     Filled           what it says of the count n and of the array's contents l.        front-steps     the pairs that a call then sees in front
 use mathlib.Core.Path.{_≡_, sym, ap, _∙_, subst}
 use mathlib.Core.List.{List, [], _∷_}
-use Prim.Native.Nat.{ℕ, _*_, _/_, _≤_, _<_, min}
+use Prim.Native.Nat.{ℕ, _+_, _*_, _/_, _≤_, _<_, min}
 use native.Mathlib.Omega.{arith}
 use lib.Dec.{lit<}
 use lib.ListN.{length, take, replicate, length-replicate}
@@ -37,7 +37,7 @@ use Rattle.pairs.proofs.TooLong.{front-same}
 use Rattle.pairs.proofs.flatten_some as flatten
 
 abbrev pub N : ℕ
-N = 32002
+N = 2 * (mostSteps + 1)
 
 unfoldable pub zeros : List ℕ
 zeros = replicate N 0

@@ -1,4 +1,4 @@
--- A local array of n u32 in the block b, with the list xs in it, that is lent to two calls: as a `&mut` slice to the first, and as a `&` slice to the second.
+-- A local array is lent twice, as a `&mut` slice and then as a `&` slice: its cell is taken apart into elements, lent, given back and put together again.
 --     lends-array      the array's cell, with what the array owns  ⊢ ⇛  the `&mut` slice for the lifetime κ, and the lender's part
 --     shares-array     κ is over, and the first call left the list l  ⊢ ⇛  the `&` slice for the lifetime κ′ at l, and the lender's part
 --     frees-array      κ′ is over  ⊢ ⇛  the array's cell, at some machine value, so that the local can be freed

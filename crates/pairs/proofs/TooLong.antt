@@ -1,5 +1,4 @@
--- A chain of more steps than are legal: the calls look at p, q and the number of steps only, so that any two such chains are answered alike, and nothing is written.
--- So a call of the first c steps, c over the limit, answers as a call of all of them.
+-- Of a chain that is too long only p, q and the number of steps are looked at, so any two such chains are answered alike: the first steps, over the limit, as well as all.
 use mathlib.Core.Path.{_≡_, refl, sym, ap, _∙_}
 use mathlib.Core.Bool.{Bool, true, false}
 use mathlib.Core.List.{List, []}
@@ -10,9 +9,9 @@ use lib.ListN.{length, take}
 use lib.Seq.{length-take-le, take-all}
 use borrow.Author.Tests.{leb-true, leb-false}
 use Rattle.chain.specs.Verdict.{Verdict, fine, refused, _then_, answer, onFine}
-use Rattle.chain.specs.Chain.{mostSteps, sizesRule, lengthRule}
+use Rattle.chain.specs.Chain.{mostSteps, sizesRule, lengthRule, shapeRule}
 use Rattle.chain.specs.declared.Step.{Step}
-use Rattle.chain.proofs.Rules.{lt-yes, refuse-yes}
+use Rattle.chain.proofs.Rules.{lt-yes, refuse-yes, then-assoc}
 use Rattle.run.specs.Run.{runRule, runAnswer, runValues, runFigures}
 use Rattle.verify.specs.Verify.{fittingRule, verifyRule, verifyAnswer, verifyScratch}
 
@@ -20,9 +19,11 @@ use Rattle.verify.specs.Verify.{fittingRule, verifyRule, verifyAnswer, verifySc
 abbrev tooLong : Verdict → Verdict
 tooLong v = v then refused 4 0
 
-long-refused : (limit n : ℕ) (v w : Verdict) → limit < n → (v then lengthRule limit n then w) ≡ tooLong v
-unfolding lengthRule _then_
-long-refused limit n v w h = rw (← refuse-yes _ 4 0 (lt-yes limit n h))
+long-refused : (limit p q n : ℕ) (w : Verdict) → limit < n → (shapeRule limit p q n then w) ≡ tooLong (sizesRule p q)
+unfolding shapeRule lengthRule _then_
+long-refused limit p q n w h =
+    then-assoc (sizesRule p q) (lengthRule limit n) w
+    ∙ ap (λ (v : Verdict). sizesRule p q then v then w) (sym (refuse-yes _ 4 0 (lt-yes limit n h)))
 
 -- what comes after 4 is not looked at
 long-then : (v w : Verdict) → (tooLong v then w) ≡ tooLong v
@@ -53,27 +54,34 @@ front-same F same c h steps = by-length (leb (length steps) c) refl
         same (take c steps) steps (omega arith) (omega arith)
 
 module _ (p : ℕ) (outputs : List ℕ) (m : ℕ) (bases : List ℕ) where
-  run-long : (s : List Step) (valuesLent figuresLent : ℕ) → mostSteps < length s → runRule p s outputs m bases valuesLent figuresLent ≡ tooLong (sizesRule p (length outputs))
+  run-long : (s : List Step) (valuesLent figuresLent : ℕ) → mostSteps < length s
+      → runRule p s outputs m bases valuesLent figuresLent ≡ tooLong (sizesRule p (length outputs))
   unfolding runRule
-  run-long s valuesLent figuresLent h = long-refused mostSteps (length s) (sizesRule p (length outputs)) _ h
+  run-long s valuesLent figuresLent h = long-refused mostSteps p (length outputs) (length s) _ h
 
   module _ (s t : List Step) (hs : mostSteps < length s) (ht : mostSteps < length t) where
-    pub run-answer-long : (valuesLent figuresLent : ℕ) → runAnswer p s outputs m bases valuesLent figuresLent ≡ runAnswer p t outputs m bases valuesLent figuresLent
+    pub run-answer-long : (valuesLent figuresLent : ℕ)
+        → runAnswer p s outputs m bases valuesLent figuresLent ≡ runAnswer p t outputs m bases valuesLent figuresLent
     unfolding runAnswer
-    run-answer-long valuesLent figuresLent = rw (run-long s valuesLent figuresLent hs, run-long t valuesLent figuresLent ht) (long-answer _ _ _)
+    run-answer-long valuesLent figuresLent =
+        rw (run-long s valuesLent figuresLent hs, run-long t valuesLent figuresLent ht) (long-answer _ _ _)
 
-    pub run-values-long : (figuresLent : ℕ) (old : List ℕ) → runValues p s outputs m bases figuresLent old ≡ runValues p t outputs m bases figuresLent old
+    pub run-values-long : (figuresLent : ℕ) (old : List ℕ)
+        → runValues p s outputs m bases figuresLent old ≡ runValues p t outputs m bases figuresLent old
     unfolding runValues
-    run-values-long figuresLent old = rw (run-long s (length old) figuresLent hs, run-long t (length old) figuresLent ht) (long-kept _ _ old ∙ sym (long-kept _ _ old))
+    run-values-long figuresLent old =
+        rw (run-long s (length old) figuresLent hs, run-long t (length old) figuresLent ht) (long-kept _ _ old ∙ sym (long-kept _ _ old))
 
-    pub run-figures-long : (valuesLent : ℕ) (old : List ℕ) → runFigures p s outputs m bases valuesLent old ≡ runFigures p t outputs m bases valuesLent old
+    pub run-figures-long : (valuesLent : ℕ) (old : List ℕ)
+        → runFigures p s outputs m bases valuesLent old ≡ runFigures p t outputs m bases valuesLent old
     unfolding runFigures
-    run-figures-long valuesLent old = rw (run-long s valuesLent (length old) hs, run-long t valuesLent (length old) ht) (long-kept _ _ old ∙ sym (long-kept _ _ old))
+    run-figures-long valuesLent old =
+        rw (run-long s valuesLent (length old) hs, run-long t valuesLent (length old) ht) (long-kept _ _ old ∙ sym (long-kept _ _ old))
 
 module _ (p : ℕ) (outputs amounts : List ℕ) where
   fitting-long : (s : List Step) (scratch : ℕ) → mostSteps < length s → fittingRule p s outputs amounts scratch ≡ tooLong (sizesRule p (length outputs))
   unfolding fittingRule
-  fitting-long s scratch h = long-refused mostSteps (length s) (sizesRule p (length outputs)) _ h
+  fitting-long s scratch h = long-refused mostSteps p (length outputs) (length s) _ h
 
   verify-long : (s : List Step) (scratch : ℕ) → mostSteps < length s → verifyRule p s outputs amounts scratch ≡ tooLong (sizesRule p (length outputs))
   unfolding verifyRule
@@ -86,4 +94,5 @@ module _ (p : ℕ) (outputs amounts : List ℕ) where
 
     pub verify-scratch-long : (old : List ℕ) → verifyScratch p s outputs amounts old ≡ verifyScratch p t outputs amounts old
     unfolding verifyScratch
-    verify-scratch-long old = rw (fitting-long s (length old) hs, fitting-long t (length old) ht) (long-kept _ _ old ∙ sym (long-kept _ _ old))
+    verify-scratch-long old =
+        rw (fitting-long s (length old) hs, fitting-long t (length old) ht) (long-kept _ _ old ∙ sym (long-kept _ _ old))

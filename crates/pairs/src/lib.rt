@@ -12,8 +12,8 @@ use chain::Step;
 use run::Ran;
 use verify::Verified;
 
-// Two cells for each of 16,001 steps, one more than is legal: so the flat form itself refuses a chain that is too long.
-const CELLS: usize = 32002;
+// Two cells for each step, of one more than is legal: so the flat form itself refuses a chain that is too long.
+const CELLS: usize = 2 * (chain::MOST_STEPS + 1);
 
 // How many of the steps have room, two cells each.
 fn fitting(steps: usize, cells: usize) -> usize

@@ -1,4 +1,4 @@
--- Demand 3 over the definitions alone: what the five calls answer and leave is what it asks for.
+-- Each rule of the path finds nothing, by `Promised`, so the whole answer and the slices are those of the last call, over the chain read back.
 use mathlib.Core.Path.{_≡_, refl, sym, ap, _∙_}
 use mathlib.Core.List.{List, [], _∷_}
 use Prim.Native.Nat.{ℕ, _≤_, _<_}
@@ -6,15 +6,16 @@ use native.Mathlib.Omega.{arith}
 use lib.ListN.{length, getD}
 use Rattle.chain.specs.Verdict.{Verdict, fine, _then_, done}
 use Rattle.chain.specs.Written.{over}
-use Rattle.chain.specs.Chain.{mostAmount}
+use Rattle.chain.specs.Chain.{Chain, mostAmount, pick}
 use Rattle.chain.specs.declared.Step.{Step}
 use Rattle.chain.proofs.Rules.{pass, answer-done, renewed}
 use Rattle.chain.proofs.Written.{over-getD}
+use Rattle.chain.proofs.Picked.{length-pick}
 use Rattle.residue.specs.Residue.{figure}
 use Rattle.verify.specs.Verify.{verifyRule}
-use Rattle.run.specs.Run.{residues, pick, runRule, runFigures}
-use Rattle.run.proofs.Figures.{length-pick}
-use Rattle.file.specs.File.{lengthOf, stepsOf, columnsOf, outputsOf}
+use Rattle.run.specs.Run.{residues, runRule, runFigures}
+use Rattle.layout.specs.Layout.{edition1}
+use Rattle.layout.specs.File.{lengthOf, stepsOf, columnsOf, outputsOf}
 use Rattle.compile.specs.Compile.{count, ceiling, acceptedRule}
 use Rattle.path.specs.Path.{Lent, compiled, written, compiles, writes, reads, checks, beforeRun, runs, pathAnswer, pathLeaves}
 use Rattle.path.specs.Demand3.{LongEnough, Receivable, Demand3}
@@ -24,21 +25,27 @@ module _ (p q : ℕ) (amounts : List ℕ) (method k : ℕ) (low : (j : ℕ) → 
   abbrev n : ℕ
   n = count p q amounts method k
 
+  abbrev chain : Chain
+  chain = compiled p q amounts method k
+
+  abbrev file : List ℕ
+  file = written p q amounts method k
+
   -- a chain as it was read, where the chain compiled was meant
-  as-compiled : Promised p q amounts method k (compiled p q amounts method k) n (ceiling p q amounts method k) → (v : Verdict) (f : ℕ → List Step → List ℕ → Verdict)
-      → f p (compiled p q amounts method k .steps) (compiled p q amounts method k .outputs) ≡ v
-      → f (columnsOf (written p q amounts method k)) (stepsOf (written p q amounts method k)) (outputsOf (written p q amounts method k)) ≡ v
+  as-compiled : Promised p q amounts method k chain n (ceiling p q amounts method k) → (v : Verdict) (f : ℕ → List Step → List ℕ → Verdict)
+      → f p (chain .steps) (chain .outputs) ≡ v → f (columnsOf file) (stepsOf edition1 file) (outputsOf edition1 file) ≡ v
   as-compiled ok v f e = rw (ok .read-back .columns, ok .read-back .steps-same, ok .read-back .outputs-same) e
 
   module _ (accepted : acceptedRule p q amounts method k ≡ fine) (long : LongEnough p q n l) where
-    ok : Promised p q amounts method k (compiled p q amounts method k) n (ceiling p q amounts method k)
+    ok : Promised p q amounts method k chain n (ceiling p q amounts method k)
     ok = promised p q amounts method k low accepted
 
     checks-too : fine ≡ checks p q amounts method k l
     checks-too = sym (as-compiled ok fine (λ a b c. verifyRule a b c amounts (length (l .scratch))) (ok .passes _ (long .scratch)))
 
     -- whatever comes after three calls that find nothing
-    three-calls : (r last : Verdict) → r ≡ last → r ≡ (compiles p q amounts method k l then writes p q amounts method k l then reads p q amounts method k l then last)
+    three-calls : (r last : Verdict) → r ≡ last
+        → r ≡ (compiles p q amounts method k l then writes p q amounts method k l then reads p q amounts method k l then last)
     three-calls r last e =
         pass _ _ r (sym (ok .compiles _ _ (long .steps) (long .outputs)))
         (pass _ _ r (sym (ok .writes _ (long .bytes))) (pass _ _ r (sym (ok .reads _ _ (long .stepsRead) (long .outputsRead))) e))
@@ -57,20 +64,19 @@ module _ (p q : ℕ) (amounts : List ℕ) (method k : ℕ) (low : (j : ℕ) → 
       unfolding pathAnswer
       all-counted =
           sym
-          (answer-done _ (n ∷ lengthOf (written p q amounts method k) ∷ length (stepsOf (written p q amounts method k)) ∷ [])
+          (answer-done _ (n ∷ lengthOf edition1 file ∷ length (stepsOf edition1 file) ∷ [])
           (three-calls fine _ (pass _ _ fine checks-too runs-too)))
-          ∙ ap (λ (x : ℕ). done (n ∷ x ∷ length (stepsOf (written p q amounts method k)) ∷ [])) (ok .read-back .long ∙ ok .multiplications)
+          ∙ ap (λ (x : ℕ). done (n ∷ x ∷ length (stepsOf edition1 file) ∷ [])) (ok .read-back .long ∙ ok .multiplications)
           ∙ ap (λ (x : ℕ). done (n ∷ n ∷ x ∷ [])) (ap length (ok .read-back .steps-same) ∙ ok .multiplications)
 
       all-figured : (i : ℕ) → i < q → getD (pathLeaves p q amounts method k l m bases .figures) i 0 ≡ figure p m bases amounts i
       unfolding pathLeaves runFigures
       all-figured i h =
-          let f = written p q amounts method k in
-          let c = compiled p q amounts method k in
-          let vs : List ℕ = pick (residues m bases (stepsOf f)) (outputsOf f) in
-          let same : vs ≡ pick (residues m bases (c .steps)) (c .outputs) = rw (ok .read-back .steps-same, ok .read-back .outputs-same) in
-          let count-same : length vs ≡ q = ap length same ∙ length-pick (residues m bases (c .steps)) (c .outputs) ∙ ok .payslips in
-          let left = sym (renewed _ _ (l .figures) (over vs (l .figures)) all-checked (renewed _ _ (l .figures) (over vs (l .figures)) runs-too refl)) in
+          let vs : List ℕ = pick (residues m bases (stepsOf edition1 file)) (outputsOf edition1 file) in
+          let same : vs ≡ pick (residues m bases (chain .steps)) (chain .outputs) = rw (ok .read-back .steps-same, ok .read-back .outputs-same) in
+          let count-same : length vs ≡ q = ap length same ∙ length-pick (residues m bases (chain .steps)) (chain .outputs) ∙ ok .payslips in
+          let new : List ℕ = over vs (l .figures) in
+          let left = sym (renewed _ _ (l .figures) new all-checked (renewed _ _ (l .figures) new runs-too refl)) in
           ap (λ (x : List ℕ). getD x i 0) left
           ∙ over-getD vs (l .figures) i (omega arith)
           ∙ ap (λ (x : List ℕ). getD x i 0) same

@@ -1,5 +1,4 @@
 pub mod Figures
 pub mod Promised
 pub mod Demand3
-pub mod Parts
 pub mod Whole

@@ -1,11 +1,11 @@
--- What the definitions promise of the chain of an accepted sheet, call by call.
+-- The chain of an accepted sheet is legal and makes the sheet (`Right`), and edition 1 holds every legal chain: from that each call accepts what the one before left.
 use mathlib.Core.Path.{_≡_, sym, ap, subst, _∙_}
 use mathlib.Core.List.{List}
 use Prim.Native.Nat.{ℕ, _+_, _*_, _≤_, _<_}
 use native.Mathlib.Omega.{arith}
 use lib.ListN.{length, getD}
 use Rattle.chain.specs.Verdict.{fine}
-use Rattle.chain.specs.Chain.{Chain, mostAmount, mostSteps, Legal}
+use Rattle.chain.specs.Chain.{Chain, mostAmount, mostSteps, Legal, pick}
 use Rattle.chain.specs.declared.Step.{Step}
 use Rattle.chain.proofs.Rules.{pass, refuse-no, or-none, lt-no}
 use Rattle.chain.proofs.Sizes.{Sizes}
@@ -14,11 +14,13 @@ use Rattle.chain.proofs.Legal.{parts-legal, parts-chain}
 use Rattle.residue.specs.Residue.{figure}
 use Rattle.verify.specs.Verify.{scratchSize, verifyRule}
 use Rattle.verify.proofs.Passing.{Passing, passes-verify}
-use Rattle.run.specs.Run.{residues, pick, runRule}
-use Rattle.run.proofs.Accepted.{accepting}
+use Rattle.run.specs.Run.{residues, runRule}
+use Rattle.run.proofs.Runnable.{runs-fine}
 use Rattle.run.proofs.Residues.{figure-law}
-use Rattle.file.specs.File.{byteCount, fileOf, writeRule, readRule}
-use Rattle.file.proofs.ReadingBack.{ReadBack, reading-gives, reading-back}
+use Rattle.layout.specs.Layout.{edition1}
+use Rattle.layout.specs.File.{byteCount, fileOf, Held, writeRule, readRule}
+use Rattle.layout.proofs.Editions.{edition1-sound, legal-held}
+use Rattle.layout.proofs.ReadingBack.{ReadBack, reading-gives, reading-back}
 use Rattle.compile.specs.Compile.{methodOf, chainOf, count, ceiling, acceptedRule, compileRule}
 use Rattle.compile.proofs.Fits.{Accepted, accepted}
 use Rattle.methods.proofs.Right.{Right}
@@ -28,13 +30,15 @@ use Rattle.compile.proofs.Right.{compiled-right}
 pub record Promised (p q : ℕ) (amounts : List ℕ) (method k : ℕ) (c : Chain) (n most : ℕ) : Type 0 where
   -- compile, write and read succeed where the lent slices are long enough, and reading gives the chain
   pub compiles : (pairsLent outputsLent : ℕ) → n ≤ pairsLent → q ≤ outputsLent → compileRule p q amounts method k pairsLent outputsLent ≡ fine
-  pub writes : (bytesLent : ℕ) → byteCount p q n ≤ bytesLent → writeRule p (c .steps) (c .outputs) bytesLent ≡ fine
-  pub reads : (pairsLent outputsLent : ℕ) → n ≤ pairsLent → q ≤ outputsLent → readRule (fileOf p (c .steps) (c .outputs)) pairsLent outputsLent ≡ fine
-  pub read-back : ReadBack p (c .steps) (c .outputs) (fileOf p (c .steps) (c .outputs))
+  pub writes : (bytesLent : ℕ) → byteCount edition1 p q n ≤ bytesLent → writeRule edition1 p (c .steps) (c .outputs) bytesLent ≡ fine
+  pub reads : (pairsLent outputsLent : ℕ) → n ≤ pairsLent → q ≤ outputsLent
+      → readRule edition1 (fileOf edition1 p (c .steps) (c .outputs)) pairsLent outputsLent ≡ fine
+  pub read-back : ReadBack edition1 p (c .steps) (c .outputs) (fileOf edition1 p (c .steps) (c .outputs))
   -- the check passes
   pub passes : (scratch : ℕ) → scratchSize p n ≤ scratch → verifyRule p (c .steps) (c .outputs) amounts scratch ≡ fine
   -- the run succeeds for every modulus from 1 on and every list of bases below it, and its figures are the products of powers
-  pub runs : (m : ℕ) (bases : List ℕ) → 0 < m → length bases ≡ p → ((d : ℕ) → d < p → getD bases d 0 < m) → (room places : ℕ) → p + n < room → q ≤ places
+  pub runs : (m : ℕ) (bases : List ℕ) → 0 < m → length bases ≡ p → ((d : ℕ) → d < p → getD bases d 0 < m)
+      → (room places : ℕ) → p + n < room → q ≤ places
       → runRule p (c .steps) (c .outputs) m bases room places ≡ fine
   pub figures : (m : ℕ) (bases : List ℕ) → 0 < m → length bases ≡ p → ((d : ℕ) → d < p → getD bases d 0 < m)
       → (i : ℕ) → i < q → getD (pick (residues m bases (c .steps)) (c .outputs)) i 0 ≡ figure p m bases amounts i
@@ -64,6 +68,9 @@ module _ (p q : ℕ) (amounts : List ℕ) (method k : ℕ) (low : (j : ℕ) → 
       parts-legal p (c .steps) (c .outputs)
       (record { sizes = sizes; few = few; chain = parts-chain p (c .steps) (c .outputs) (right .steps-legal) (right .outputs-legal) })
 
+  held : Held edition1 p (c .steps) (c .outputs)
+  held = legal-held p (c .steps) (c .outputs) legal
+
   made : Passing p (c .steps) (c .outputs) amounts
   made =
       record {
@@ -78,13 +85,15 @@ module _ (p q : ℕ) (amounts : List ℕ) (method k : ℕ) (low : (j : ℕ) → 
   promised =
       record {
         compiles = λ x y h g. sym (pass _ _ fine (sym ok) (refuse-no _ 5 0 (or-none _ _ (lt-no _ _ h) (lt-no _ _ g))));
-        writes = λ x h. sym (pass _ _ fine (sym legal) (refuse-no _ 5 0 (lt-no _ _ (rw (right .outputs, right .counted) h))));
-        reads = λ x y h g. reading-back p (c .steps) (c .outputs) legal x y (omega (arith, right .counted)) (omega (arith, right .outputs));
-        read-back = reading-gives p (c .steps) (c .outputs) legal;
+        writes = λ x h. sym (pass _ _ fine (sym held) (refuse-no _ 5 0 (lt-no _ _ (rw (right .outputs, right .counted) h))));
+        reads =
+            λ x y h g.
+            reading-back edition1 edition1-sound p (c .steps) (c .outputs) held x y (omega (arith, right .counted)) (omega (arith, right .outputs));
+        read-back = reading-gives edition1 edition1-sound p (c .steps) (c .outputs) held;
         passes = λ x h. passes-verify p (c .steps) (c .outputs) amounts x made (omega (arith, right .counted));
         runs =
             λ m bases some len under room places h g.
-            accepting p (c .steps) (c .outputs) m bases room places
+            runs-fine p (c .steps) (c .outputs) m bases room places
             (record {
               sizes = sizes;
               modulus = some;

@@ -6,7 +6,8 @@ use lib.ListN.{length, getD}
 use Rattle.chain.specs.Verdict.{fine, Answer, done}
 use Rattle.residue.specs.Residue.{figure}
 use Rattle.verify.specs.Verify.{scratchSize}
-use Rattle.file.specs.File.{byteCount}
+use Rattle.layout.specs.Layout.{edition1}
+use Rattle.layout.specs.File.{byteCount}
 use Rattle.compile.specs.Compile.{count, ceiling, acceptedRule}
 use Rattle.path.specs.Path.{Lent, beforeRun}
 
@@ -15,7 +16,7 @@ use Rattle.path.specs.Path.{Lent, beforeRun}
 pub record LongEnough (p q n : ℕ) (l : Lent) : Type 0 where
   pub steps : n ≤ length (l .steps) / 2
   pub outputs : q ≤ length (l .outputs)
-  pub bytes : byteCount p q n ≤ length (l .bytes)
+  pub bytes : byteCount edition1 p q n ≤ length (l .bytes)
   pub stepsRead : n ≤ length (l .stepsRead) / 2
   pub outputsRead : q ≤ length (l .outputsRead)
   pub scratch : scratchSize p n ≤ length (l .scratch)

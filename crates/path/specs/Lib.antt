@@ -1,4 +1,3 @@
 pub mod Path
 pub mod Demand3
-pub mod Parts
 pub mod Figured

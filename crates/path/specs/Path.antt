@@ -6,7 +6,8 @@ use Rattle.chain.specs.Verdict.{Verdict, _then_, Answer, answer, onFine}
 use Rattle.chain.specs.Chain.{Chain}
 use Rattle.verify.specs.Verify.{verifyRule, verifyScratch}
 use Rattle.run.specs.Run.{runRule, runValues, runFigures}
-use Rattle.file.specs.File.{columnsOf, lengthOf, stepsOf, outputsOf, fileOf, writeRule, writeBytes, readRule, readSteps, readOutputs}
+use Rattle.layout.specs.Layout.{edition1}
+use Rattle.layout.specs.File.{columnsOf, lengthOf, stepsOf, outputsOf, fileOf, writeRule, writeBytes, readRule, readSteps, readOutputs}
 use Rattle.compile.specs.Compile.{chainOf, count, compileRule, compileSteps, compileOutputs}
 
 -- the slices lent for results and scratch, steps in turn: those of compile, write, read, check and run
@@ -41,7 +42,7 @@ module _ (p q : ℕ) (amounts : List ℕ) (method k : ℕ) where
 
   -- "exactly the bytes that write counted"
   abbrev pub written : List ℕ
-  written = fileOf p (compiled .steps) (compiled .outputs)
+  written = fileOf edition1 p (compiled .steps) (compiled .outputs)
 
   -- what each call finds, given what the calls before it left
   module _ (l : Lent) where
@@ -49,14 +50,14 @@ module _ (p q : ℕ) (amounts : List ℕ) (method k : ℕ) where
     compiles = compileRule p q amounts method k (length (l .steps) / 2) (length (l .outputs))
 
     abbrev pub writes : Verdict
-    writes = writeRule p (compiled .steps) (compiled .outputs) (length (l .bytes))
+    writes = writeRule edition1 p (compiled .steps) (compiled .outputs) (length (l .bytes))
 
     abbrev pub reads : Verdict
-    reads = readRule written (length (l .stepsRead) / 2) (length (l .outputsRead))
+    reads = readRule edition1 written (length (l .stepsRead) / 2) (length (l .outputsRead))
 
     -- "Check and run get the p that read returned and exactly the n pairs and q outputs that read filled; check also gets the same sheet."
     abbrev pub checks : Verdict
-    checks = verifyRule (columnsOf written) (stepsOf written) (outputsOf written) amounts (length (l .scratch))
+    checks = verifyRule (columnsOf written) (stepsOf edition1 written) (outputsOf edition1 written) amounts (length (l .scratch))
 
     -- the calls before the run
     abbrev pub beforeRun : Verdict
@@ -65,13 +66,13 @@ module _ (p q : ℕ) (amounts : List ℕ) (method k : ℕ) where
     -- a modulus and bases
     module _ (m : ℕ) (bases : List ℕ) where
       abbrev pub runs : Verdict
-      runs = runRule (columnsOf written) (stepsOf written) (outputsOf written) m bases (length (l .values)) (length (l .figures))
+      runs = runRule (columnsOf written) (stepsOf edition1 written) (outputsOf edition1 written) m bases (length (l .values)) (length (l .figures))
 
       -- the first refusal of the five; or the numbers of steps that compile and read return, and the multiplications made
       unfoldable pub pathAnswer : Answer
       pathAnswer =
           answer (compiles then writes then reads then checks then runs)
-          (count p q amounts method k ∷ lengthOf written ∷ length (stepsOf written) ∷ [])
+          (count p q amounts method k ∷ lengthOf edition1 written ∷ length (stepsOf edition1 written) ∷ [])
 
       -- what the slices are afterwards: those of a call that is not made stay as they were
       unfoldable pub pathLeaves : Lent
@@ -79,19 +80,19 @@ module _ (p q : ℕ) (amounts : List ℕ) (method k : ℕ) where
           record {
             steps = compileSteps p q amounts method k (length (l .outputs)) (l .steps);
             outputs = compileOutputs p q amounts method k (length (l .steps) / 2) (l .outputs);
-            bytes = onFine compiles (writeBytes p (compiled .steps) (compiled .outputs) (l .bytes)) (l .bytes);
-            stepsRead = onFine (compiles then writes) (readSteps written (length (l .outputsRead)) (l .stepsRead)) (l .stepsRead);
-            outputsRead = onFine (compiles then writes) (readOutputs written (length (l .stepsRead) / 2) (l .outputsRead)) (l .outputsRead);
+            bytes = onFine compiles (writeBytes edition1 p (compiled .steps) (compiled .outputs) (l .bytes)) (l .bytes);
+            stepsRead = onFine (compiles then writes) (readSteps edition1 written (length (l .outputsRead)) (l .stepsRead)) (l .stepsRead);
+            outputsRead = onFine (compiles then writes) (readOutputs edition1 written (length (l .stepsRead) / 2) (l .outputsRead)) (l .outputsRead);
             scratch =
                 onFine (compiles then writes then reads)
-                (verifyScratch (columnsOf written) (stepsOf written) (outputsOf written) amounts (l .scratch))
+                (verifyScratch (columnsOf written) (stepsOf edition1 written) (outputsOf edition1 written) amounts (l .scratch))
                 (l .scratch);
             values =
                 onFine beforeRun
-                (runValues (columnsOf written) (stepsOf written) (outputsOf written) m bases (length (l .figures)) (l .values))
+                (runValues (columnsOf written) (stepsOf edition1 written) (outputsOf edition1 written) m bases (length (l .figures)) (l .values))
                 (l .values);
             figures =
                 onFine beforeRun
-                (runFigures (columnsOf written) (stepsOf written) (outputsOf written) m bases (length (l .values)) (l .figures))
+                (runFigures (columnsOf written) (stepsOf edition1 written) (outputsOf edition1 written) m bases (length (l .values)) (l .figures))
                 (l .figures);
           }

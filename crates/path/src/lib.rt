@@ -1,21 +1,11 @@
 // The whole path from a sheet to its figures, as one function of five calls.
 ghost use mathlib.Core.Path.{_≡_};
-ghost use Prim.Native.Nat.{_/_};
-ghost use lib.ListN.{length};
-ghost use Rattle.chain.specs.Chain.{pairs};
-ghost use Rattle.verify.specs.Verify.{verifyScratch};
-ghost use Rattle.run.specs.Ran.{ranOf};
-ghost use Rattle.file.specs.File.{writeBytes};
-ghost use Rattle.file.specs.Answers.{readOf};
 ghost use Rattle.path.specs.Path.{lent, pathAnswer, pathLeaves};
-ghost use Rattle.path.specs.Parts.{dispatchAnswer, dispatchSteps, dispatchOutputs, receiveAnswer, receiveValues, receiveFigures};
 ghost use Rattle.path.specs.Demand3.{Demand3};
 ghost use Rattle.path.specs.Figured.{figuredOf};
 use compile::Compiled;
-use file::Reading;
-use file::Written;
+use reading::Reading;
 use run::Ran;
-use verify::Verified;
 
 // The steps that compile and read return and the multiplications made, or the refusal of the first call that refuses.
 pub enum Figured {
@@ -25,49 +15,6 @@ pub enum Figured {
         made: usize,
     },
     Refused(u32, usize),
-}
-
-// Write, then read from exactly the bytes counted.
-fn dispatch(
-    p: usize,
-    steps: &[u32],
-    outputs: &[u32],
-    bytes: &mut [u8],
-    received: &mut [u32],
-    results: &mut [u32],
-) -> Reading
-    ensures { λ r. ⌜ readOf r ≡ dispatchAnswer p (pairs (now (steps .entry))) (now (outputs .entry)) (length (now (bytes .entry))) (length (now (received .entry)) / 2) (length (now (results .entry))) ⌝ }
-    ensures { λ r. ⌜ now (bytes .exit) ≡ writeBytes p (pairs (now (steps .entry))) (now (outputs .entry)) (now (bytes .entry)) ⌝ }
-    ensures { λ r. ⌜ now (received .exit) ≡ dispatchSteps p (pairs (now (steps .entry))) (now (outputs .entry)) (length (now (bytes .entry))) (length (now (results .entry))) (now (received .entry)) ⌝ }
-    ensures { λ r. ⌜ now (results .exit) ≡ dispatchOutputs p (pairs (now (steps .entry))) (now (outputs .entry)) (length (now (bytes .entry))) (length (now (received .entry)) / 2) (now (results .entry)) ⌝ }
-{
-    match file::write(p, steps, outputs, bytes) {
-        Written::Refused(number, place) => Reading::Refused(number, place),
-        Written::Bytes(count) => file::read(&bytes[..count], received, results),
-    }
-}
-
-// Check, then run.
-fn receive(
-    p: usize,
-    steps: &[u32],
-    outputs: &[u32],
-    amounts: &[u32],
-    m: u32,
-    bases: &[u32],
-    scratch: &mut [u32],
-    values: &mut [u32],
-    figures: &mut [u32],
-) -> Ran
-    ensures { λ r. ⌜ ranOf r ≡ receiveAnswer p (pairs (now (steps .entry))) (now (outputs .entry)) (now (amounts .entry)) (length (now (scratch .entry))) m (now (bases .entry)) (length (now (values .entry))) (length (now (figures .entry))) ⌝ }
-    ensures { λ r. ⌜ now (scratch .exit) ≡ verifyScratch p (pairs (now (steps .entry))) (now (outputs .entry)) (now (amounts .entry)) (now (scratch .entry)) ⌝ }
-    ensures { λ r. ⌜ now (values .exit) ≡ receiveValues p (pairs (now (steps .entry))) (now (outputs .entry)) (now (amounts .entry)) (length (now (scratch .entry))) m (now (bases .entry)) (length (now (figures .entry))) (now (values .entry)) ⌝ }
-    ensures { λ r. ⌜ now (figures .exit) ≡ receiveFigures p (pairs (now (steps .entry))) (now (outputs .entry)) (now (amounts .entry)) (length (now (scratch .entry))) m (now (bases .entry)) (length (now (values .entry))) (now (figures .entry)) ⌝ }
-{
-    match verify::verify(p, steps, outputs, amounts, scratch) {
-        Verified::Refused(number, place) => Ran::Refused(number, place),
-        Verified::Passed => run::run(p, steps, outputs, m, bases, values, figures),
-    }
 }
 
 // Demand 3's path: compile, write, read, check and run, each from exactly what the call before it filled. What is read stands in `received` and `results`.
@@ -95,7 +42,7 @@ pub fn sheet_to_figures(
     match compile::compile(p, q, amounts, method, k, steps, outputs) {
         Compiled::Refused(number, place) => Figured::Refused(number, place),
         Compiled::Steps(compiled) => {
-            match dispatch(
+            match dispatch::dispatch(
                 p,
                 &steps[..2 * compiled],
                 &outputs[..q],
@@ -109,7 +56,7 @@ pub fn sheet_to_figures(
                     q: payslips,
                     n: read,
                 } => {
-                    match receive(
+                    match receive::receive(
                         columns,
                         &received[..2 * read],
                         &results[..payslips],

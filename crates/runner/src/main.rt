@@ -2,9 +2,9 @@
 ghost use Rattle.desk.specs.Taken.{counted};
 use desk::Given;
 use desk::Taken;
-use file::Reading;
 use libc::STDERR_FILENO;
 use libc::STDOUT_FILENO;
+use reading::Reading;
 use run::Ran;
 
 // One base more than a chain can have, so that too many are known to be too many.
@@ -52,7 +52,7 @@ fn run_chain(
 fn run_file(bytes: &[u8], m: u32, bases: &[u32], steps: &mut [u32], outputs: &mut [u32]) {
     let mut values = [0u32; chain::MOST_COLUMNS + chain::MOST_STEPS + 1];
     let mut figures = [0u32; chain::MOST_PAYSLIPS];
-    match file::read(bytes, steps, outputs) {
+    match reading::read(bytes, steps, outputs) {
         Reading::Refused(number, place) => desk::tell_refusal(STDERR_FILENO, number, place),
         Reading::Chain { p, q, n } => run_chain(
             p,

@@ -1,4 +1,4 @@
--- What the amounts' rule promises, and where an amount stands.
+-- Amounts are fine exactly if they are p times q; then each payslip's p amounts lie within them.
 use mathlib.Core.Path.{_≡_, sym}
 use mathlib.Core.List.{List}
 use Prim.Native.Nat.{ℕ, suc, _+_, _*_, _≤_, _<_}

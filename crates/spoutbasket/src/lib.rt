@@ -4,55 +4,18 @@ ghost use mathlib.Core.Path.{_≡_};
 ghost use mathlib.Core.List.{[], _∷_};
 ghost use Prim.Native.Nat.{_/_};
 ghost use lib.ListN.{length};
-ghost use Rattle.chain.specs.Verdict.{Answer, done, refusal};
 ghost use Rattle.chain.specs.Chain.{pairs};
 ghost use Rattle.chain.specs.Written.{over};
 ghost use Rattle.compile.specs.Compile.{compileAnswer, compileSteps, compileOutputs};
-ghost use Rattle.file.specs.File.{writeAnswer, writeBytes, readAnswer, readSteps, readOutputs};
+ghost use Rattle.layout.specs.Layout.{edition1};
+ghost use Rattle.layout.specs.File.{writeAnswer, writeBytes, readAnswer, readSteps, readOutputs};
 ghost use Rattle.verify.specs.Verify.{verifyAnswer, verifyScratch};
-ghost use Rattle.verify.specs.Verified.{verifiedOf};
 ghost use Rattle.run.specs.Run.{runAnswer, runValues, runFigures};
-ghost use Rattle.run.specs.Ran.{ranOf};
 ghost use Rattle.choose.specs.Choose.{choice};
 ghost use Rattle.listing.specs.Listing.{listing};
 ghost use Rattle.path.specs.Path.{lent, pathAnswer, pathLeaves};
-ghost use Rattle.spoutbasket.specs.Told.{numberOf, wordsOf, chosen};
+ghost use Rattle.tell.specs.Told.{numberOf, wordsOf, choiceAnswer};
 use chain::Step;
-use choose::Chosen;
-use compile::Compiled;
-use file::Reading;
-use file::Written;
-use path::Figured;
-use run::Ran;
-use verify::Verified;
-
-// The number returned, and the four words.
-fn tell(number: u32, a: usize, b: usize, c: usize, answer: &mut [u64; 4]) -> u32
-    ensures { λ r. ⌜ (r ≡ number) × (now (answer .exit) ≡ a ∷ b ∷ c ∷ 0 ∷ []) ⌝ }
-{
-    *answer = [a as u64, b as u64, c as u64, 0];
-    number
-}
-
-// What a check answered, told.
-fn tell_verified(v: Verified, answer: &mut [u64; 4]) -> u32
-    ensures { λ r. ⌜ (r ≡ numberOf (verifiedOf v)) × (now (answer .exit) ≡ wordsOf (verifiedOf v)) ⌝ }
-{
-    match v {
-        Verified::Refused(number, place) => tell(number, place, 0, 0, answer),
-        Verified::Passed => tell(0, 0, 0, 0, answer),
-    }
-}
-
-// What a run answered, told.
-fn tell_ran(ran: Ran, answer: &mut [u64; 4]) -> u32
-    ensures { λ r. ⌜ (r ≡ numberOf (ranOf ran)) × (now (answer .exit) ≡ wordsOf (ranOf ran)) ⌝ }
-{
-    match ran {
-        Ran::Refused(number, place) => tell(number, place, 0, 0, answer),
-        Ran::Multiplications(n) => tell(0, n, 0, 0, answer),
-    }
-}
 
 // A sheet compiled by the method of a number and its parameter.
 #[no_mangle]
@@ -71,10 +34,8 @@ pub extern "C" fn spoutbasket_compile(
     ensures { λ r. ⌜ now (steps .exit) ≡ compileSteps p q (now (amounts .entry)) method k (length (now (outputs .entry))) (now (steps .entry)) ⌝ }
     ensures { λ r. ⌜ now (outputs .exit) ≡ compileOutputs p q (now (amounts .entry)) method k (length (now (steps .entry)) / 2) (now (outputs .entry)) ⌝ }
 {
-    match compile::compile(p, q, amounts, method, k, steps, outputs) {
-        Compiled::Refused(number, place) => tell(number, place, 0, 0, answer),
-        Compiled::Steps(n) => tell(0, n, 0, 0, answer),
-    }
+    let compiled = compile::compile(p, q, amounts, method, k, steps, outputs);
+    tell::tell_compiled(compiled, answer)
 }
 
 // The file of a chain, written.
@@ -86,14 +47,12 @@ pub extern "C" fn spoutbasket_write(
     bytes: &mut [u8],
     answer: &mut [u64; 4],
 ) -> u32
-    ensures { λ r. ⌜ r ≡ numberOf (writeAnswer p (pairs (now (steps .entry))) (now (outputs .entry)) (length (now (bytes .entry)))) ⌝ }
-    ensures { λ r. ⌜ now (answer .exit) ≡ wordsOf (writeAnswer p (pairs (now (steps .entry))) (now (outputs .entry)) (length (now (bytes .entry)))) ⌝ }
-    ensures { λ r. ⌜ now (bytes .exit) ≡ writeBytes p (pairs (now (steps .entry))) (now (outputs .entry)) (now (bytes .entry)) ⌝ }
+    ensures { λ r. ⌜ r ≡ numberOf (writeAnswer edition1 p (pairs (now (steps .entry))) (now (outputs .entry)) (length (now (bytes .entry)))) ⌝ }
+    ensures { λ r. ⌜ now (answer .exit) ≡ wordsOf (writeAnswer edition1 p (pairs (now (steps .entry))) (now (outputs .entry)) (length (now (bytes .entry)))) ⌝ }
+    ensures { λ r. ⌜ now (bytes .exit) ≡ writeBytes edition1 p (pairs (now (steps .entry))) (now (outputs .entry)) (now (bytes .entry)) ⌝ }
 {
-    match file::write(p, steps, outputs, bytes) {
-        Written::Refused(number, place) => tell(number, place, 0, 0, answer),
-        Written::Bytes(n) => tell(0, n, 0, 0, answer),
-    }
+    let written = writing::write(p, steps, outputs, bytes);
+    tell::tell_written(written, answer)
 }
 
 // The file of a chain, read.
@@ -104,15 +63,13 @@ pub extern "C" fn spoutbasket_read(
     outputs: &mut [u32],
     answer: &mut [u64; 4],
 ) -> u32
-    ensures { λ r. ⌜ r ≡ numberOf (readAnswer (now (bytes .entry)) (length (now (steps .entry)) / 2) (length (now (outputs .entry)))) ⌝ }
-    ensures { λ r. ⌜ now (answer .exit) ≡ wordsOf (readAnswer (now (bytes .entry)) (length (now (steps .entry)) / 2) (length (now (outputs .entry)))) ⌝ }
-    ensures { λ r. ⌜ now (steps .exit) ≡ readSteps (now (bytes .entry)) (length (now (outputs .entry))) (now (steps .entry)) ⌝ }
-    ensures { λ r. ⌜ now (outputs .exit) ≡ readOutputs (now (bytes .entry)) (length (now (steps .entry)) / 2) (now (outputs .entry)) ⌝ }
+    ensures { λ r. ⌜ r ≡ numberOf (readAnswer edition1 (now (bytes .entry)) (length (now (steps .entry)) / 2) (length (now (outputs .entry)))) ⌝ }
+    ensures { λ r. ⌜ now (answer .exit) ≡ wordsOf (readAnswer edition1 (now (bytes .entry)) (length (now (steps .entry)) / 2) (length (now (outputs .entry)))) ⌝ }
+    ensures { λ r. ⌜ now (steps .exit) ≡ readSteps edition1 (now (bytes .entry)) (length (now (outputs .entry))) (now (steps .entry)) ⌝ }
+    ensures { λ r. ⌜ now (outputs .exit) ≡ readOutputs edition1 (now (bytes .entry)) (length (now (steps .entry)) / 2) (now (outputs .entry)) ⌝ }
 {
-    match file::read(bytes, steps, outputs) {
-        Reading::Refused(number, place) => tell(number, place, 0, 0, answer),
-        Reading::Chain { p, q, n } => tell(0, p, q, n, answer),
-    }
+    let reading = reading::read(bytes, steps, outputs);
+    tell::tell_read(reading, answer)
 }
 
 // The check of a chain against a sheet.
@@ -129,8 +86,8 @@ pub extern "C" fn spoutbasket_verify(
     ensures { λ r. ⌜ now (answer .exit) ≡ wordsOf (verifyAnswer p (pairs (now (steps .entry))) (now (outputs .entry)) (now (amounts .entry)) (length (now (scratch .entry)))) ⌝ }
     ensures { λ r. ⌜ now (scratch .exit) ≡ verifyScratch p (pairs (now (steps .entry))) (now (outputs .entry)) (now (amounts .entry)) (now (scratch .entry)) ⌝ }
 {
-    let v = verify::verify(p, steps, outputs, amounts, scratch);
-    tell_verified(v, answer)
+    let verified = verify::verify(p, steps, outputs, amounts, scratch);
+    tell::tell_verified(verified, answer)
 }
 
 // The check of a chain whose steps are lent as structs, each a pair of 32-bit numbers, against a sheet.
@@ -147,8 +104,8 @@ pub extern "C" fn spoutbasket_verify_pairs(
     ensures { λ r. ⌜ now (answer .exit) ≡ wordsOf (verifyAnswer p (now (steps .entry)) (now (outputs .entry)) (now (amounts .entry)) (length (now (scratch .entry)))) ⌝ }
     ensures { λ r. ⌜ now (scratch .exit) ≡ verifyScratch p (now (steps .entry)) (now (outputs .entry)) (now (amounts .entry)) (now (scratch .entry)) ⌝ }
 {
-    let v = pairs::verify_pairs(p, steps, outputs, amounts, scratch);
-    tell_verified(v, answer)
+    let verified = pairs::verify_pairs(p, steps, outputs, amounts, scratch);
+    tell::tell_verified(verified, answer)
 }
 
 // The run of a chain over residues.
@@ -169,7 +126,7 @@ pub extern "C" fn spoutbasket_run(
     ensures { λ r. ⌜ now (figures .exit) ≡ runFigures p (pairs (now (steps .entry))) (now (outputs .entry)) m (now (bases .entry)) (length (now (values .entry))) (now (figures .entry)) ⌝ }
 {
     let ran = run::run(p, steps, outputs, m, bases, values, figures);
-    tell_ran(ran, answer)
+    tell::tell_ran(ran, answer)
 }
 
 // The run of a chain whose steps are lent as structs, each a pair of 32-bit numbers, over residues.
@@ -190,7 +147,7 @@ pub extern "C" fn spoutbasket_run_pairs(
     ensures { λ r. ⌜ now (figures .exit) ≡ runFigures p (now (steps .entry)) (now (outputs .entry)) m (now (bases .entry)) (length (now (values .entry))) (now (figures .entry)) ⌝ }
 {
     let ran = pairs::run_pairs(p, steps, outputs, m, bases, values, figures);
-    tell_ran(ran, answer)
+    tell::tell_ran(ran, answer)
 }
 
 // The choice between two files: which of them is handed back. The scratch slices are left free in content.
@@ -206,14 +163,11 @@ pub extern "C" fn spoutbasket_choose(
     numbers: &mut [u32],
     answer: &mut [u64; 4],
 ) -> u32
-    ensures { λ r. ⌜ r ≡ numberOf (chosen (choice p q (now (amounts .entry)) (now (a .entry)) (now (b .entry)) (length (now (steps .entry)) / 2) (length (now (outputs .entry))) (length (now (numbers .entry))))) ⌝ }
-    ensures { λ r. ⌜ now (answer .exit) ≡ wordsOf (chosen (choice p q (now (amounts .entry)) (now (a .entry)) (now (b .entry)) (length (now (steps .entry)) / 2) (length (now (outputs .entry))) (length (now (numbers .entry))))) ⌝ }
+    ensures { λ r. ⌜ r ≡ numberOf (choiceAnswer (choice p q (now (amounts .entry)) (now (a .entry)) (now (b .entry)) (length (now (steps .entry)) / 2) (length (now (outputs .entry))) (length (now (numbers .entry))))) ⌝ }
+    ensures { λ r. ⌜ now (answer .exit) ≡ wordsOf (choiceAnswer (choice p q (now (amounts .entry)) (now (a .entry)) (now (b .entry)) (length (now (steps .entry)) / 2) (length (now (outputs .entry))) (length (now (numbers .entry))))) ⌝ }
 {
-    match choose::decide(p, q, amounts, a, b, steps, outputs, numbers) {
-        Chosen::First => tell(0, 1, 0, 0, answer),
-        Chosen::Second => tell(0, 2, 0, 0, answer),
-        Chosen::Neither(number, place) => tell(number, place, 0, 0, answer),
-    }
+    let chosen = choose::decide(p, q, amounts, a, b, steps, outputs, numbers);
+    tell::tell_chosen(chosen, answer)
 }
 
 // The listing of a file, as text over the front of an array with room for every listing; the answer is its length.
@@ -227,7 +181,8 @@ pub extern "C" fn spoutbasket_list(
     ensures { λ r. ⌜ now (answer .exit) ≡ length (listing (now (bytes .entry))) ∷ 0 ∷ 0 ∷ 0 ∷ [] ⌝ }
     ensures { λ r. ⌜ now (text .exit) ≡ over (listing (now (bytes .entry))) (now (text .entry)) ⌝ }
 {
-    tell(0, listing::list(bytes, text), 0, 0, answer)
+    let length = listing::list(bytes, text);
+    tell::tell_listed(length, answer)
 }
 
 // The whole path from a sheet to its figures: compile, write, read, check and run. The chain read stands in `received` and `results`.
@@ -254,7 +209,7 @@ pub extern "C" fn spoutbasket_path(
     ensures { λ r. ⌜ now (answer .exit) ≡ wordsOf (pathAnswer p q (now (amounts .entry)) method k (lent (now (steps .entry)) (now (outputs .entry)) (now (bytes .entry)) (now (received .entry)) (now (results .entry)) (now (scratch .entry)) (now (values .entry)) (now (figures .entry))) m (now (bases .entry))) ⌝ }
     ensures { λ r. ⌜ lent (now (steps .exit)) (now (outputs .exit)) (now (bytes .exit)) (now (received .exit)) (now (results .exit)) (now (scratch .exit)) (now (values .exit)) (now (figures .exit)) ≡ pathLeaves p q (now (amounts .entry)) method k (lent (now (steps .entry)) (now (outputs .entry)) (now (bytes .entry)) (now (received .entry)) (now (results .entry)) (now (scratch .entry)) (now (values .entry)) (now (figures .entry))) m (now (bases .entry)) ⌝ }
 {
-    match path::sheet_to_figures(
+    let figured = path::sheet_to_figures(
         p,
         q,
         amounts,
@@ -270,12 +225,6 @@ pub extern "C" fn spoutbasket_path(
         scratch,
         values,
         figures,
-    ) {
-        Figured::Refused(number, place) => tell(number, place, 0, 0, answer),
-        Figured::Counts {
-            compiled,
-            read,
-            made,
-        } => tell(0, compiled, read, made, answer),
-    }
+    );
+    tell::tell_figured(figured, answer)
 }

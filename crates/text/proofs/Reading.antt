@@ -1,4 +1,4 @@
--- Laws of reading a text byte by byte.
+-- What a text comes to is kept at each byte by that byte's effect: it parts, grows a number, ends one, or stops the reading.
 use mathlib.Core.Path.{_≡_, refl, sym, ap, _∙_}
 use mathlib.Core.Bool.{Bool, true, false, cond}
 use mathlib.Core.List.{List, [], _∷_}

@@ -1,4 +1,4 @@
--- Laws of lines and columns.
+-- The spot of a place is reached byte by byte: the bytes left lead from the spot at hand to it.
 use mathlib.Core.Path.{_≡_, refl, sym, ap, _∙_}
 use mathlib.Core.List.{List, _∷_}
 use Prim.Native.Nat.{ℕ, suc, _+_, _-_, _≤_, _<_}

@@ -5,7 +5,8 @@ use lib.ListN.{length, getD, replicate}
 use Rattle.chain.specs.Chain.{pairs}
 use Rattle.verify.specs.Verify.{verifyAnswer, verifyScratch}
 use Rattle.run.specs.Run.{runAnswer, runValues, runFigures}
-use Rattle.file.specs.File.{writeAnswer, writeBytes, readAnswer, readSteps, readOutputs}
+use Rattle.layout.specs.Layout.{edition1}
+use Rattle.layout.specs.File.{writeAnswer, writeBytes, readAnswer, readSteps, readOutputs}
 use Rattle.compile.specs.Compile.{compileAnswer, compileSteps, compileOutputs}
 use Rattle.choose.specs.Choose.{choice}
 use Rattle.listing.specs.Listing.{listing}
@@ -21,11 +22,11 @@ compiling p q amounts method k =
 
 -- write into four bytes
 abbrev pub writing : ℕ → List ℕ → List ℕ → List ℕ
-writing p steps outputs = answered (writeAnswer p (pairs steps) outputs 4) ++ writeBytes p (pairs steps) outputs (nines 4)
+writing p steps outputs = answered (writeAnswer edition1 p (pairs steps) outputs 4) ++ writeBytes edition1 p (pairs steps) outputs (nines 4)
 
 -- read into three pairs and one output
 abbrev pub reading : List ℕ → List ℕ
-reading bytes = answered (readAnswer bytes 3 1) ++ readSteps bytes 1 (nines 6) ++ readOutputs bytes 3 (nines 1)
+reading bytes = answered (readAnswer edition1 bytes 3 1) ++ readSteps edition1 bytes 1 (nines 6) ++ readOutputs edition1 bytes 3 (nines 1)
 
 -- check one output, with six numbers of scratch
 abbrev pub checking : ℕ → List ℕ → ℕ → List ℕ → List ℕ
@@ -77,8 +78,8 @@ refusals =
     -- 5: two pairs for case A; too few bytes, pairs, numbers of scratch, values; the chooser's scratch
     ∷ (answered (compileAnswer 2 1 sheetA 1 1 2 1) ++ compileSteps 2 1 sheetA 1 1 1 (nines 5)) gives (5 ∷ 0 ∷ nines 5)
     ∷ writing 2 stepsA (5 ∷ []) gives (5 ∷ 0 ∷ nines 4)
-    ∷ (answered (readAnswer fileA 2 1) ++ readSteps fileA 1 (nines 5)) gives (5 ∷ 0 ∷ nines 5)
-    ∷ (answered (readAnswer fileA 3 0) ++ readOutputs fileA 3 []) gives (5 ∷ 0 ∷ [])
+    ∷ (answered (readAnswer edition1 fileA 2 1) ++ readSteps edition1 fileA 1 (nines 5)) gives (5 ∷ 0 ∷ nines 5)
+    ∷ (answered (readAnswer edition1 fileA 3 0) ++ readOutputs edition1 fileA 3 []) gives (5 ∷ 0 ∷ [])
     ∷ (answered (verifyAnswer 2 (pairs stepsA) (5 ∷ []) sheetA 5) ++ verifyScratch 2 (pairs stepsA) (5 ∷ []) sheetA (nines 5)) gives (5 ∷ 0 ∷ nines 5)
     ∷ (answered (runAnswer 2 (pairs stepsA) (5 ∷ []) 7 (3 ∷ 5 ∷ []) 5 1) ++ runValues 2 (pairs stepsA) (5 ∷ []) 7 (3 ∷ 5 ∷ []) 1 (nines 5)) gives (5 ∷ 0 ∷ nines 5)
     ∷ chosen (choice 2 1 sheetA fileA fileA 16000 64 16016) gives (0 ∷ 5 ∷ 0 ∷ [])

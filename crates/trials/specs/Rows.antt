@@ -16,7 +16,7 @@ use Rattle.residue.specs.Residue.{figure}
 use Rattle.verify.specs.Verify.{overOr, otherOr, exponentsRule, payslipsRule, fittingRule, verifyRule, verifyAnswer, verifyScratch}
 use Rattle.run.specs.Run.{residues, runRule, runAnswer, runValues, runFigures}
 use Rattle.bits.specs.Bits.{bits, fields, value, bytesBits, front, pack, fieldsAt}
-use Rattle.file.specs.File.{fileBits, fileOf, writeRule, writeAnswer, writeBytes, stepsOf, outputsOf, readRule, readAnswer, readSteps, readOutputs}
+use Rattle.layout.specs.File.{fileBits, fileOf, writeRule, writeAnswer, writeBytes, stepsOf, outputsOf, readRule, readAnswer, readSteps, readOutputs}
 use Rattle.products.specs.Product.{times}
 use Rattle.tables.specs.Table.{entry, tableNext}
 use Rattle.straus.specs.Straus.{strausDigits, straus, strausCount, strausCeiling}
@@ -85,5 +85,5 @@ chosen (neither n s) = 0 ∷ n ∷ s ∷ []
 
 -- all that the tables compute with: a table that unfolds this unfolds every definition of document 01
 unfoldable pub definitions : Unit {0}
-unfolding _<?_ _≤?_ _=?_ _≠?_ _or_ _then_ refuseIf refuseAt answer onFine over sizesRule lengthRule stepRule chainRule legalRule exponents amountsRule sheetRule digitCount bitLength figure overOr otherOr exponentsRule payslipsRule fittingRule verifyRule verifyAnswer verifyScratch residues runRule runAnswer runValues runFigures bits fields value bytesBits front pack fieldsAt fileBits fileOf writeRule writeAnswer writeBytes stepsOf outputsOf readRule readAnswer readSteps readOutputs times entry tableNext strausDigits straus strausCount strausCeiling yaoDigits gatherOne yao yaoCount yaoCeiling columnBits inputs selection partition partitionCount partitionCeiling methodRule methodOf acceptedRule compileRule compileAnswer compileSteps compileOutputs fileRule better unless chooseRule choice decimal lineOf listingRule chainText refusedText textFor listing
+unfolding _<?_ _≤?_ _=?_ _≠?_ _or_ _then_ refuseIf refuseAt answer onFine over sizesRule lengthRule stepRule chainRule legalRule shapeRule heldRule exponents amountsRule sheetRule digitCount bitLength figure overOr otherOr exponentsRule payslipsRule fittingRule verifyRule verifyAnswer verifyScratch residues runRule runAnswer runValues runFigures bits fields value bytesBits front pack fieldsAt fileBits fileOf writeRule writeAnswer writeBytes stepsOf outputsOf readRule readAnswer readSteps readOutputs times entry tableNext strausDigits straus strausCount strausCeiling yaoDigits gatherOne yao yaoCount yaoCeiling columnBits inputs selection partition partitionCount partitionCeiling methodRule methodOf acceptedRule compileRule compileAnswer compileSteps compileOutputs fileRule better unless chooseRule choice decimal lineOf listingRule chainText refusedText textFor listing
 definitions = tt

@@ -8,7 +8,8 @@ use Rattle.chain.specs.Tests.{_≤?_, _=?_}
 use Rattle.chain.specs.Verdict.{Verdict, fine, refused}
 use Rattle.chain.specs.Chain.{Chain, flat}
 use Rattle.verify.specs.Verify.{verifyRule}
-use Rattle.file.specs.File.{fileOf, stepsOf, outputsOf, readRule}
+use Rattle.layout.specs.Layout.{edition1}
+use Rattle.layout.specs.File.{fileOf, stepsOf, outputsOf, readRule}
 use Rattle.compile.specs.Compile.{methodRule, chainOf, count, ceiling}
 use Rattle.trials.specs.Rows.{Row, _gives_, Holds, rows-hold, same, definitions}
 
@@ -22,16 +23,16 @@ against fine = []
 against (refused n s) = n ∷ s ∷ []
 
 abbrev pub sameChain : List ℕ → Chain → List ℕ
-sameChain bytes c = unless (same (flat (stepsOf bytes) ++ outputsOf bytes) (flat (c .steps) ++ c .outputs)) 103
+sameChain bytes c = unless (same (flat (stepsOf edition1 bytes) ++ outputsOf edition1 bytes) (flat (c .steps) ++ c .outputs)) 103
 
 -- what is wrong with the chain c of a method with this count and ceiling
 abbrev pub faults : ℕ → List ℕ → Chain → ℕ → ℕ → List ℕ
 faults p amounts c n most =
-    let bytes = fileOf p (c .steps) (c .outputs) in
+    let bytes = fileOf edition1 p (c .steps) (c .outputs) in
     against (verifyRule p (c .steps) (c .outputs) amounts (p + length (c .steps) + 1))
     ++ unless (length (c .steps) =? n) 101
     ++ unless (n ≤? most) 102
-    ++ against (readRule bytes (length (c .steps)) (length (c .outputs)))
+    ++ against (readRule edition1 bytes (length (c .steps)) (length (c .outputs)))
     ++ sameChain bytes c
 
 -- with parameter k, if that is legal and the chain stays small

@@ -7,7 +7,8 @@ use Rattle.chain.specs.declared.Step.{Step}
 use Rattle.residue.specs.Residue.{figure}
 use Rattle.verify.specs.Verify.{verifyAnswer, verifyScratch}
 use Rattle.run.specs.Run.{runAnswer, runValues, runFigures}
-use Rattle.file.specs.File.{writeAnswer, writeBytes, readAnswer, readSteps, readOutputs}
+use Rattle.layout.specs.Layout.{edition1}
+use Rattle.layout.specs.File.{writeAnswer, writeBytes, readAnswer, readSteps, readOutputs}
 use Rattle.compile.specs.Compile.{chainOf, count, ceiling, compileAnswer, compileSteps, compileOutputs}
 use Rattle.listing.specs.Listing.{listing}
 use Rattle.trials.specs.Rows.{Row, _gives_, Holds, rows-hold, answered, definitions}
@@ -30,11 +31,11 @@ module _ (p : ℕ) (amounts : List ℕ) (method k n : ℕ) where
 
 -- the file of steps in turn and outputs, in a slice of n bytes
 abbrev pub written : ℕ → List ℕ → List ℕ → ℕ → List ℕ
-written p steps outputs n = answered (writeAnswer p (pairs steps) outputs n) ++ writeBytes p (pairs steps) outputs (nines n)
+written p steps outputs n = answered (writeAnswer edition1 p (pairs steps) outputs n) ++ writeBytes edition1 p (pairs steps) outputs (nines n)
 
 -- what is read back of it, into n pairs and two outputs
 abbrev pub readBack : List ℕ → ℕ → List ℕ
-readBack bytes n = answered (readAnswer bytes n 2) ++ readSteps bytes 2 (nines (n + n)) ++ readOutputs bytes n (nines 2)
+readBack bytes n = answered (readAnswer edition1 bytes n 2) ++ readSteps edition1 bytes 2 (nines (n + n)) ++ readOutputs edition1 bytes n (nines 2)
 
 -- the check of steps and one output, with one number of scratch more than is needed
 abbrev pub checked : ℕ → List ℕ → List Step → ℕ → List ℕ

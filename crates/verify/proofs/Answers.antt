@@ -1,4 +1,4 @@
--- The answer to a judgement, and what the scratch holds then.
+-- What is found before the scratch is used leaves it as it was; what is found after leaves it cleared, whatever the sums left there.
 use mathlib.Core.Path.{_≡_, sym, ap, _∙_}
 use mathlib.Core.List.{List, [], _++_}
 use Prim.Native.Nat.{ℕ, _+_, _/_, _≤_}

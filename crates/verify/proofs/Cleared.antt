@@ -1,4 +1,4 @@
--- The loop that clears the front of the scratch.
+-- Cleared cells are zeros before what was there: one cell more at each turn.
 use mathlib.Core.Path.{_≡_}
 use mathlib.Core.List.{List, _++_}
 use Prim.Native.Nat.{ℕ, _+_, _≤_, _<_}

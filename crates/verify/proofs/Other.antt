@@ -1,4 +1,4 @@
--- Laws of the first payslip whose amount is not its output's exponent.
+-- The first payslip that differs is decided by those up to it, and only by what the scratch has at the outputs.
 use mathlib.Core.Path.{_≡_, refl, sym, ap, ap₂, _∙_}
 use mathlib.Core.Bool.{Bool, true, false, cond}
 use mathlib.Core.List.{List, [], _∷_}

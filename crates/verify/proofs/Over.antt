@@ -1,4 +1,4 @@
--- Laws of the first number over the limit: it is decided by the numbers up to it.
+-- The first number over the limit is decided by the numbers up to it: each turn either finds it or leaves it to those that follow.
 use mathlib.Core.Path.{_≡_, refl, sym, ap, _∙_}
 use mathlib.Core.Bool.{Bool, true, false, cond}
 use mathlib.Core.List.{List, [], _∷_}

@@ -1,4 +1,4 @@
--- Laws of places: the earlier of two, the earliest of many, 0 being none.
+-- Places with 0 for none: the earliest of many is none exactly if each is, and one column more takes the earlier of two.
 use mathlib.Core.Path.{_≡_, refl, sym, ap, ap₂, _∙_}
 use Prim.Native.Nat.{ℕ, zero, suc, _+_, _≤_, _<_}
 use native.Mathlib.Decide.{decLt}

@@ -1,3 +1,4 @@
+-- The byte read is the list's element, and a `u8` is below 256.
 use native.Mathlib.Omega.{arith}
 use borrow.Author.Needs.{needs}
 use Rattle.bits.proofs.byte.Statement.{statement}

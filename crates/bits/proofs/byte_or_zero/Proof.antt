@@ -1,3 +1,4 @@
+-- Within the file it is `byte`; past its end the list's default is 0.
 use mathlib.Core.Path.{sym}
 use lib.ListN.{List·getD-eq-default}
 use lib.Dec.{lit<}

@@ -1,3 +1,4 @@
+-- Both branches read the same four bytes, the second with 0 past the end; `gathered` makes one number of them.
 use Rattle.bits.proofs.Take.{gathered}
 use borrow.Author.Needs.{needs}
 use Rattle.bits.proofs.gather.Statement.{statement}

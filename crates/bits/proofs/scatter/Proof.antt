@@ -1,3 +1,4 @@
+-- Each return follows one more stored byte than the one before; the bytes stored so far are the first ones of the word (`stored-one` to `stored-four`).
 use denote.Ref.{now}
 use native.Mathlib.Omega.{arith}
 use lib.ListN.{length-set}

@@ -1,3 +1,4 @@
+-- Each return is the verdict of the rule as far as the tests before it have gone.
 use Rattle.chain.specs.Chain.{stepRule}
 use Rattle.chain.proofs.Rules.{judging}
 use Rattle.chain.proofs.judge_step.Statement.{statement}

@@ -1,3 +1,4 @@
+-- One law of `Preferring` for each pair of cases, and two where both files pass, by the comparison of their counts.
 use borrow.Author.Needs.{needs}
 use native.Mathlib.Omega.{arith}
 use Rattle.choose.proofs.Preferring.{first-fewer, second-fewer, first-only, second-only, none}

@@ -1,3 +1,4 @@
+-- Number and place are 0 unless neither file is chosen; the slice handed back is that of the choice found by `decide`.
 use borrow.Author.Needs.{needs}
 use mathlib.Core.Path.{_≡_, refl, sym, ap, _∙_}
 use Prim.Native.Nat.{_/_}
@@ -41,7 +42,9 @@ same-length-3 : tie.Need-same-length-3
 same-length-3 c = search needs
 
 returns : tie.Need-returns
-returns c = handed _ _ _ _ _ (chosen (c .before .before .before .before .before .before .before .before) ∙ ap choiceOf (c .enum-told .given .1)) (refl, (refl, refl))
+returns c =
+    let d = c .before .before .before .before .before .before .before .before in
+    handed _ _ _ _ _ (chosen d ∙ ap choiceOf (c .enum-told .given .1)) (refl, (refl, refl))
 
 same-length-4 : tie.Need-same-length-4
 same-length-4 c = search needs
@@ -53,7 +56,9 @@ same-length-6 : tie.Need-same-length-6
 same-length-6 c = search needs
 
 returns-2 : tie.Need-returns-2
-returns-2 c = handed _ _ _ _ _ (chosen (c .before .before .before .before .before .before .before .before) ∙ ap choiceOf (c .enum-told2 .given .1)) (refl, (refl, refl))
+returns-2 c =
+    let d = c .before .before .before .before .before .before .before .before in
+    handed _ _ _ _ _ (chosen d ∙ ap choiceOf (c .enum-told2 .given .1)) (refl, (refl, refl))
 
 same-length-7 : tie.Need-same-length-7
 same-length-7 c = search needs
@@ -65,7 +70,10 @@ same-length-9 : tie.Need-same-length-9
 same-length-9 c = search needs
 
 returns-3 : tie.Need-returns-3
-returns-3 c = let k = c .before .before in handed _ _ _ _ _ (chosen (k .before .before .before .before .before .before .before .before) ∙ ap choiceOf (k .k .given .1)) (refl, (refl, refl))
+returns-3 c =
+    let k = c .before .before in
+    let d = k .before .before .before .before .before .before .before .before in
+    handed _ _ _ _ _ (chosen d ∙ ap choiceOf (k .k .given .1)) (refl, (refl, refl))
 
 pub choose-spec : {M : Type 1} → statement M
 choose-spec =

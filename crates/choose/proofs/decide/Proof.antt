@@ -1,3 +1,4 @@
+-- What is lent is judged first; enough of it stays enough, since no slice changes its length, so both files are judged, and `choice-made` puts the verdicts together.
 use borrow.Author.Needs.{needs}
 use mathlib.Core.Path.{_≡_, _∙_}
 use Prim.Native.Nat.{_/_}
@@ -33,8 +34,12 @@ judge-file-requires-2 : tie.Need-judge-file-requires-2
 judge-file-requires-2 c κs =
     let j = c .before .before .before .before .before .before .before .before .before in
     let k = j .judge-file .kept .1 .1 .1 .1 in
-    let (x, y, z) = enough _ _ _ _ _ _ (first (j .before .before .before .before)) in
-    (omega (arith, k .0), omega (arith, k .1 .0), omega (arith, k .1 .1 .0))
+    let e = enough _ _ _ _ _ _ (first (j .before .before .before .before)) in
+    record {
+      pairs-enough = omega (arith, e .pairs-enough, k .0);
+      outputs-enough = omega (arith, e .outputs-enough, k .1 .0);
+      numbers-enough = omega (arith, e .numbers-enough, k .1 .1 .0);
+    }
 
 better-requires : tie.Need-better-requires
 better-requires c κs = search needs
@@ -55,7 +60,9 @@ returns-2 : tie.Need-returns-2
 returns-2 c =
     let y = c .before .before .before .before .before .before .before in
     let x = y .before .before .before .before .before .before .before .before .before .before in
-    c .better .ensures ∙ choice-made _ _ _ _ _ _ _ _ (x .judge-file .result) (y .judge-file2 .result) (first (x .before .before .before .before)) (x .judge-file .ensures) (y .judge-file2 .ensures)
+    c .better .ensures
+    ∙ choice-made _ _ _ _ _ _ _ _ (x .judge-file .result) (y .judge-file2 .result) (first (x .before .before .before .before)) (x .judge-file .ensures)
+    (y .judge-file2 .ensures)
 
 pub decide-spec : {M : Type 1} → statement M
 decide-spec =

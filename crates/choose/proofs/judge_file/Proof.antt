@@ -1,9 +1,11 @@
+-- The file is read, its sizes compared, and what was read is checked; every return is one law of `Files`, and the count is the header's n.
 use borrow.Author.Needs.{needs}
 use mathlib.Core.Path.{sym}
 use native.Mathlib.Omega.{arith}
 use lib.Seq.{length-take-le}
 use denote.Ref.{now}
-use Rattle.file.proofs.Good.{Good, read-refused, read-good}
+use Rattle.layout.specs.Layout.{edition1}
+use Rattle.reading.proofs.Good.{Good, read-refused, read-good}
 use Rattle.choose.proofs.Files.{refusal-says, unread, other-columns, other-payslips, not-held, all-held}
 use Rattle.choose.proofs.judge_file.Statement.{statement}
 use Rattle.choose.proofs.judge_file.Tie as tie
@@ -20,13 +22,15 @@ enum-known-columns c = search needs
 -- what the file that was read tells
 read-file : (c : tie.After-columns)
     → let r = c .before .before .before .before .before .before in
-    Good (now (r .before .before .before .before .before .before .before .before .args .bytes)) (r .read .last .1 .0) (r .read .last .1 .1 .0) (c .columns .given .0 .0) (c .columns .given .0 .1 .0) (c .columns .given .0 .1 .1 .0)
+    let s = r .before .before .before .before .before .before .before .before in
+    let g = c .columns .given .0 in
+    Good edition1 (now (s .args .bytes)) (r .read .last .1 .0) (r .read .last .1 .1 .0) (g .0) (g .1 .0) (g .1 .1 .0)
 read-file c =
     let r = c .before .before .before .before .before .before in
     let s = r .before .before .before .before .before .before .before .before in
     let a = s .args in
     let e = r .read .ensures in
-    read-good (now (a .bytes)) (now (a .steps)) (now (a .outputs)) (s .pre .0) (s .pre .1) _ (e .0) _ _ _ (c .columns .given .1) _ _ (e .1 .0) (e .1 .1)
+    read-good edition1 (now (a .bytes)) (now (a .steps)) (now (a .outputs)) (s .pre .pairs-enough) (s .pre .outputs-enough) _ (e .0) _ _ _ (c .columns .given .1) _ _ (e .1 .0) (e .1 .1)
 
 same-length : tie.Need-same-length
 same-length c = search needs
@@ -37,7 +41,7 @@ same-length-2 c = search needs
 returns : tie.Need-returns
 returns c =
     let t = read-file (c .before .before) in
-    refusal-says _ _ _ _ (other-columns _ _ _ _ _ _ _ _ _ t (c .if1 .taken))
+    refusal-says _ _ _ _ _ _ (other-columns _ _ _ _ _ _ _ _ _ t (c .if1 .taken))
 
 same-length-3 : tie.Need-same-length-3
 same-length-3 c = search needs
@@ -48,7 +52,7 @@ same-length-4 c = search needs
 returns-2 : tie.Need-returns-2
 returns-2 c =
     let t = read-file (c .before .before .before) in
-    refusal-says _ _ _ _ (other-payslips _ _ _ _ _ _ _ _ _ t (c .if2 .taken))
+    refusal-says _ _ _ _ _ _ (other-payslips _ _ _ _ _ _ _ _ _ t (c .if2 .taken))
 
 mul-verify : tie.Need-mul-verify
 mul-verify c = omega (arith, read-file (c .before .before .before) .taken .few)
@@ -90,8 +94,10 @@ returns-3 c =
     let r = n .before .before .before .before .before .before in
     let s = r .before .before .before .before .before .before .before .before in
     let a = s .args in
-    refusal-says _ _ _ _
-    (unread _ _ _ _ _ _ (read-refused (now (a .bytes)) (now (a .steps)) (now (a .outputs)) (s .pre .0) (s .pre .1) _ (r .read .ensures .0) _ _ (n .number .given .1)))
+    refusal-says _ _ _ _ _ _
+    (unread _ _ _ _ _ _
+    (read-refused edition1 (now (a .bytes)) (now (a .steps)) (now (a .outputs)) (s .pre .pairs-enough) (s .pre .outputs-enough) _ (r .read .ensures .0) _ _
+    (n .number .given .1)))
 
 same-length-7 : tie.Need-same-length-7
 same-length-7 c = search needs
@@ -108,8 +114,8 @@ returns-4 c =
     let e = v .before .before .before .before in
     let k = e .before .before .before in
     let s = k .before .before .before .before .before .before .before .before .before .before .before .before .before .before in
-    refusal-says _ _ _ _
-    (not-held _ _ _ _ _ _ _ _ _ (read-file k) (e .before .if1 .left) (e .if2 .left) _ (s .pre .2) _ (v .verify .ensures .0) _ _ (c .before .number2 .given .1))
+    refusal-says _ _ _ _ _ _
+    (not-held _ _ _ _ _ _ _ _ _ (read-file k) (e .before .if1 .left) (e .if2 .left) _ (s .pre .numbers-enough) _ (v .verify .ensures .0) _ _ (c .before .number2 .given .1))
 
 same-length-10 : tie.Need-same-length-10
 same-length-10 c = search needs
@@ -125,10 +131,13 @@ returns-5 c =
     let v = c .before .before .before .before in
     let e = v .before .before .before .before in
     let k = e .before .before .before in
-    let s = k .before .before .before .before .before .before .before .before .before .before .before .before .before .before in (
-      all-held _ _ _ _ _ _ _ _ _ (read-file k) (e .before .if1 .left) (e .if2 .left) _ (s .pre .2) _ (v .verify .ensures .0) (c .enum-told .given .1),
-      λ f. read-file k .taken .long,
-    )
+    let s = k .before .before .before .before .before .before .before .before .before .before .before .before .before .before in
+    record {
+      verdict =
+          all-held _ _ _ _ _ _ _ _ _ (read-file k) (e .before .if1 .left) (e .if2 .left) _ (s .pre .numbers-enough) _ (v .verify .ensures .0)
+          (c .enum-told .given .1);
+      count = λ f. read-file k .taken .long;
+    }
 
 pub judge-file-spec : {M : Type 1} → statement M
 judge-file-spec =

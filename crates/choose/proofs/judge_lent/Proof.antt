@@ -1,3 +1,4 @@
+-- The sheet's judgement, then three tests for 5: each return is one rule that refuses or passes.
 use borrow.Author.Needs.{needs}
 use Rattle.chain.proofs.Rules.{judging}
 use Rattle.choose.specs.Choose.{chooseRule}

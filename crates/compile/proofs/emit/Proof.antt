@@ -61,7 +61,8 @@ same-length-6 : tie.Need-same-length-6
 same-length-6 c = search needs
 
 returns-3 : tie.Need-returns-3
-returns-3 c = emitted (is-partition _ _ _ _ _ (λ e. omega arith) (λ e. omega arith)) (c .before .before .before .before .emit3 .ensures)
+returns-3 c =
+    emitted (is-partition _ _ _ _ _ (λ e. omega arith) (λ e. omega arith)) (c .before .before .before .before .emit3 .ensures)
 
 pub emit-spec : {M : Type 1} → statement M
 emit-spec =

@@ -1,3 +1,4 @@
+-- The chain compiled stands at the front of its slices, so write is given exactly it.
 use borrow.Author.Needs.{needs}
 use mathlib.Core.Path.{_≡_, sym, ap, _∙_}
 use mathlib.Core.List.{List}

@@ -1,3 +1,4 @@
+-- All digits but the last are those of the tenth, written by the call before; the last is the remainder.
 use borrow.Author.Needs.{needs}
 use Prim.Native.Nat.{ℕ, _<_}
 use native.Mathlib.Omega.{arith}

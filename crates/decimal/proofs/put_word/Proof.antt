@@ -1,3 +1,4 @@
+-- After i turns the first i bytes of the word stand in the text.
 use borrow.Author.Needs.{needs}
 use mathlib.Core.Path.{_≡_, refl}
 use Prim.Native.Nat.{_+_, _-_, _≤_}

@@ -1,3 +1,4 @@
+-- Each return is one case of what was parsed.
 use borrow.Author.Needs.{needs}
 use Rattle.desk.proofs.Taking.{few, enough, unreadable, too-large, no-room}
 use Rattle.desk.proofs.sheet_count.Statement.{statement}

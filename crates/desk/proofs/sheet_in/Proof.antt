@@ -1,3 +1,4 @@
+-- A text that is not too long comes to what parsing it gives; any other to nothing.
 use borrow.Author.Needs.{needs}
 use denote.Ref.{now}
 use Rattle.desk.proofs.Taking.{sheet-long, sheet-read}

@@ -1,3 +1,4 @@
+-- In each range of the table the number lies between two powers of two, and so has the width that stands there.
 use native.Mathlib.Omega.{arith}
 use Rattle.digits.proofs.Count.{bit-length-is}
 use Rattle.digits.proofs.bit_length.Statement.{statement}

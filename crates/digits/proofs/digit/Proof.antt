@@ -1,3 +1,4 @@
+-- A shift divides by a power of two, and the remainder is the digit.
 use borrow.Author.Needs.{needs}
 use lib.Pow.{pow-pos}
 use Rattle.digits.proofs.digit.Statement.{statement}

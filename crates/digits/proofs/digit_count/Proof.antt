@@ -1,3 +1,4 @@
+-- A word without its leading zeros has the bits that are counted, and digits of k bits are those bits cut, rounded up.
 use borrow.Author.Needs.{needs}
 use native.Mathlib.Omega.{arith}
 use lib.Count.{leading-le}

@@ -1,3 +1,4 @@
+-- 1 shifted by e places is 2 to the e.
 use borrow.Author.Needs.{needs}
 use Rattle.digits.proofs.Words.{power-word}
 use Rattle.digits.proofs.power.Statement.{statement}

@@ -1,3 +1,4 @@
+-- The two cases of the definition are the two returns.
 use borrow.Author.Needs.{needs}
 use Rattle.digits.proofs.Range.{sign-one}
 use Rattle.digits.proofs.sign.Statement.{statement}

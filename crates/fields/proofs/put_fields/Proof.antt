@@ -1,3 +1,4 @@
+-- The loop keeps `Putting`: what the buffer is to become does not change while fields move from the list into it.
 use mathlib.Core.Path.{_≡_, refl, _∙_}
 use Prim.Native.Nat.{_+_, _-_, _*_}
 use lib.ListN.{length, take}

@@ -1,4 +1,4 @@
--- `fields::read_fields` meets its contract: a walk of its MIR, by hand. The reader is taken apart, `take_fields` is called on its bytes and its cursor, and the reader past the fields is made of the same bytes and the cursor handed back.
+-- A walk by hand: the reader is taken apart for `take_fields`, and a reader of the same bytes is made at the cursor handed back.
 -- All that the proof knows of `take_fields` is that it meets its contract. What `out` owns is passed on to it as it came, and not needed after.
 -- Assumes nothing.
 use mathlib.Core.Path.{_≡_, refl, ap}
@@ -45,7 +45,7 @@ use Rattle.bits.proofs.Cursor as P
 use Rattle.bits.proofs.Cursor.Laws as P′
 use Rattle.bits.proofs.BitReader as B
 use Rattle.bits.proofs.BitReader.Laws as B′
-use Rattle.fields.specs.Fields.{RoomAll, TakenAll}
+use Rattle.fields.specs.Inner.{FieldsRoom, FieldsTaken}
 use Rattle.fields.proofs.take_fields as take
 use Rattle.fields.proofs.take_fields.Symbol as take-def
 use Rattle.fields.proofs.take_fields.Symbol.{name as #fields·take-fields}
@@ -111,14 +111,14 @@ module _ {M : Type 1} (𝓤 : URA M) (H : Heap 𝓤) (A : Atoms 𝓤) (W : Given
   abbrev to-take : Take 𝓤 H A mem run .Ghost
   to-take = (((κ, (κ₁, tt)), (q, (q₁, tt)), tt, passed, (bytesVal s ∷ [], (P′.lowered (record { at = at }) ∷ [], (vint w64 w ∷ [], (vint w64 n ∷ [], (vx ∷ [], tt)))))), tt)
 
-  asks-take : RoomAll (now s) at w n (now x) → ent 𝓤 (⋆ 𝓤 H A (Tokens ∷ ‵ Out ∷ ‵ (Bytes κ s) ∷ [])) (Take 𝓤 H A mem run .pre to-take)
+  asks-take : FieldsRoom (now s) at w n (now x) → ent 𝓤 (⋆ 𝓤 H A (Tokens ∷ ‵ Out ∷ ‵ (Bytes κ s) ∷ [])) (Take 𝓤 H A mem run .pre to-take)
   asks-take room =
       qed W (Tokens ∷ ‵ Out ∷ ‵ (Bytes κ s) ∷ []) ∵ says ! room $ frame ! $ nothing ! $ move ! (1 ∷ 0 ∷ []) $ fjoin ! $
       owned ! usize (Is usize) (uint-makes 𝓤 H A W w64) n _ (refl, n-fits) $ fjoin ! $ owned ! usize (Is usize) (uint-makes 𝓤 H A W w64) w _ (refl, w-fits) $ fjoin ! $
       has-cursor ! at at-fits $ fjoin ! $ move ! (1 ∷ 0 ∷ []) $ fjoin ! $ done !
 
   abbrev Found : Cursor → List ℕ → Type 0
-  Found c new = TakenAll (now s) at w n (now x) new (c .at)
+  Found c new = FieldsTaken (now s) at w n (now x) new (c .at)
 
   exits : (c : Cursor) (new : List ℕ) → Found c new → length new ≡ length (x .now) → c .at < 2 ^ 64
       → ent 𝓤 (⋆ 𝓤 H A (Tokens ∷ ‵ (finally u32 (x .name) new) ∷ ‵ (Bytes κ s) ∷ [])) (Post (B′.lowered (readerAt s (c .at))))
@@ -128,7 +128,7 @@ module _ {M : Type 1} (𝓤 : URA M) (H : Heap 𝓤) (A : Atoms 𝓤) (W : Given
       frame ! $ nothing ! $ move ! (1 ∷ 0 ∷ []) $ fjoin ! $ nothing ! $ fjoin ! $ nothing ! $ fjoin ! $ nothing ! $ fjoin ! $ frame ! $ by ! (reader-own 𝓤 H A κ s (c .at) W fits)
 
   module _ (C : Calls 𝓤 H) (Λ : Loops 𝓤 H) (fm : FmC 𝓤 H (W .laws) C) (known : Triple 𝓤 (C #fields·take-fields) (Take 𝓤 H A mem run)) where
-    walk : Holds (hasTy (B′.mir (named 0)) mach) × WT mach → Room u32 (length (x .now)) → RoomAll (now s) at w n (now x)
+    walk : Holds (hasTy (B′.mir (named 0)) mach) × WT mach → Room u32 (length (x .now)) → FieldsRoom (now s) at w n (now x)
         → ent 𝓤 (onEntry 𝓤 H A this.signature (κ, (κ₁, tt)) (q, (q₁, tt)) a vs) (WpFn 𝓤 H C Λ code.function args Post)
     walk wt g room =
         qed W (raw (onEntry 𝓤 H A this.signature (κ, (κ₁, tt)) (q, (q₁, tt)) a vs) ∷ []) ∵ use1 W (Tokens ⊛ ‵ Out ⊛ ‵ (Bytes κ s) ⊛ ‵ (Bytes κ s)) apart $ enter ! C Λ code.function args _ $

@@ -1,3 +1,4 @@
+-- The loop keeps `Taking`: what the cells are to become does not change while fields move from the file into them.
 use mathlib.Core.Path.{_≡_, refl}
 use Prim.Native.Nat.{_+_, _-_, _*_}
 use native.Mathlib.Omega.{arith}

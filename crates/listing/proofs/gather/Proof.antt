@@ -1,3 +1,4 @@
+-- The outputs' values over the front of the column's part of the table are laid from its first cell on.
 use borrow.Author.Needs.{needs}
 use Rattle.listing.proofs.Tables.{over-part}
 use Rattle.listing.proofs.gather.Statement.{statement}

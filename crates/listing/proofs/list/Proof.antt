@@ -1,3 +1,4 @@
+-- The verdict on the file decides which text is written over the front.
 use borrow.Author.Needs.{needs}
 use Rattle.listing.proofs.Listed.{columns-few, payslips-few, steps-few, listed-refused, listed-chain}
 use Rattle.listing.proofs.list.Statement.{statement}

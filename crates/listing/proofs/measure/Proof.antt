@@ -1,3 +1,4 @@
+-- After c columns the earliest place of 13 is that of the first c, and as long as there is none the table holds their amounts.
 use borrow.Author.Needs.{needs}
 use mathlib.Core.Path.{_≡_, refl, _∙_}
 use Prim.Native.Nat.{_+_, _-_, _≤_}

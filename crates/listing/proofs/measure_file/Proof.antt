@@ -1,3 +1,4 @@
+-- The length, what reading finds and what the columns' sums find, in this order, are the listing's rule.
 use borrow.Author.Needs.{needs}
 use mathlib.Core.Path.{sym, ap}
 use native.Mathlib.Omega.{arith}
@@ -5,7 +6,8 @@ use lib.Seq.{length-take-le}
 use denote.Ref.{now}
 use Rattle.chain.specs.Judgement.{verdictOf}
 use Rattle.chain.proofs.Rules.{told-refused, told-fine}
-use Rattle.file.proofs.Good.{Good, read-refused, read-good}
+use Rattle.layout.specs.Layout.{edition1}
+use Rattle.reading.proofs.Good.{Good, read-refused, read-good}
 use Rattle.listing.proofs.Judged.{listing-refused, too-long, unread, columns-few, steps-fine, outputs-fine, outputs-few, room, measured, listing-done}
 use Rattle.listing.proofs.measure_file.Statement.{statement}
 use Rattle.listing.proofs.measure_file.Tie as tie
@@ -25,13 +27,13 @@ enum-known-p c = search needs
 -- what the file that was read tells
 read-file : (c : tie.After-p)
     → let r = c .before .before .before .before .before .before in
-    Good (now (r .before .before .before .before .before .before .before .before .before .args .bytes)) (r .read .last .1 .0) (r .read .last .1 .1 .0) (c .p .given .0 .0) (c .p .given .0 .1 .0) (c .p .given .0 .1 .1 .0)
+    Good edition1 (now (r .before .before .before .before .before .before .before .before .before .args .bytes)) (r .read .last .1 .0) (r .read .last .1 .1 .0) (c .p .given .0 .0) (c .p .given .0 .1 .0) (c .p .given .0 .1 .1 .0)
 read-file c =
     let r = c .before .before .before .before .before .before in
     let s = r .before .before .before .before .before .before .before .before .before in
     let a = s .args in
     let e = r .read .ensures in
-    read-good (now (a .bytes)) (now (a .steps)) (now (a .outputs)) (omega (arith, s .pre .0)) (omega (arith, s .pre .1)) _ (e .0) _ _ _ (c .p .given .1) _ _ (e .1 .0) (e .1 .1)
+    read-good edition1 (now (a .bytes)) (now (a .steps)) (now (a .outputs)) (omega (arith, s .pre .0)) (omega (arith, s .pre .1)) _ (e .0) _ _ _ (c .p .given .1) _ _ (e .1 .0) (e .1 .1)
 
 mul-measure : tie.Need-mul-measure
 mul-measure c = omega (arith, read-file (c .before) .taken .few)
@@ -75,7 +77,7 @@ returns-2 c =
     let a = s .args in
     listing-refused _ _ _ _
     (unread _ (r .before .before .before .if1 .left) _ _
-    (read-refused (now (a .bytes)) (now (a .steps)) (now (a .outputs)) (omega (arith, s .pre .0)) (omega (arith, s .pre .1)) _ (r .read .ensures .0) _ _ (n .number .given .1)))
+    (read-refused edition1 (now (a .bytes)) (now (a .steps)) (now (a .outputs)) (omega (arith, s .pre .0)) (omega (arith, s .pre .1)) _ (r .read .ensures .0) _ _ (n .number .given .1)))
 
 same-length-3 : tie.Need-same-length-3
 same-length-3 c = search needs

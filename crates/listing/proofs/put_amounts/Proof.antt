@@ -1,3 +1,4 @@
+-- After c turns the amounts of the first c columns stand in the text, none longer than the longest field.
 use borrow.Author.Needs.{needs}
 use mathlib.Core.Path.{_≡_, refl, _∙_}
 use Prim.Native.Nat.{_+_, _*_, _-_, _^_, _≤_, _<_}

@@ -1,3 +1,4 @@
+-- The first line and the payslips' lines are the chain's text.
 use borrow.Author.Needs.{needs}
 use Rattle.listing.specs.Inner.{amountIn}
 use Rattle.listing.proofs.Lines.{put-listing}

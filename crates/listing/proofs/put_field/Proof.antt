@@ -1,3 +1,4 @@
+-- A blank, then the digits.
 use borrow.Author.Needs.{needs}
 use mathlib.Core.Path.{_∙_}
 use native.Mathlib.Omega.{arith}

@@ -1,3 +1,4 @@
+-- The payslip's number, its amounts and the newline, one part after the other, are its line.
 use borrow.Author.Needs.{needs}
 use Prim.Native.Nat.{_+_, _≤_}
 use native.Mathlib.Omega.{arith}

@@ -1,3 +1,4 @@
+-- After i turns the lines of the first i payslips stand in the text, none longer than the longest line.
 use borrow.Author.Needs.{needs}
 use mathlib.Core.Path.{_≡_, refl, _∙_}
 use Prim.Native.Nat.{_+_, _*_, _-_, _≤_}

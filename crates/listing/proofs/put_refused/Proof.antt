@@ -1,3 +1,4 @@
+-- The word, the number and the newline are the one line of a refusal.
 use borrow.Author.Needs.{needs}
 use Prim.Native.Nat.{_≤_}
 use native.Mathlib.Omega.{arith}

@@ -1,3 +1,4 @@
+-- Three numbers with blanks between them and a newline are the first line, which has room.
 use borrow.Author.Needs.{needs}
 use Prim.Native.Nat.{_≤_}
 use native.Mathlib.Omega.{arith}

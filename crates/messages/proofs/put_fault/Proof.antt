@@ -1,3 +1,4 @@
+-- Each case of what was parsed has its own words.
 use borrow.Author.Needs.{needs}
 use Rattle.messages.proofs.Messages.{put-no-fault, put-unreadable, put-large, put-full}
 use Rattle.messages.proofs.put_fault.Statement.{statement}

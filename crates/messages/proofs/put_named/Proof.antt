@@ -1,3 +1,4 @@
+-- The words, then the digits, of which there are at most twenty.
 use borrow.Author.Needs.{needs}
 use native.Mathlib.Omega.{arith}
 use Rattle.decimal.proofs.Decimal.{decimal-short}

@@ -1,3 +1,4 @@
+-- No place is no text; any other is named.
 use borrow.Author.Needs.{needs}
 use native.Mathlib.Omega.{arith}
 use Rattle.messages.proofs.Messages.{put-no-place, put-some-place}

@@ -1,3 +1,4 @@
+-- A colon, the words and a newline, one part after the other.
 use borrow.Author.Needs.{needs}
 use mathlib.Core.Path.{_∙_}
 use lib.ListN.{length-set}

@@ -1,3 +1,4 @@
+-- Number, place and phrase, one part after the other, are the line of a refusal.
 use borrow.Author.Needs.{needs}
 use native.Mathlib.Omega.{arith}
 use Rattle.messages.specs.Messages.{refusalText}

@@ -1,3 +1,4 @@
+-- Line, column and reason, one part after the other, are the line for a place.
 use borrow.Author.Needs.{needs}
 use native.Mathlib.Omega.{arith}
 use Rattle.messages.specs.Messages.{spotText}

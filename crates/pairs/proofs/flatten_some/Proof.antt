@@ -1,5 +1,4 @@
--- `pairs::flatten_some` meets its contract: a walk of its MIR, by hand, with a loop. `fitting` is called first, and all that is known of it is its contract. Both borrows are
--- opened once, before the loop, and closed once, after it; between the two the elements of `steps` are held at some share, and those of `cells` with the steps passed over their front.
+-- A walk by hand, with a loop: i steps are passed and stand over the front of the cells; both borrows are opened before the loop and closed after it.
 --     At i         what is held at the loop's head: i steps are passed.        more, ends      a turn that passes one step, and the turn that leaves the loop, with the rest of the body
 -- Assumes nothing.
 use borrow.Author.Tests.{ltb-true, ltb-false}

@@ -1,4 +1,4 @@
--- `pairs::run_pairs` meets its contract: a walk of its MIR, by hand. A local array is lent as a `&mut` slice to `flatten_some`, and as a `&` slice to `run_front` (`LocalArray.antt`).
+-- A walk by hand: a local array is lent to `flatten_some` and then to `run_front`, and what the front answers is what the whole would answer (`TooLong`).
 -- What `outputs`, `m`, `bases`, `values` and `figures` own is passed on to `run_front` as it came, and not needed after. All that the proof knows of the two callees is their contracts.
 -- Assumes nothing.
 use mathlib.Core.Path.{_≡_, refl, sym, ap, _∙_}

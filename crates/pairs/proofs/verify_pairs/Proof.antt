@@ -1,4 +1,4 @@
--- `pairs::verify_pairs` meets its contract: a walk of its MIR, by hand. A local array is lent as a `&mut` slice to `flatten_some`, and as a `&` slice to `verify_front` (`LocalArray.antt`).
+-- A walk by hand: a local array is lent to `flatten_some` and then to `verify_front`, and what the front answers is what the whole would answer (`TooLong`).
 -- What `outputs`, `amounts` and `scratch` own is passed on to `verify_front` as it came, and not needed after. All that the proof knows of the two callees is their contracts.
 -- Assumes nothing.
 use mathlib.Core.Path.{_≡_, refl, sym, ap, _∙_}

@@ -1,3 +1,4 @@
+-- Five calls in a row, three of them here: what each told its caller is handed to the one law of `Whole` for the return that follows.
 use borrow.Author.Needs.{needs}
 use mathlib.Core.Path.{_≡_, sym, ap, _∙_}
 use Prim.Native.Nat.{ℕ, _≤_}
@@ -10,7 +11,8 @@ use Rattle.chain.specs.Chain.{mostAmount, pairs}
 use Rattle.chain.proofs.Pairs.{pairs-flat}
 use Rattle.compile.specs.Compile.{count}
 use Rattle.compile.proofs.Filled.{Filled, filled, compile-stops, compile-passes, compile-counts}
-use Rattle.file.proofs.Taken.{Taken}
+use Rattle.reading.proofs.Told.{ChainTaken}
+use Rattle.layout.specs.Layout.{edition1}
 use Rattle.path.specs.Path.{Lent, lent, written, compiles}
 use Rattle.path.proofs.Whole.{not-compiled, not-dispatched, read-alone, not-received, all-done}
 use Rattle.path.proofs.sheet_to_figures.Statement.{statement}
@@ -32,52 +34,70 @@ dispatching c = c .before .before .before .before .before .before .before .befor
 abbrev columns-before : tie.After-receive → tie.After-columns
 columns-before e = e .before .before .before .before .before .before .before
 
+abbrev dispatched-by : tie.After-receive → tie.After-dispatch
+dispatched-by e = dispatching (columns-before e)
+
+abbrev compiled-by : tie.After-receive → tie.After-compile
+compiled-by e = compiling (compiled-before (dispatched-by e))
+
 -- the slices as they were lent
 abbrev slices : tie.Start → Lent
 slices s =
-    lent (now (s .args .steps)) (now (s .args .outputs)) (now (s .args .bytes)) (now (s .args .received)) (now (s .args .results)) (now (s .args .scratch)) (now (s .args .values)) (now (s .args .figures))
+    lent (now (s .args .steps)) (now (s .args .outputs)) (now (s .args .bytes)) (now (s .args .received)) (now (s .args .results))
+    (now (s .args .scratch)) (now (s .args .values)) (now (s .args .figures))
 
 -- each amount is a number of 32 bits
 low : (r : tie.After-compile) (j : ℕ) → getD (now (start r .args .amounts)) j 0 ≤ mostAmount
-low r j = omega (arith, r .before .before .before .before .before .before .before .before .before .before .before .before .shared-slice-known .given j)
+low r j =
+    let known = r .before .before .before .before .before .before .before .before .before .before .before .before in
+    omega (arith, known .shared-slice-known .given j)
 
 -- compile found nothing, and told the count
-accepted-at : (c : tie.After-compiled) → let s = start (compiling c) in fine ≡ compiles (s .args .p) (s .args .q) (now (s .args .amounts)) (s .args .method) (s .args .k) (slices s)
+accepted-at : (c : tie.After-compiled) → let s = start (compiling c) in
+    fine ≡ compiles (s .args .p) (s .args .q) (now (s .args .amounts)) (s .args .method) (s .args .k) (slices s)
 accepted-at c =
     let r = compiling c in
     let s = start r in
-    compile-passes (s .args .p) (s .args .q) (now (s .args .amounts)) (s .args .method) (s .args .k) (now (s .args .steps)) (now (s .args .outputs)) _ (r .compile .ensures .0) _ (c .compiled .given .1)
+    compile-passes (s .args .p) (s .args .q) (now (s .args .amounts)) (s .args .method) (s .args .k) (now (s .args .steps))
+    (now (s .args .outputs)) _ (r .compile .ensures .0) _ (c .compiled .given .1)
 
-counted-at : (c : tie.After-compiled) → let s = start (compiling c) in c .compiled .given .0 .0 ≡ count (s .args .p) (s .args .q) (now (s .args .amounts)) (s .args .method) (s .args .k)
+counted-at : (c : tie.After-compiled) → let s = start (compiling c) in
+    c .compiled .given .0 .0 ≡ count (s .args .p) (s .args .q) (now (s .args .amounts)) (s .args .method) (s .args .k)
 counted-at c =
     let r = compiling c in
     let s = start r in
-    compile-counts (s .args .p) (s .args .q) (now (s .args .amounts)) (s .args .method) (s .args .k) (now (s .args .steps)) (now (s .args .outputs)) _ (r .compile .ensures .0) _ (c .compiled .given .1)
+    compile-counts (s .args .p) (s .args .q) (now (s .args .amounts)) (s .args .method) (s .args .k) (now (s .args .steps))
+    (now (s .args .outputs)) _ (r .compile .ensures .0) _ (c .compiled .given .1)
 
 -- the chain that compile filled
 filled-at : (c : tie.After-compiled)
     → let r = compiling c in
     let s = start r in
-    Filled (s .args .p) (s .args .q) (now (s .args .amounts)) (s .args .method) (s .args .k) (r .compile .last .1 .1 .1 .1 .1 .0) (r .compile .last .1 .1 .1 .1 .1 .1 .0) (c .compiled .given .0 .0)
+    Filled (s .args .p) (s .args .q) (now (s .args .amounts)) (s .args .method) (s .args .k)
+    (r .compile .last .1 .1 .1 .1 .1 .0) (r .compile .last .1 .1 .1 .1 .1 .1 .0) (c .compiled .given .0 .0)
 filled-at c =
     let r = compiling c in
     let s = start r in
-    filled (s .args .p) (s .args .q) (now (s .args .amounts)) (s .args .method) (s .args .k) (now (s .args .steps)) (now (s .args .outputs)) _ (r .compile .ensures .0) _ (c .compiled .given .1) (low r) _ _ (r .compile .ensures .1 .0) (r .compile .ensures .1 .1)
+    filled (s .args .p) (s .args .q) (now (s .args .amounts)) (s .args .method) (s .args .k) (now (s .args .steps))
+    (now (s .args .outputs)) _ (r .compile .ensures .0) _ (c .compiled .given .1) (low r) _ _ (r .compile .ensures .1 .0) (r .compile .ensures .1 .1)
 
 -- the chain that read filled
 taken-at : (c : tie.After-columns)
     → let d = dispatching c in
     let s = start (compiling (compiled-before d)) in
-    Taken (written (s .args .p) (s .args .q) (now (s .args .amounts)) (s .args .method) (s .args .k)) (d .dispatch .last .1 .1 .1 .1 .0) (d .dispatch .last .1 .1 .1 .1 .1 .0) (c .columns .given .0 .0) (c .columns .given .0 .1 .0) (c .columns .given .0 .1 .1 .0)
+    let g = c .columns .given .0 in
+    ChainTaken edition1 (written (s .args .p) (s .args .q) (now (s .args .amounts)) (s .args .method) (s .args .k))
+    (d .dispatch .last .1 .1 .1 .1 .0) (d .dispatch .last .1 .1 .1 .1 .1 .0) (g .0) (g .1 .0) (g .1 .1 .0)
 taken-at c =
     let d = dispatching c in
     let n = compiled-before d in
     let r = compiling n in
     let s = start r in
     let f = filled-at n in
-    read-alone (s .args .p) (s .args .q) (now (s .args .amounts)) (s .args .method) (s .args .k) (low r) (slices s) (s .args .m) (now (s .args .bases)) _ _ (r .compile .ensures .1 .0) (r .compile .ensures .1 .1)
+    read-alone (s .args .p) (s .args .q) (now (s .args .amounts)) (s .args .method) (s .args .k) (low r) (slices s) (s .args .m)
+    (now (s .args .bases)) _ _ (r .compile .ensures .1 .0) (r .compile .ensures .1 .1)
     (accepted-at n)
-    _ _ (f .steps-front) (f .outputs-front) _ (d .dispatch .ensures .0) _ _ _ (d .dispatch .ensures .1 .0) (d .dispatch .ensures .1 .1 .0) (d .dispatch .ensures .1 .1 .1)
+    _ _ (f .steps-front) (f .outputs-front) _ _ _ _ (d .dispatch .ensures)
     _ _ _ (c .columns .given .1)
 
 compile-requires : tie.Need-compile-requires
@@ -147,8 +167,10 @@ returns : tie.Need-returns
 returns c =
     let r = c .before .before .before .before .before .before .before in
     let s = start r in
-    not-compiled (s .args .p) (s .args .q) (now (s .args .amounts)) (s .args .method) (s .args .k) (low r) (slices s) (s .args .m) (now (s .args .bases)) _ _ (r .compile .ensures .1 .0) (r .compile .ensures .1 .1) _ _
-    (compile-stops (s .args .p) (s .args .q) (now (s .args .amounts)) (s .args .method) (s .args .k) (now (s .args .steps)) (now (s .args .outputs)) _ (r .compile .ensures .0) _ _ (c .before .number .given .1))
+    not-compiled (s .args .p) (s .args .q) (now (s .args .amounts)) (s .args .method) (s .args .k) (low r) (slices s) (s .args .m)
+    (now (s .args .bases)) _ _ (r .compile .ensures .1 .0) (r .compile .ensures .1 .1) _ _
+    (compile-stops (s .args .p) (s .args .q) (now (s .args .amounts)) (s .args .method) (s .args .k) (now (s .args .steps))
+    (now (s .args .outputs)) _ (r .compile .ensures .0) _ _ (c .before .number .given .1))
 
 same-length-3 : tie.Need-same-length-3
 same-length-3 c = search needs
@@ -172,25 +194,26 @@ returns-2 c =
     let r = compiling n in
     let s = start r in
     let f = filled-at n in
-    not-dispatched (s .args .p) (s .args .q) (now (s .args .amounts)) (s .args .method) (s .args .k) (low r) (slices s) (s .args .m) (now (s .args .bases)) _ _ (r .compile .ensures .1 .0) (r .compile .ensures .1 .1)
+    not-dispatched (s .args .p) (s .args .q) (now (s .args .amounts)) (s .args .method) (s .args .k) (low r) (slices s) (s .args .m)
+    (now (s .args .bases)) _ _ (r .compile .ensures .1 .0) (r .compile .ensures .1 .1)
     (accepted-at n)
-    _ _ (f .steps-front) (f .outputs-front) _ (d .dispatch .ensures .0) _ _ _ (d .dispatch .ensures .1 .0) (d .dispatch .ensures .1 .1 .0) (d .dispatch .ensures .1 .1 .1)
+    _ _ (f .steps-front) (f .outputs-front) _ _ _ _ (d .dispatch .ensures)
     _ _ (c .before .number2 .given .1)
 
 same-length-8 : tie.Need-same-length-8
-same-length-8 c = compiling (compiled-before (dispatching (columns-before (c .before .before .before .before .before .before .before .before .before)))) .compile .kept .1 .1 .1 .1 .1 .0
+same-length-8 c = compiled-by (c .before .before .before .before .before .before .before .before .before) .compile .kept .1 .1 .1 .1 .1 .0
 
 same-length-9 : tie.Need-same-length-9
-same-length-9 c = compiling (compiled-before (dispatching (columns-before (c .before .before .before .before .before .before .before .before .before)))) .compile .kept .1 .1 .1 .1 .1 .1 .0
+same-length-9 c = compiled-by (c .before .before .before .before .before .before .before .before .before) .compile .kept .1 .1 .1 .1 .1 .1 .0
 
 same-length-10 : tie.Need-same-length-10
-same-length-10 c = dispatching (columns-before (c .before .before .before .before .before .before .before .before .before)) .dispatch .kept .1 .1 .1 .0
+same-length-10 c = dispatched-by (c .before .before .before .before .before .before .before .before .before) .dispatch .kept .1 .1 .1 .0
 
 same-length-11 : tie.Need-same-length-11
-same-length-11 c = dispatching (columns-before (c .before .before .before .before .before .before .before .before .before)) .dispatch .kept .1 .1 .1 .1 .0
+same-length-11 c = dispatched-by (c .before .before .before .before .before .before .before .before .before) .dispatch .kept .1 .1 .1 .1 .0
 
 same-length-12 : tie.Need-same-length-12
-same-length-12 c = dispatching (columns-before (c .before .before .before .before .before .before .before .before .before)) .dispatch .kept .1 .1 .1 .1 .1 .0
+same-length-12 c = dispatched-by (c .before .before .before .before .before .before .before .before .before) .dispatch .kept .1 .1 .1 .1 .1 .0
 
 same-length-13 : tie.Need-same-length-13
 same-length-13 c = c .before .before .before .before .before .before .before .before .before .receive .kept .1 .1 .1 .1 .1 .1 .0
@@ -211,29 +234,30 @@ returns-3 c =
     let s = start r in
     let f = filled-at n in
     let t = taken-at w in
-    not-received (s .args .p) (s .args .q) (now (s .args .amounts)) (s .args .method) (s .args .k) (low r) (slices s) (s .args .m) (now (s .args .bases)) _ _ (r .compile .ensures .1 .0) (r .compile .ensures .1 .1)
+    not-received (s .args .p) (s .args .q) (now (s .args .amounts)) (s .args .method) (s .args .k) (low r) (slices s) (s .args .m)
+    (now (s .args .bases)) _ _ (r .compile .ensures .1 .0) (r .compile .ensures .1 .1)
     (accepted-at n)
-    _ _ (f .steps-front) (f .outputs-front) _ (d .dispatch .ensures .0) _ _ _ (d .dispatch .ensures .1 .0) (d .dispatch .ensures .1 .1 .0) (d .dispatch .ensures .1 .1 .1)
+    _ _ (f .steps-front) (f .outputs-front) _ _ _ _ (d .dispatch .ensures)
     _ _ _ (w .columns .given .1)
     _ (counted-at n)
     _ _ (t .columns) (ap pairs (t .steps-front) ∙ pairs-flat _) (t .outputs-front)
-    _ (e .receive .ensures .0) _ _ _ (e .receive .ensures .1 .0) (e .receive .ensures .1 .1 .0) (e .receive .ensures .1 .1 .1)
+    _ _ _ _ (e .receive .ensures)
     _ _ (c .before .number3 .given .1)
 
 same-length-16 : tie.Need-same-length-16
-same-length-16 c = compiling (compiled-before (dispatching (columns-before (c .before .before .before .before .before .before .before .before .before)))) .compile .kept .1 .1 .1 .1 .1 .0
+same-length-16 c = compiled-by (c .before .before .before .before .before .before .before .before .before) .compile .kept .1 .1 .1 .1 .1 .0
 
 same-length-17 : tie.Need-same-length-17
-same-length-17 c = compiling (compiled-before (dispatching (columns-before (c .before .before .before .before .before .before .before .before .before)))) .compile .kept .1 .1 .1 .1 .1 .1 .0
+same-length-17 c = compiled-by (c .before .before .before .before .before .before .before .before .before) .compile .kept .1 .1 .1 .1 .1 .1 .0
 
 same-length-18 : tie.Need-same-length-18
-same-length-18 c = dispatching (columns-before (c .before .before .before .before .before .before .before .before .before)) .dispatch .kept .1 .1 .1 .0
+same-length-18 c = dispatched-by (c .before .before .before .before .before .before .before .before .before) .dispatch .kept .1 .1 .1 .0
 
 same-length-19 : tie.Need-same-length-19
-same-length-19 c = dispatching (columns-before (c .before .before .before .before .before .before .before .before .before)) .dispatch .kept .1 .1 .1 .1 .0
+same-length-19 c = dispatched-by (c .before .before .before .before .before .before .before .before .before) .dispatch .kept .1 .1 .1 .1 .0
 
 same-length-20 : tie.Need-same-length-20
-same-length-20 c = dispatching (columns-before (c .before .before .before .before .before .before .before .before .before)) .dispatch .kept .1 .1 .1 .1 .1 .0
+same-length-20 c = dispatched-by (c .before .before .before .before .before .before .before .before .before) .dispatch .kept .1 .1 .1 .1 .1 .0
 
 same-length-21 : tie.Need-same-length-21
 same-length-21 c = c .before .before .before .before .before .before .before .before .before .receive .kept .1 .1 .1 .1 .1 .1 .0
@@ -254,13 +278,14 @@ returns-4 c =
     let s = start r in
     let f = filled-at n in
     let t = taken-at w in
-    all-done (s .args .p) (s .args .q) (now (s .args .amounts)) (s .args .method) (s .args .k) (low r) (slices s) (s .args .m) (now (s .args .bases)) _ _ (r .compile .ensures .1 .0) (r .compile .ensures .1 .1)
+    all-done (s .args .p) (s .args .q) (now (s .args .amounts)) (s .args .method) (s .args .k) (low r) (slices s) (s .args .m)
+    (now (s .args .bases)) _ _ (r .compile .ensures .1 .0) (r .compile .ensures .1 .1)
     (accepted-at n)
-    _ _ (f .steps-front) (f .outputs-front) _ (d .dispatch .ensures .0) _ _ _ (d .dispatch .ensures .1 .0) (d .dispatch .ensures .1 .1 .0) (d .dispatch .ensures .1 .1 .1)
+    _ _ (f .steps-front) (f .outputs-front) _ _ _ _ (d .dispatch .ensures)
     _ _ _ (w .columns .given .1)
     _ (counted-at n)
     _ _ (t .columns) (ap pairs (t .steps-front) ∙ pairs-flat _) (t .outputs-front)
-    _ (e .receive .ensures .0) _ _ _ (e .receive .ensures .1 .0) (e .receive .ensures .1 .1 .0) (e .receive .ensures .1 .1 .1)
+    _ _ _ _ (e .receive .ensures)
     _ (c .before .made .given .1)
 
 pub sheet-to-figures-spec : {M : Type 1} → statement M

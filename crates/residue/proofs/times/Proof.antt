@@ -1,3 +1,4 @@
+-- The product of two 32-bit numbers fits 64 bits, so its remainder is that of whole numbers.
 use borrow.Author.Needs.{needs}
 use native.Mathlib.Nat.{mod-lt, lt-trans}
 use Rattle.residue.proofs.Width.{product-fits}

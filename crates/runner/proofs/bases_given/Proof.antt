@@ -1,3 +1,4 @@
+-- After n turns n numbers stand in the slice.
 use borrow.Author.Needs.{needs}
 use mathlib.Core.Path.{_≡_, sym}
 use native.Mathlib.Omega.{arith}

@@ -1,3 +1,4 @@
+-- The index stays within the figures.
 use borrow.Author.Needs.{needs}
 use Prim.Native.Nat.{_-_, _≤_}
 use lib.ListN.{length}

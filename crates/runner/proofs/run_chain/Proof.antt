@@ -1,3 +1,4 @@
+-- The figures of a run that was made are as many as its outputs.
 use borrow.Author.Needs.{needs}
 use mathlib.Core.Path.{sym}
 use native.Mathlib.Omega.{arith}

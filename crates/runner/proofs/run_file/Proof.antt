@@ -1,9 +1,11 @@
+-- The chain read stands at the front of its slices, so the run is given exactly it.
 use borrow.Author.Needs.{needs}
 use mathlib.Core.Path.{sym}
 use native.Mathlib.Omega.{arith}
 use lib.Seq.{length-take-le}
 use denote.Ref.{now}
-use Rattle.file.proofs.Taken.{Taken, taken}
+use Rattle.reading.proofs.Told.{ChainTaken, taken}
+use Rattle.layout.specs.Layout.{edition1}
 use Rattle.runner.proofs.run_file.Statement.{statement}
 use Rattle.runner.proofs.run_file.Tie as tie
 
@@ -23,11 +25,11 @@ enum-known-p c = search needs
 taken-at : (c : tie.After-p)
     → let r = c .before .before .before .before .before .before in
     let a = r .before .before .before .before .before .before .before .args in
-    Taken (now (a .bytes)) (r .read .last .1 .0) (r .read .last .1 .1 .0) (c .p .given .0 .0) (c .p .given .0 .1 .0) (c .p .given .0 .1 .1 .0)
+    ChainTaken edition1 (now (a .bytes)) (r .read .last .1 .0) (r .read .last .1 .1 .0) (c .p .given .0 .0) (c .p .given .0 .1 .0) (c .p .given .0 .1 .1 .0)
 taken-at c =
     let r = c .before .before .before .before .before .before in
     let a = r .before .before .before .before .before .before .before .args in
-    taken (now (a .bytes)) (now (a .steps)) (now (a .outputs)) _ (r .read .ensures .0) _ _ _ (c .p .given .1) _ _ (r .read .ensures .1 .0) (r .read .ensures .1 .1)
+    taken edition1 (now (a .bytes)) (now (a .steps)) (now (a .outputs)) _ (r .read .ensures .0) _ _ _ (c .p .given .1) _ _ (r .read .ensures .1 .0) (r .read .ensures .1 .1)
 
 mul-run-chain : tie.Need-mul-run-chain
 mul-run-chain c = omega (arith, taken-at (c .before) .few)

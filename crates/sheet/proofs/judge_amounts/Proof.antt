@@ -1,3 +1,4 @@
+-- Each return is the one test of the rule, decided; the product fits, since both numbers keep to their limits.
 use native.Mathlib.Omega.{arith}
 use Rattle.chain.proofs.Rules.{judging}
 use Rattle.sheet.specs.Sheet.{amountsRule}

@@ -1,3 +1,4 @@
+-- The verdicts of the two functions in order are the rule's.
 use borrow.Author.Needs.{needs}
 use Rattle.chain.proofs.Rules.{judging}
 use Rattle.chain.proofs.Sizes.{columns-low, payslips-low}

@@ -1,3 +1,4 @@
+-- The length that the listing returns is what is told.
 use borrow.Author.Needs.{needs}
 use mathlib.Core.Path.{ap, _∙_}
 use mathlib.Core.List.{[], _∷_}

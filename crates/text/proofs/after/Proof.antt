@@ -1,3 +1,4 @@
+-- Each return is the one test of the definition, decided.
 use borrow.Author.Needs.{needs}
 use Rattle.text.specs.Text.{afterByte}
 use Rattle.text.proofs.Reading.{choosing}

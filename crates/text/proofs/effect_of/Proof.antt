@@ -1,3 +1,4 @@
+-- Each return is one case of the kind and of the number in the making.
 use borrow.Author.Needs.{needs}
 use Rattle.text.proofs.Reading.{deciding}
 use Rattle.text.proofs.effect_of.Statement.{statement}

@@ -1,3 +1,4 @@
+-- The new number fits 64 bits, and the test on it is the definition.
 use borrow.Author.Needs.{needs}
 use Rattle.text.specs.Text.{grown}
 use Rattle.text.proofs.Reading.{choosing}

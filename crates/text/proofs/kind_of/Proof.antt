@@ -1,3 +1,4 @@
+-- Each return is one test of the definition, decided.
 use borrow.Author.Needs.{needs}
 use Rattle.text.specs.Text.{kindOf}
 use Rattle.text.proofs.Reading.{choosing}

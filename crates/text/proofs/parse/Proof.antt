@@ -1,3 +1,4 @@
+-- At each turn what the whole text comes to is what the bytes that are left come to, after the numbers that stand whole.
 use borrow.Author.Needs.{needs}
 use mathlib.Core.Path.{refl}
 use mathlib.Core.Logic.{⊎-elim}

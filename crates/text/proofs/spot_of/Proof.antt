@@ -1,3 +1,4 @@
+-- At each turn the spot of the place is reached from the spot at hand by the bytes that are left.
 use borrow.Author.Needs.{needs}
 use mathlib.Core.Path.{_≡_}
 use Prim.Native.Nat.{_+_, _-_, _≤_}

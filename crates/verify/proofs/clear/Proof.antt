@@ -1,3 +1,4 @@
+-- After i turns the first i cells are 0 and the rest is as it was.
 use borrow.Author.Needs.{needs}
 use mathlib.Core.Path.{_≡_}
 use mathlib.Core.List.{_++_}

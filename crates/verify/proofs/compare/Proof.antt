@@ -1,3 +1,4 @@
+-- At each turn the first payslip that differs is the first among those that are left.
 use borrow.Author.Needs.{needs}
 use mathlib.Core.Path.{_≡_}
 use Prim.Native.Nat.{_≤_, _-_}

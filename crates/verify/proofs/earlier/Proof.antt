@@ -1,3 +1,4 @@
+-- Each return is one case of the two places: none, one, or both.
 use Rattle.verify.proofs.Places.{placing}
 use Rattle.verify.proofs.earlier.Statement.{statement}
 use Rattle.verify.proofs.earlier.Tie as tie

@@ -1,3 +1,4 @@
+-- The verdict on the chain, then the one test of the scratch's length.
 use borrow.Author.Needs.{needs}
 use Rattle.chain.proofs.Rules.{judging}
 use Rattle.chain.proofs.Pairs.{length-pairs}

@@ -1,3 +1,4 @@
+-- Each case of the judgement is answered by its own case.
 use borrow.Author.Needs.{needs}
 use Rattle.verify.proofs.Answers.{told-passed, told-refusal}
 use Rattle.verify.proofs.tell.Statement.{statement}

@@ -1,4 +1,4 @@
--- `bits::BitReader::take` meets its contract: a walk of its MIR, by hand. The reader is taken apart, `Cursor::take` is called on its bytes and its cursor, and the reader past the field is made of the same bytes and the cursor handed back.
+-- A walk by hand: the reader is taken apart for `Cursor::take`, and a reader of the same bytes is made at the cursor handed back.
 -- All that the proof knows of `Cursor::take` is that it meets its contract. A `&[u8]` is Copy: what the bytes own goes to the callee once, and into the result once.
 -- Assumes nothing.
 use mathlib.Core.Path.{refl, ap}
@@ -38,7 +38,7 @@ use denote.Triple.Table.{entered, cited}
 use denote.Triple.Walked.{says, needs, Stays, stay-dropped, walkOf, goes-dropped, Walks, ends-at, walked, walk-meets}
 use denote.Triple.Clauses.{ensured, lasts}
 use denote.Exit.{yes}
-use Rattle.bits.specs.Cursor.{Room, Taken}
+use Rattle.bits.specs.Inner.{FieldRoom, FieldTaken}
 use Rattle.bits.specs.declared.Field.{Field}
 use Rattle.bits.specs.declared.ReadField.{ReadField}
 use Rattle.bits.proofs.Reader.{lifetime, Token, bytesVal, Bytes, readerAt, has-cursor, Reader, reader-own, reader-bytes}
@@ -98,13 +98,13 @@ module _ {M : Type 1} (𝓤 : URA M) (H : Heap 𝓤) (A : Atoms 𝓤) (W : Given
   abbrev to-take : Take 𝓤 H A mem run .Ghost
   to-take = (((κ, tt), (q, tt), tt, passed, (C′.lowered (record { at = at }) ∷ [], (bytesVal s ∷ [], (vint w64 w ∷ [], tt)))), tt)
 
-  asks-take : Room (now s) at w → ent 𝓤 (⋆ 𝓤 H A (Token κ q ∷ ‵ (Bytes κ s) ∷ [])) (Take 𝓤 H A mem run .pre to-take)
+  asks-take : FieldRoom (now s) at w → ent 𝓤 (⋆ 𝓤 H A (Token κ q ∷ ‵ (Bytes κ s) ∷ [])) (Take 𝓤 H A mem run .pre to-take)
   asks-take room =
       qed W (Token κ q ∷ ‵ (Bytes κ s) ∷ []) ∵ says ! room $ frame ! $ nothing ! $ owned ! usize (Is usize) (uint-makes 𝓤 H A W w64) w _ (refl, w-fits) $ fjoin ! $ move ! (1 ∷ 0 ∷ []) $ fjoin ! $
       has-cursor ! at at-fits $ fjoin ! $ done !
 
   abbrev Found : Field → Type 0
-  Found f = Taken (now s) at w (f .value) (f .next .at)
+  Found f = FieldTaken (now s) at w (f .value) (f .next .at)
 
   found : (f : Field) → ent 𝓤 (ensured 𝓤 H A take.ended (take.clauses 𝓤 H A mem run) (κ, tt) passed tt f) (fact 𝓤 (Found f))
   found f = exE 𝓤 _ (λ ws. snd∗ 𝓤 (sem 𝓤 H A (lasts take.ended (κ, tt) passed ws)) (fact 𝓤 (Found f)))
@@ -123,7 +123,7 @@ module _ {M : Type 1} (𝓤 : URA M) (H : Heap 𝓤) (A : Atoms 𝓤) (W : Given
       by ! (own-shut 𝓤 H A W (R.the-type (lifetime κ)) (R′.the-laws (lifetime κ)) (f .value, (readerAt s (f .next .at), tt)))
 
   module _ (C : Calls 𝓤 H) (Λ : Loops 𝓤 H) (fm : FmC 𝓤 H (W .laws) C) (known : Triple 𝓤 (C #bits·Cursor·take) (Take 𝓤 H A mem run)) where
-    walk : Holds (hasTy (B′.mir (named 0)) mach) × WT mach → Room (now s) at w → ent 𝓤 (onEntry 𝓤 H A this.signature (κ, tt) (q, tt) a vs) (WpFn 𝓤 H C Λ code.function (mach ∷ vint w64 w ∷ []) Post)
+    walk : Holds (hasTy (B′.mir (named 0)) mach) × WT mach → FieldRoom (now s) at w → ent 𝓤 (onEntry 𝓤 H A this.signature (κ, tt) (q, tt) a vs) (WpFn 𝓤 H C Λ code.function (mach ∷ vint w64 w ∷ []) Post)
     walk wt room =
         qed W (raw (onEntry 𝓤 H A this.signature (κ, tt) (q, tt) a vs) ∷ []) ∵ use1 W (Token κ q ⊛ ‵ (Bytes κ s) ⊛ ‵ (Bytes κ s)) apart $ enter ! C Λ code.function (mach ∷ vint w64 w ∷ []) _ $
         alloc1 ! (λ l₀. alloc1 ! (λ l₁. alloc1 ! (λ l₂. alloc1 ! (λ l₃. alloc1 ! (λ l₄. alloc1 ! (λ l₅. alloc1 ! (λ l₆. alloc1 ! (λ l₇. alloc0 ! $ params1 ! $

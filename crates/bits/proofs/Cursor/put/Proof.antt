@@ -1,3 +1,4 @@
+-- Shifts put the byte's head and the field side by side in one word, and `put-stored` says that its bytes are the buffer with the field added.
 use native.Mathlib.Omega.{arith}
 use Rattle.bits.proofs.Put.{head-low, put-stored}
 use borrow.Author.Needs.{needs}

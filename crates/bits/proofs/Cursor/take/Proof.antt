@@ -1,3 +1,4 @@
+-- The word gathered at the cursor's byte is shifted and cut to the field (`taken`).
 use Rattle.bits.proofs.Take.{one-shl-pos, taken}
 use borrow.Author.Needs.{needs}
 use Rattle.bits.proofs.Cursor.take.Statement.{statement}

@@ -1,0 +1,53 @@
+-- Inner vocabulary: what the cursor, the reader and their helpers ask of a buffer and leave in it. Nobody has to believe it to believe an entry point's promise.
+use mathlib.Core.Path.{_≡_}
+use mathlib.Core.Bool.{Bool}
+use mathlib.Core.List.{List, [], _∷_, _++_}
+use Prim.Native.Nat.{ℕ, zero, suc, _+_, _*_, _/_, _%_, _^_, _≤_, _<_}
+use lib.ListN.{length, take, getD}
+use Rattle.chain.specs.Written.{over}
+use Rattle.bits.specs.Bits.{value, bytesBits, pack, bytesFor, fieldAt}
+
+-- how wide a field may be, so that four bytes cover it from any bit on
+abbrev pub widestField : ℕ
+widestField = 25
+
+-- a field of w bits at position at is short enough, lies within the file, and its end is a usize
+pub record FieldRoom (file : List ℕ) (at w : ℕ) : Type 0 where
+  pub narrow : w ≤ widestField
+  pub within : at + w ≤ 8 * length file
+  pub fits : at + w < 2 ^ 64
+
+-- v is the field, and next the position past it
+pub record FieldTaken (file : List ℕ) (at w v next : ℕ) : Type 0 where
+  pub is : v ≡ fieldAt file at w
+  pub small : v < 2 ^ w
+  pub moved : next ≡ at + w
+
+-- a field of w bits, one at least, whose value is v, has room at position at
+pub record FieldFill (buf : List ℕ) (at w v : ℕ) : Type 0 where
+  pub room : FieldRoom buf at w
+  pub some : 0 < w
+  pub small : v < 2 ^ w
+
+-- a buffer that begins with bits, filled up to the byte, and goes on as it was
+abbrev pub filed : List Bool → List ℕ → List ℕ
+filed b old = over (pack (bytesFor (length b)) b) old
+
+-- w bits b were added to the bits before position at, with zero bits after them to the end of their last byte
+pub record FieldStored (old : List ℕ) (at w : ℕ) (b : List Bool) (new : List ℕ) (next : ℕ) : Type 0 where
+  pub is : new ≡ filed (take at (bytesBits old) ++ b) old
+  pub moved : next ≡ at + w
+
+-- n bytes from index i on, with 0 past the end
+unfoldable pub window : ℕ → List ℕ → ℕ → List ℕ
+window zero l i = []
+window (suc n) l i = getD l i 0 ∷ window n l (suc i)
+
+-- r is the number of the four bytes from i on
+pub record Gathered (file : List ℕ) (i r : ℕ) : Type 0 where
+  pub is : r ≡ value (bytesBits (window 4 file i))
+  pub small : r < 2 ^ 32
+
+-- the four bytes of a number, the highest first
+abbrev pub spread : ℕ → List ℕ
+spread x = x / 2 ^ 24 % 256 ∷ x / 2 ^ 16 % 256 ∷ x / 2 ^ 8 % 256 ∷ x % 256 ∷ []

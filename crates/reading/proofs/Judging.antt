@@ -1,0 +1,163 @@
+-- The loops' invariant: the verdict on the whole list is the verdict on the fields still to be read, from the cursor on; a turn takes one step or output off and judges it.
+use mathlib.Core.Path.{_≡_, refl, sym, ap, ap₂, _∙_}
+use mathlib.Core.List.{List}
+use Prim.Native.Nat.{ℕ, suc, _+_, _-_, _*_, _^_, _≤_, _<_}
+use native.Mathlib.Nat.{suc-mul, lt-of-lt-of-le}
+use native.Mathlib.Numerals.{add-one}
+use native.Mathlib.Omega.{arith}
+use lib.ListN.{length}
+use lib.Pow.{pow-mono}
+use Rattle.chain.specs.Tests.{_<?_}
+use Rattle.chain.specs.Verdict.{Verdict, fine, refused, _then_, refuseIf}
+use Rattle.chain.specs.Judgement.{verdictOf}
+use Rattle.chain.specs.Chain.{by, pairs, stepRule, stepsRule, outputsRule}
+use Rattle.chain.specs.declared.Judgement.{Judgement}
+use Rattle.chain.specs.declared.Judgement.the-variants.{Fine, Refused}
+use Rattle.chain.proofs.Rules.{stop, pass, told-fine, told-refused, refuse-yes, refuse-no, lt-yes, lt-no}
+use Rattle.bits.specs.Bits.{fieldAt, fieldsAt}
+use Rattle.bits.specs.Inner.{widestField, FieldRoom, FieldTaken}
+use Rattle.layout.specs.declared.Extent.{Extent}
+use Rattle.reading.specs.Inner.{Contained}
+
+-- n fields of w bits from position at on may be read
+pub record FieldsWithin (bytes : List ℕ) (at w n : ℕ) : Type 0 where
+  pub narrow : w ≤ widestField
+  pub within : at + n * w ≤ 8 * length bytes
+  pub fits : at + n * w < 2 ^ 64
+
+module _ (bytes : List ℕ) (x : Extent) (ok : Contained bytes x) where
+  pub steps-within : FieldsWithin bytes (x .start) (x .width) (2 * x .n)
+  steps-within =
+      let r = ok .proper in
+      record { narrow = r .narrow; within = omega (arith, r .parts, ok .within); fits = omega (arith, r .parts, r .low) }
+
+  pub outputs-within : FieldsWithin bytes (x .start + 2 * x .n * x .width) (x .width) (x .q)
+  outputs-within =
+      let r = ok .proper in
+      record { narrow = r .narrow; within = omega (arith, r .parts, ok .within); fits = omega (arith, r .parts, r .low) }
+
+-- a field of w bits is taken, and n are left
+within-take : (bytes : List ℕ) (at w n : ℕ) → FieldsWithin bytes at w (suc n) → FieldRoom bytes at w
+within-take bytes at w n ok =
+    record {
+      narrow = omega (arith, ok .narrow);
+      within = omega (arith, ok .within, suc-mul n w);
+      fits = omega (arith, ok .fits, suc-mul n w);
+    }
+
+within-rest : (bytes : List ℕ) (at w n v next : ℕ) → FieldsWithin bytes at w (suc n) → FieldTaken bytes at w v next → FieldsWithin bytes next w n
+within-rest bytes at w n v next ok t =
+    record {
+      narrow = ok .narrow;
+      within = omega (arith, ok .within, suc-mul n w, t .moved);
+      fits = omega (arith, ok .fits, suc-mul n w, t .moved);
+    }
+
+-- a field fits a value number
+pub field-fits : (w v : ℕ) → w ≤ widestField → v < 2 ^ w → v < 2 ^ 32
+field-fits w v h k = lt-of-lt-of-le k (pow-mono {j = 32} (omega arith))
+
+-- the invariant of the steps' loop: s steps are judged, and whole is the verdict on those that are left, from position c on
+pub record StepsLeft (whole : Verdict) (bytes : List ℕ) (p w n c s : ℕ) : Type 0 where
+  pub some-left : s ≤ n
+  pub room : FieldsWithin bytes c w (2 * (n - s))
+  pub same : whole ≡ stepsRule p (s + 1) (pairs (fieldsAt bytes c w (2 * (n - s))))
+
+pub steps-start : (bytes : List ℕ) (p at w n : ℕ) → FieldsWithin bytes at w (2 * n) → StepsLeft (stepsRule p 1 (pairs (fieldsAt bytes at w (2 * n)))) bytes p w n at 0
+steps-start bytes p at w n ok =
+    let e : n - 0 ≡ n = omega arith in
+    record { some-left = omega arith; room = rw e ok; same = rw e }
+
+module _ (whole : Verdict) (bytes : List ℕ) (p w n c s : ℕ) (inv : StepsLeft whole bytes p w n c s) where
+  pub steps-end : n ≤ s → fine ≡ whole
+  unfolding fieldsAt
+  steps-end h =
+      let e : 2 * (n - s) ≡ 0 = omega arith in
+      sym (inv .same ∙ ap (λ (k : ℕ). stepsRule p (s + 1) (pairs (fieldsAt bytes c w k))) e)
+
+  module _ (h : s < n) where
+    left : 2 * (n - s) ≡ suc (suc (2 * (n - (s + 1))))
+    left = omega arith
+
+    two : FieldsWithin bytes c w (suc (suc (2 * (n - (s + 1)))))
+    two = rw (← left) (inv .room)
+
+    pub first-room : FieldRoom bytes c w
+    first-room = within-take bytes c w (suc (2 * (n - (s + 1)))) two
+
+    module _ (a m : ℕ) (one : FieldTaken bytes c w a m) where
+      pub second-room : FieldRoom bytes m w
+      second-room = within-take bytes m w (2 * (n - (s + 1))) (within-rest bytes c w (suc (2 * (n - (s + 1)))) a m two one)
+
+      module _ (b next : ℕ) (other : FieldTaken bytes m w b next) (j : Judgement) (told : verdictOf j ≡ stepRule (p + s + 1) (s + 1) (by a b)) where
+        rest : Verdict
+        rest = stepsRule p (s + 1 + 1) (pairs (fieldsAt bytes next w (2 * (n - (s + 1)))))
+
+        here : whole ≡ (stepRule (p + s + 1) (s + 1) (by a b) then rest)
+        unfolding fieldsAt rest
+        here =
+            let k : ℕ = 2 * (n - (s + 1)) in
+            let e : p + (s + 1) ≡ p + s + 1 = omega arith in
+            inv .same ∙ ap (λ (i : ℕ). stepsRule p (s + 1) (pairs (fieldsAt bytes c w i))) left
+            ∙ ap₂ (λ (i v : ℕ). stepRule (p + (s + 1)) (s + 1) (by v (fieldAt bytes i w)) then stepsRule p (suc (s + 1)) (pairs (fieldsAt bytes (i + w) w k))) (sym (one .moved)) (sym (one .is))
+            ∙ ap₂ (λ (i v : ℕ). stepRule (p + (s + 1)) (s + 1) (by a v) then stepsRule p (suc (s + 1)) (pairs (fieldsAt bytes i w k))) (sym (other .moved)) (sym (other .is))
+            ∙ ap₂ (λ (i v : ℕ). stepRule v (s + 1) (by a b) then stepsRule p i (pairs (fieldsAt bytes next w k))) (sym (add-one (s + 1))) e
+
+        pub step-bad : (number place : ℕ) → j ≡ Refused number place → refused number place ≡ whole
+        step-bad number place e = stop _ _ number place (told-refused j _ number place told e) ∙ sym here
+
+        pub step-on : j ≡ Fine → StepsLeft whole bytes p w n next (s + 1)
+        unfolding rest
+        step-on e =
+            record {
+              some-left = omega arith;
+              room = within-rest bytes m w (2 * (n - (s + 1))) b next (within-rest bytes c w (suc (2 * (n - (s + 1)))) a m two one) other;
+              same = here ∙ sym (pass _ _ _ (told-fine j _ told e) refl);
+            }
+
+-- the invariant of the outputs' loop
+pub record OutputsLeft (whole : Verdict) (bytes : List ℕ) (top w q c i : ℕ) : Type 0 where
+  pub some-left : i ≤ q
+  pub room : FieldsWithin bytes c w (q - i)
+  pub same : whole ≡ outputsRule top (i + 1) (fieldsAt bytes c w (q - i))
+
+pub outputs-start : (bytes : List ℕ) (top at w q : ℕ) → FieldsWithin bytes at w q → OutputsLeft (outputsRule top 1 (fieldsAt bytes at w q)) bytes top w q at 0
+outputs-start bytes top at w q ok =
+    let e : q - 0 ≡ q = omega arith in
+    record { some-left = omega arith; room = rw e ok; same = rw e }
+
+module _ (whole : Verdict) (bytes : List ℕ) (top w q c i : ℕ) (inv : OutputsLeft whole bytes top w q c i) where
+  pub outputs-end : q ≤ i → fine ≡ whole
+  unfolding fieldsAt
+  outputs-end h =
+      let e : q - i ≡ 0 = omega arith in
+      sym (inv .same ∙ ap (λ (k : ℕ). outputsRule top (i + 1) (fieldsAt bytes c w k)) e)
+
+  module _ (h : i < q) where
+    one-more : q - i ≡ suc (q - (i + 1))
+    one-more = omega arith
+
+    more : FieldsWithin bytes c w (suc (q - (i + 1)))
+    more = rw (← one-more) (inv .room)
+
+    pub output-room : FieldRoom bytes c w
+    output-room = within-take bytes c w (q - (i + 1)) more
+
+    module _ (o next : ℕ) (t : FieldTaken bytes c w o next) where
+      now-left : whole ≡ (refuseIf (top <? o) 12 (i + 1) then outputsRule top (i + 1 + 1) (fieldsAt bytes next w (q - (i + 1))))
+      unfolding fieldsAt
+      now-left =
+          inv .same ∙ ap (λ (k : ℕ). outputsRule top (i + 1) (fieldsAt bytes c w k)) one-more
+          ∙ ap₂ (λ (v k : ℕ). refuseIf (top <? v) 12 (i + 1) then outputsRule top (suc (i + 1)) (fieldsAt bytes k w (q - (i + 1)))) (sym (t .is)) (sym (t .moved))
+          ∙ ap (λ (k : ℕ). refuseIf (top <? o) 12 (i + 1) then outputsRule top k (fieldsAt bytes next w (q - (i + 1)))) (sym (add-one (i + 1)))
+
+      pub output-bad : top < o → refused 12 (i + 1) ≡ whole
+      output-bad high = stop _ _ 12 (i + 1) (refuse-yes _ 12 (i + 1) (lt-yes top o high)) ∙ sym now-left
+
+      pub output-on : o ≤ top → OutputsLeft whole bytes top w q next (i + 1)
+      output-on low =
+          record {
+            some-left = omega arith;
+            room = within-rest bytes c w (q - (i + 1)) o next more t;
+            same = now-left ∙ sym (pass _ _ _ (refuse-no _ 12 (i + 1) (lt-no top o low)) refl);
+          }

@@ -1,0 +1,4 @@
+pub mod Judging
+pub mod ReadAnswers
+pub mod Told
+pub mod Good

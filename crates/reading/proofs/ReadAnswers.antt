@@ -1,0 +1,176 @@
+-- The read rule is the header's rules and then the body's, by the extent that the header gives; each judge's verdict decides its half, and the lists read are the chain's.
+use mathlib.Core.Path.{_≡_, refl, sym, ap, _∙_, subst}
+use mathlib.Core.List.{List, [], _∷_}
+use Prim.Native.Nat.{ℕ, _+_, _-_, _*_, _/_, _^_, _≤_, _<_}
+use native.Mathlib.Omega.{arith}
+use lib.ListN.{length}
+use Rattle.chain.specs.Tests.{_<?_, _≠?_, _or_}
+use Rattle.chain.specs.Verdict.{Verdict, fine, refused, _then_, refuseIf, Answer, done, refusal, answer, onFine}
+use Rattle.chain.specs.Judgement.{verdictOf}
+use Rattle.chain.specs.Written.{over}
+use Rattle.chain.specs.Chain.{pairs, flat, lengthRule, stepsRule, outputsRule, chainRule}
+use Rattle.chain.specs.declared.Judgement.{Judgement}
+use Rattle.chain.specs.declared.Judgement.the-variants as judged
+use Rattle.chain.proofs.Rules.{stop, pass, then-fine, then-assoc, refuseIf-fine, neither, not-lt, not-ne, told-fine, told-refused, answer-refused, answer-done, kept, renewed}
+use Rattle.chain.proofs.Pairs.{length-pairs, flat-pairs}
+use Rattle.chain.proofs.Sizes.{length-fits}
+use Rattle.bits.specs.Bits.{bytesFor, fieldAt, fieldsAt}
+use Rattle.bits.specs.Inner.{FieldRoom}
+use Rattle.bits.proofs.Fields.{length-fieldsAt}
+use Rattle.fields.specs.Inner.{FieldsRoom}
+use Rattle.layout.specs.declared.Layout.{Layout}
+use Rattle.layout.specs.declared.Extent.{Extent}
+use Rattle.layout.specs.File.{columnsOf, payslipsOf, lengthOf, stepsOf, outputsOf, readRule, readAnswer, readSteps, readOutputs}
+use Rattle.layout.specs.Inner.{Sound, Sized, extentOf}
+use Rattle.layout.proofs.Lengths.{top-low, width-low, count-parts, count-fits}
+use Rattle.layout.proofs.Readable.{header-sized}
+use Rattle.reading.specs.declared.Header.{Header}
+use Rattle.reading.specs.declared.Heading.{Heading}
+use Rattle.reading.specs.declared.Heading.the-variants as heading
+use Rattle.reading.specs.Inner.{headerIn, extentIn, headerRule, headed, Proper, Contained, stepsIn, outputsIn, bodyRule, BodyRead, FileRead, ListsTaken}
+
+-- the header's rules, in terms of what was read
+module _ (L : Layout) (bytes : List ℕ) (h : Header) (is : h ≡ headerIn bytes (L .bits)) where
+  pub header-is : (v : Verdict)
+      → v ≡ (refuseIf (length bytes <? 4) 6 0 then refuseIf (h .edition ≠? L .edition) 7 0 then lengthRule (L .limit) (h .n))
+      → v ≡ headerRule L bytes
+  unfolding headerRule
+  header-is v e = e ∙ ap (λ (g : Header). refuseIf (length bytes <? 4) 6 0 then refuseIf (g .edition ≠? L .edition) 7 0 then lengthRule (L .limit) (g .n)) is
+
+  pub sized-by : h .n ≤ L .limit → Sized L (h .p) (h .q) (h .n)
+  sized-by low =
+      subst (λ (g : Header). Sized L (g .p) (g .q) (g .n)) (sym is) (header-sized L bytes (omega (arith, low, ap (λ (g : Header). g .n) is)))
+
+  pub extent-is : (x : Extent) → x ≡ extentOf L (h .p) (h .q) (h .n) → x ≡ extentIn L bytes
+  extent-is x e = e ∙ ap (λ (g : Header). extentOf L (g .p) (g .q) (g .n)) is
+
+-- what the header's judge hands on
+module _ (L : Layout) (bytes : List ℕ) (r : Heading) (told : headed L bytes r) where
+  pub not-found : (k s : ℕ) → r ≡ heading.Refused k s → refused k s ≡ headerRule L bytes
+  not-found k s e = subst (headed L bytes) e told
+
+  pub found : (x : Extent) → r ≡ heading.Found x → (fine ≡ headerRule L bytes) × (x ≡ extentIn L bytes)
+  found x e = subst (headed L bytes) e told
+
+  pub found-proper : Sound L → (x : Extent) → r ≡ heading.Found x → Proper x
+  unfolding headerRule
+  found-proper sound x e =
+      let f = found x e in
+      let few = length-fits (L .limit) (lengthOf L bytes) (then-fine _ _ (then-fine _ _ (sym (f .0)) .1) .1) in
+      let s = header-sized L bytes few in
+      subst Proper (sym (f .1))
+      (record {
+        narrow = omega (arith, width-low L sound _ _ _ s);
+        parts = count-parts L (columnsOf bytes) (payslipsOf bytes) (lengthOf L bytes);
+        low = count-fits L sound _ _ _ s;
+        top = omega (arith, top-low L sound _ _ _ s);
+      })
+
+-- the body, by its extent
+module _ (bytes : List ℕ) (x : Extent) where
+  steps-count : length (stepsIn bytes x) ≡ x .n
+  steps-count =
+      length-pairs (fieldsAt bytes (x .start) (x .width) (2 * x .n)) ∙ omega (arith, length-fieldsAt bytes (x .start) (x .width) (2 * x .n))
+
+  flat-steps : flat (stepsIn bytes x) ≡ fieldsAt bytes (x .start) (x .width) (2 * x .n)
+  flat-steps = flat-pairs (x .n) _ (length-fieldsAt bytes (x .start) (x .width) (2 * x .n))
+
+  module _ (j : Judgement) (told : verdictOf j ≡ stepsRule (x .p) 1 (stepsIn bytes x)) where
+    in-order : chainRule (x .p) (stepsIn bytes x) (outputsIn bytes x)
+        ≡ (stepsRule (x .p) 1 (stepsIn bytes x) then outputsRule (x .p + x .n) 1 (outputsIn bytes x))
+    unfolding chainRule
+    in-order = ap (λ (k : ℕ). stepsRule (x .p) 1 (stepsIn bytes x) then outputsRule (x .p + k) 1 (outputsIn bytes x)) steps-count
+
+    pub chain-bad : (k s : ℕ) → j ≡ judged.Refused k s → refused k s ≡ chainRule (x .p) (stepsIn bytes x) (outputsIn bytes x)
+    chain-bad k s e = stop _ _ k s (told-refused j _ k s told e) ∙ sym in-order
+
+    pub chain-rest : (v : Verdict) → j ≡ judged.Fine → v ≡ outputsRule (x .p + x .n) 1 (outputsIn bytes x)
+        → v ≡ chainRule (x .p) (stepsIn bytes x) (outputsIn bytes x)
+    chain-rest v e is = pass _ _ v (told-fine j _ told e) is ∙ sym in-order
+
+  module _ (ok : Proper x) where
+    -- bytes of the right length hold the extent, and end in less than a byte of filling
+    module _ (long : length bytes ≡ (x .total + 7) / 8) where
+      pub contained : Contained bytes x
+      contained = record { proper = ok; within = omega (arith, long) }
+
+      pub filling-room : FieldRoom bytes (x .total) (8 * length bytes - x .total)
+      filling-room = record { narrow = omega (arith, long); within = omega (arith, long); fits = omega (arith, long, ok .low) }
+
+    -- the rules, in terms of the filling that was read
+    pub body-is : (f room places : ℕ) → f ≡ fieldAt bytes (x .total) (8 * length bytes - x .total) → (v : Verdict)
+        → v
+        ≡ (refuseIf (length bytes ≠? bytesFor (x .total)) 6 0
+        then refuseIf (room <? x .n or places <? x .q) 5 0
+        then refuseIf (f ≠? 0) 8 0
+        then chainRule (x .p) (stepsIn bytes x) (outputsIn bytes x))
+        → v ≡ bodyRule bytes x room places
+    unfolding bodyRule
+    body-is f room places is v e = e ∙ rw is
+
+    module _ (steps outputs : List ℕ) (j : Judgement) (told : verdictOf j ≡ bodyRule bytes x (length steps / 2) (length outputs)) where
+      pub body-refused : (k s : ℕ) → j ≡ judged.Refused k s → BodyRead bytes x steps outputs (refusal k s) steps outputs
+      body-refused k s e =
+          let v = told-refused j _ k s told e in
+          record { answered = answer-refused _ _ k s v; steps-left = kept _ _ steps k s v; outputs-left = kept _ _ outputs k s v }
+
+      module _ (passed : j ≡ judged.Fine) where
+        pub lists-room : FieldsRoom bytes (x .start) (x .width) (2 * x .n) steps
+            × FieldsRoom bytes (x .start + 2 * x .n * x .width) (x .width) (x .q) outputs
+        unfolding bodyRule
+        lists-room =
+            let a = then-fine _ _ (sym (told-fine j _ told passed)) in
+            let b = then-fine _ _ (a .1) in
+            let rooms = neither _ _ (refuseIf-fine _ 5 0 (b .0)) in
+            let pairs-room : x .n ≤ length steps / 2 = not-lt _ _ (rooms .0) in
+            let places : x .q ≤ length outputs = not-lt _ _ (rooms .1) in
+            let c = contained (not-ne _ _ (refuseIf-fine _ 6 0 (a .0))) in (
+              record {
+                narrow = ok .narrow;
+                within = omega (arith, ok .parts, c .within);
+                fits = omega (arith, ok .parts, ok .low);
+                room = omega (arith, pairs-room);
+              },
+              record {
+                narrow = ok .narrow;
+                within = omega (arith, ok .parts, c .within);
+                fits = omega (arith, ok .parts, ok .low);
+                room = places;
+              },
+            )
+
+        pub body-done : (steps′ outputs′ : List ℕ) → ListsTaken bytes (x .start) (x .width) (x .n) (x .q) steps outputs steps′ outputs′
+            → BodyRead bytes x steps outputs (done (x .p ∷ x .q ∷ x .n ∷ [])) steps′ outputs′
+        body-done steps′ outputs′ t =
+            let v = told-fine j _ told passed in
+            record {
+              answered = answer-done _ _ v;
+              steps-left = renewed _ _ steps _ v (t .steps-taken ∙ ap (λ (l : List ℕ). over l steps) (sym flat-steps));
+              outputs-left = renewed _ _ outputs _ v (t .outputs-taken);
+            }
+
+-- both together
+module _ (L : Layout) (bytes steps outputs : List ℕ) where
+  rule-is : (x y : ℕ) → readRule L bytes x y ≡ (headerRule L bytes then bodyRule bytes (extentIn L bytes) x y)
+  unfolding readRule headerRule bodyRule stepsOf outputsOf
+  rule-is x y = sym (then-assoc _ _ _ ∙ ap (λ (v : Verdict). refuseIf (length bytes <? 4) 6 0 then v) (then-assoc _ _ _))
+
+  pub file-refused : (k s : ℕ) → refused k s ≡ headerRule L bytes → FileRead L bytes steps outputs (refusal k s) steps outputs
+  unfolding readAnswer readSteps readOutputs
+  file-refused k s e =
+      let v = stop _ _ k s e ∙ sym (rule-is (length steps / 2) (length outputs)) in
+      record { answered = answer-refused _ _ k s v; steps-left = kept _ _ steps k s v; outputs-left = kept _ _ outputs k s v }
+
+  pub file-read : (x : Extent) → (fine ≡ headerRule L bytes) × (x ≡ extentIn L bytes) → (a : Answer) (steps′ outputs′ : List ℕ)
+      → BodyRead bytes x steps outputs a steps′ outputs′ → FileRead L bytes steps outputs a steps′ outputs′
+  unfolding readAnswer readSteps readOutputs stepsOf outputsOf
+  file-read x (ok, is) a steps′ outputs′ b =
+      let y = extentIn L bytes in
+      let r : BodyRead bytes y steps outputs a steps′ outputs′ = subst (λ (z : Extent). BodyRead bytes z steps outputs a steps′ outputs′) is b in
+      let same : bodyRule bytes y (length steps / 2) (length outputs) ≡ readRule L bytes (length steps / 2) (length outputs) =
+      pass _ _ _ ok refl ∙ sym (rule-is (length steps / 2) (length outputs)) in
+      record {
+        answered = r .answered ∙ ap (λ (v : Verdict). answer v (columnsOf bytes ∷ payslipsOf bytes ∷ lengthOf L bytes ∷ [])) same;
+        steps-left = r .steps-left ∙ ap (λ (v : Verdict). onFine v (over (flat (stepsOf L bytes)) steps) steps) same;
+        outputs-left = r .outputs-left ∙ ap (λ (v : Verdict). onFine v (over (outputsOf L bytes) outputs) outputs) same;
+      }

@@ -1,0 +1,104 @@
+-- The loop keeps `StepsLeft`: the verdict on all steps is the verdict on those from the cursor on; each turn judges one and moves past it.
+use Prim.Native.Nat.{_-_}
+use Rattle.chain.specs.Chain.{stepsRule}
+use Rattle.reading.specs.Inner.{stepsIn}
+use Rattle.reading.proofs.Judging.{StepsLeft, steps-within, steps-start, first-room, second-room, field-fits, step-bad, step-on, steps-end}
+use borrow.Author.Needs.{needs}
+use Rattle.reading.proofs.judge_steps.Statement.{statement}
+use Rattle.reading.proofs.judge_steps.Tie as tie
+
+abbrev Inv-loop : tie.InvT-loop
+Inv-loop bytes x n c₀ s₀ c s = StepsLeft (stepsRule (x .p) 1 (stepsIn bytes x)) bytes (x .p) (x .width) n (c .at) s
+
+abbrev μ-loop : tie.MeasureT-loop
+μ-loop bytes x n c₀ s₀ c s = n - s
+
+loop-holds : tie.Need-loop-holds Inv-loop μ-loop
+loop-holds c = steps-start _ _ _ _ _ (steps-within _ _ (c .before .pre))
+
+take-requires : tie.Need-take-requires Inv-loop μ-loop
+take-requires c κs = first-room _ _ _ _ _ _ _ (c .before .loop .inv) (c .loop-test .taken)
+
+take-requires-2 : tie.Need-take-requires-2 Inv-loop μ-loop
+take-requires-2 c κs =
+    let t = c .before in
+    let l = t .before in
+    second-room _ _ _ _ _ _ _ (l .before .loop .inv) (l .loop-test .taken) _ _ (t .take .ensures)
+
+cast-a : tie.Need-cast-a Inv-loop μ-loop
+cast-a c =
+    let t = c .before .before .before in
+    record { fits = field-fits _ _ (t .before .before .loop .inv .room .narrow) (t .take .ensures .small) }
+
+cast-b : tie.Need-cast-b Inv-loop μ-loop
+cast-b c =
+    let t = c .before .before in
+    record { fits = field-fits _ _ (t .before .before .before .before .loop .inv .room .narrow) (t .take2 .ensures .small) }
+
+add-judge-step : tie.Need-add-judge-step Inv-loop μ-loop
+add-judge-step c = search needs
+
+add-judge-step-2 : tie.Need-add-judge-step-2 Inv-loop μ-loop
+add-judge-step-2 c = search needs
+
+add-judge-step-3 : tie.Need-add-judge-step-3 Inv-loop μ-loop
+add-judge-step-3 c = search needs
+
+judge-step-requires : tie.Need-judge-step-requires Inv-loop μ-loop
+judge-step-requires c κs = search needs
+
+enum-known-number : tie.Need-enum-known-number Inv-loop μ-loop
+enum-known-number c = search needs
+
+returns : tie.Need-returns Inv-loop μ-loop
+returns c =
+    let j = c .before .before .before in
+    let u = j .before .before .before .before in
+    let t = u .before .before in
+    let l = t .before in
+    step-bad _ _ _ _ _ _ _ (l .before .loop .inv) (l .loop-test .taken) _ _ (t .take .ensures) _ _ (u .take2 .ensures) _ (j .judge-step .ensures) _ _
+    (c .before .number .given .1)
+
+enum-told : tie.Need-enum-told Inv-loop μ-loop
+enum-told c = search needs
+
+add-s : tie.Need-add-s Inv-loop μ-loop
+add-s c = search needs
+
+loop-less : tie.Need-loop-less Inv-loop μ-loop
+loop-less c = search needs
+
+loop-again : tie.Need-loop-again Inv-loop μ-loop
+loop-again c =
+    let j = c .before .before .before in
+    let u = j .before .before .before .before in
+    let t = u .before .before in
+    let l = t .before in
+    step-on _ _ _ _ _ _ _ (l .before .loop .inv) (l .loop-test .taken) _ _ (t .take .ensures) _ _ (u .take2 .ensures) _ (j .judge-step .ensures)
+    (c .before .enum-told .given .1)
+
+returns-2 : tie.Need-returns-2 Inv-loop μ-loop
+returns-2 c = steps-end _ _ _ _ _ _ _ (c .before .loop .inv) (c .loop-test .left)
+
+pub judge-steps-spec : {M : Type 1} → statement M
+judge-steps-spec =
+    tie.close
+    (tie.spec
+    Inv-loop
+    μ-loop
+    loop-holds
+    take-requires
+    take-requires-2
+    cast-a
+    cast-b
+    add-judge-step
+    add-judge-step-2
+    add-judge-step-3
+    judge-step-requires
+    enum-known-number
+    returns
+    enum-told
+    add-s
+    loop-less
+    loop-again
+    returns-2)

@@ -1,0 +1,220 @@
+// The file of a chain, read.
+ghost use mathlib.Core.Path.{_≡_};
+ghost use Prim.Native.Nat.{_+_, _*_, _/_};
+ghost use lib.ListN.{length};
+ghost use Rattle.chain.specs.Judgement.{verdictOf};
+ghost use Rattle.chain.specs.Chain.{stepsRule, outputsRule, chainRule};
+ghost use Rattle.fields.specs.Inner.{FieldsRoom};
+ghost use Rattle.layout.specs.Layout.{edition1};
+ghost use Rattle.layout.specs.File.{readAnswer, readSteps, readOutputs};
+ghost use Rattle.layout.specs.Inner.{Sound};
+ghost use Rattle.reading.specs.Answers.{readOf};
+ghost use Rattle.reading.specs.Inner.{HeaderRoom, headerIn, headed, Proper, Contained, stepsIn, outputsIn, bodyRule, BodyRead, FileRead, ListsTaken};
+use bits::BitReader;
+use bits::Cursor;
+use chain::Judgement;
+use layout::Extent;
+use layout::Layout;
+
+// The chain's p, q and n, or a refusal.
+pub enum Reading {
+    Chain { p: usize, q: usize, n: usize },
+    Refused(u32, usize),
+}
+
+// What a header says.
+struct Header {
+    edition: usize,
+    p: usize,
+    q: usize,
+    n: usize,
+}
+
+// What its numbers come to, or a refusal.
+enum Heading {
+    Found(Extent),
+    Refused(u32, usize),
+}
+
+// The header of a file in which n has so many bits.
+fn take_header(bytes: &[u8], bits: usize) -> Header
+    requires { ⌜ HeaderRoom (now bytes) bits ⌝ }
+    ensures { λ r. ⌜ r ≡ headerIn (now (bytes .entry)) bits ⌝ }
+{
+    let start = BitReader {
+        bytes: bytes,
+        cursor: Cursor { at: 0 },
+    };
+    let edition = start.take(4);
+    let columns = edition.next.take(4);
+    let payslips = columns.next.take(6);
+    let steps = payslips.next.take(bits);
+    Header {
+        edition: edition.value,
+        p: columns.value + 1,
+        q: payslips.value + 1,
+        n: steps.value,
+    }
+}
+
+// 6 (under 4 bytes), 7, 4; then the width is found.
+fn judge_header(layout: Layout, bytes: &[u8]) -> Heading
+    requires { ⌜ Sound layout ⌝ }
+    ensures { λ r. ⌜ headed layout (now (bytes .entry)) r ⌝ }
+{
+    if bytes.len() < 4 {
+        return Heading::Refused(6, 0);
+    }
+    let h = take_header(bytes, layout.bits);
+    if h.edition != layout.edition {
+        return Heading::Refused(7, 0);
+    }
+    match chain::judge_length(layout.limit, h.n) {
+        Judgement::Refused(number, place) => Heading::Refused(number, place),
+        Judgement::Fine => Heading::Found(layout::extent_of(layout, h.p, h.q, h.n)),
+    }
+}
+
+// The steps of a file, in order: 9, 10, 11.
+fn judge_steps(bytes: &[u8], x: Extent) -> Judgement
+    requires { ⌜ Contained (now bytes) x ⌝ }
+    ensures { λ r. ⌜ verdictOf r ≡ stepsRule (x .p) 1 (stepsIn (now (bytes .entry)) x) ⌝ }
+{
+    let n = x.n;
+    let mut c = Cursor { at: x.start };
+    let mut s: usize = 0;
+    while s < n {
+        let first = c.take(bytes, x.width);
+        let middle = first.next;
+        let second = middle.take(bytes, x.width);
+        let a = first.value as u32;
+        let b = second.value as u32;
+        match chain::judge_step(x.p + s + 1, s + 1, a, b) {
+            Judgement::Refused(number, place) => {
+                return Judgement::Refused(number, place);
+            }
+            Judgement::Fine => {}
+        }
+        let next = second.next;
+        c = next;
+        s += 1;
+    }
+    Judgement::Fine
+}
+
+// The outputs of a file: 12.
+fn judge_outputs(bytes: &[u8], x: Extent) -> Judgement
+    requires { ⌜ Contained (now bytes) x ⌝ }
+    ensures { λ r. ⌜ verdictOf r ≡ outputsRule (x .p + x .n) 1 (outputsIn (now (bytes .entry)) x) ⌝ }
+{
+    let q = x.q;
+    let top = x.p + x.n;
+    let mut c = Cursor {
+        at: x.start + 2 * x.n * x.width,
+    };
+    let mut i: usize = 0;
+    while i < q {
+        let output = c.take(bytes, x.width);
+        let o = output.value;
+        if top < o {
+            return Judgement::Refused(12, i + 1);
+        }
+        let next = output.next;
+        c = next;
+        i += 1;
+    }
+    Judgement::Fine
+}
+
+// The chain of a file: steps, then 12.
+fn judge_chain(bytes: &[u8], x: Extent) -> Judgement
+    requires { ⌜ Contained (now bytes) x ⌝ }
+    ensures { λ r. ⌜ verdictOf r ≡ chainRule (x .p) (stepsIn (now (bytes .entry)) x) (outputsIn (now (bytes .entry)) x) ⌝ }
+{
+    match judge_steps(bytes, x) {
+        Judgement::Refused(number, place) => Judgement::Refused(number, place),
+        Judgement::Fine => judge_outputs(bytes, x),
+    }
+}
+
+// 6, 5, 8, steps, 12, where there is room for so many pairs and places for so many outputs. n is not trusted before the length is right.
+fn judge_body(bytes: &[u8], x: Extent, room: usize, places: usize) -> Judgement
+    requires { ⌜ Proper x ⌝ }
+    ensures { λ r. ⌜ verdictOf r ≡ bodyRule (now (bytes .entry)) x room places ⌝ }
+{
+    let total = x.total;
+    if bytes.len() != (total + 7) / 8 {
+        return Judgement::Refused(6, 0);
+    }
+    if room < x.n {
+        return Judgement::Refused(5, 0);
+    }
+    if places < x.q {
+        return Judgement::Refused(5, 0);
+    }
+    let end = Cursor { at: total };
+    let filling = end.take(bytes, 8 * bytes.len() - total);
+    if filling.value != 0 {
+        return Judgement::Refused(8, 0);
+    }
+    judge_chain(bytes, x)
+}
+
+// Reads n steps from a bit position on, then q outputs, in fields of w bits.
+fn take_lists(
+    bytes: &[u8],
+    at: usize,
+    w: usize,
+    n: usize,
+    q: usize,
+    steps: &mut [u32],
+    outputs: &mut [u32],
+)
+    requires { ⌜ FieldsRoom (now bytes) at w (2 * n) (now steps) × FieldsRoom (now bytes) (at + 2 * n * w) w q (now outputs) ⌝ }
+    ensures { λ _. ⌜ ListsTaken (now (bytes .entry)) at w n q (now (steps .entry)) (now (outputs .entry)) (now (steps .exit)) (now (outputs .exit)) ⌝ }
+{
+    let start = BitReader {
+        bytes: bytes,
+        cursor: Cursor { at: at },
+    };
+    let next = fields::read_fields(start, w, 2 * n, steps);
+    fields::read_fields(next, w, q, outputs);
+}
+
+// Reads the chain that stands in bytes by an extent. Everything is judged before anything is stored.
+fn read_body(x: Extent, bytes: &[u8], steps: &mut [u32], outputs: &mut [u32]) -> Reading
+    requires { ⌜ Proper x ⌝ }
+    ensures { λ r. ⌜ BodyRead (now (bytes .entry)) x (now (steps .entry)) (now (outputs .entry)) (readOf r) (now (steps .exit)) (now (outputs .exit)) ⌝ }
+{
+    match judge_body(bytes, x, steps.len() / 2, outputs.len()) {
+        Judgement::Refused(number, place) => Reading::Refused(number, place),
+        Judgement::Fine => {
+            take_lists(bytes, x.start, x.width, x.n, x.q, steps, outputs);
+            Reading::Chain {
+                p: x.p,
+                q: x.q,
+                n: x.n,
+            }
+        }
+    }
+}
+
+// The header is decoded once, and all else is read by the extent that it gives.
+fn read_as(layout: Layout, bytes: &[u8], steps: &mut [u32], outputs: &mut [u32]) -> Reading
+    requires { ⌜ Sound layout ⌝ }
+    ensures { λ r. ⌜ FileRead layout (now (bytes .entry)) (now (steps .entry)) (now (outputs .entry)) (readOf r) (now (steps .exit)) (now (outputs .exit)) ⌝ }
+{
+    match judge_header(layout, bytes) {
+        Heading::Refused(number, place) => Reading::Refused(number, place),
+        Heading::Found(x) => read_body(x, bytes, steps, outputs),
+    }
+}
+
+// Reads a file into the lent steps and outputs.
+pub fn read(bytes: &[u8], steps: &mut [u32], outputs: &mut [u32]) -> Reading
+    ensures { λ r. ⌜ readOf r ≡ readAnswer edition1 (now (bytes .entry)) (length (now (steps .entry)) / 2) (length (now (outputs .entry))) ⌝ }
+    ensures { λ r. ⌜ now (steps .exit) ≡ readSteps edition1 (now (bytes .entry)) (length (now (outputs .entry))) (now (steps .entry)) ⌝ }
+    ensures { λ r. ⌜ now (outputs .exit) ≡ readOutputs edition1 (now (bytes .entry)) (length (now (steps .entry)) / 2) (now (outputs .entry)) ⌝ }
+{
+    read_as(layout::first_edition(), bytes, steps, outputs)
+}

@@ -94,7 +94,7 @@ pub as-given : {A : Type 0} (f : ℕ → ℕ → ℕ → A) {p q : ℕ} {amounts
 as-given f told = rw (told .same-p, told .same-q, told .same-c)
 
 -- what a grouped sheet's bits say
-module _ (s : Grouping) (amounts bits : List ℕ) (grouped : Grouped s amounts bits) where
+module _ {s : Grouping} {amounts bits : List ℕ} (grouped : Grouped s amounts bits) where
   abbrev width : ℕ → ℕ
   width = columnBits (s .p) (s .q) amounts
 
@@ -150,7 +150,7 @@ module _ (s : Grouping) (amounts bits : List ℕ) (grouped : Grouped s amounts b
       }
 
   -- made, they are the sheet's
-  module _ (members₀ steps₀ members steps : List ℕ) (n : ℕ) (made : GroupsMade s bits members₀ steps₀ members steps n) where
+  module _ {members₀ steps₀ members steps : List ℕ} {n : ℕ} (made : GroupsMade s bits members₀ steps₀ members steps n) where
     pub sheet-stored : StepsStored steps₀ steps n (sheetTables (s .p) (s .q) amounts (s .c))
     sheet-stored = rw grouped-tables at (made .stored)
 

@@ -151,7 +151,7 @@ module _ (s : Grouping) (cuts : Cuts s) (g r : ℕ) (h : g < s .groups) (few : r
       omega (arith, tables-low)
 
 -- the entry of part t in a group
-module _ (s : Grouping) (members : List ℕ) (g t size : ℕ) (part : PartOf s members g t) (is : size ≡ groupSize (s .c) (s .inputs) g) where
+module _ {s : Grouping} {members : List ℕ} {g t : ℕ} (part : PartOf s members g t) {size : ℕ} (is : size ≡ groupSize (s .c) (s .inputs) g) where
   abbrev mine : List ℕ
   mine = stretch (g * s .c) (g * s .c + size) members
 
@@ -161,8 +161,9 @@ module _ (s : Grouping) (members : List ℕ) (g t size : ℕ) (part : PartOf s m
   pub entry-low : t < 2 ^ (1 * length mine)
   entry-low = rw mine-is (part .part)
 
-  pub entry-number : (at : ℕ) → at < partsEnd → at + t < 2 ^ 32
-  entry-number at h = let low = part .part in omega (arith, group-parts (s .c) g members (part .cuts .few))
+  pub entry-number : {at : ℕ} → at < partsEnd → at + t < 2 ^ 32
+  entry-number h = let low = part .part in omega (arith, group-parts (s .c) g members (part .cuts .few))
 
-  pub entry-told : (y r : ℕ) → r ≡ 2 ^ s .c - s .c - 1 → y ≡ entry 1 mine (s .p + s .squarings + g * r + 1) t → y ≡ entry 1 (group (s .c) g members) (tableAt s g) t
-  entry-told y r full e = e ∙ ap₂ (λ (l : List ℕ) (k : ℕ). entry 1 l (s .p + s .squarings + g * k + 1) t) mine-is full
+  pub entry-told : {y r : ℕ} → r ≡ 2 ^ s .c - s .c - 1 → y ≡ entry 1 mine (s .p + s .squarings + g * r + 1) t
+      → y ≡ entry 1 (group (s .c) g members) (tableAt s g) t
+  entry-told full e = e ∙ ap₂ (λ (l : List ℕ) (k : ℕ). entry 1 l (s .p + s .squarings + g * k + 1) t) mine-is full

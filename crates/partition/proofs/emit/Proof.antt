@@ -31,7 +31,7 @@ make-chain-requires c κs =
     let told = c .before .before .before .before .before .before .group-sheet .ensures in
     let s = c .before .before .before .before .before .before .before .before .before .before .before in
     let room = room-given told (s .pre .1) in
-    ((told .grouped, search needs, search needs), room)
+    record { grouped = told .grouped; members-room = search needs; cells-room = search needs; fits = room }
 
 same-length : tie.Need-same-length
 same-length c = search needs

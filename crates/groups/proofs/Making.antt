@@ -15,9 +15,10 @@ use Rattle.groups.specs.declared.Grouping.{Grouping}
 use Rattle.methods.proofs.Filling.{filled-front, filled-length}
 use Rattle.digits.specs.Range.{listTo}
 use Rattle.digits.proofs.Listed.{getD-list}
-use Rattle.groups.specs.Inner.{GroupsMade, GroupsRoom, InputsRoom, TablesRoom, bitInputs, bitSquarings, bitTables, bitsLess, tablesAfter}
+use Rattle.groups.specs.Inner.{GroupsMade, GroupsRoom, InputsRoom, TablesRoom, bitInputs, bitSquarings, bitTables, bitsLess}
+use Rattle.groups.specs.Inner.{tablesAfter}
 use Rattle.groups.proofs.Inputs.{length-over}
-use Rattle.groups.proofs.Tabling.{longer, tables-begin}
+use Rattle.groups.proofs.Tabling.{tables-begin}
 
 -- how often each column is squared, in the front of cells
 module _ (bits old cells : List ℕ) (e : cells ≡ over (listTo (length bits) (bitsLess bits 1)) old) where

@@ -18,8 +18,10 @@ use Rattle.chain.specs.Chain.{mostColumns, mostSteps}
 use Rattle.chain.specs.declared.Step.{Step}
 use Rattle.products.specs.Inner.{StepsStored, StepsRoom}
 use Rattle.digits.proofs.Listed.{getD-list, length-list}
-use Rattle.groups.specs.Groups.{columnBits, columnSquarings, group, groupCount, groupTables, inputCount, inputs, mostInputs, mostMembers, overInputs, selection, sheetSquarings, sheetTables, weigh}
-use Rattle.groups.specs.Inner.{Bounded, Grouped, GroupedFor, GroupsMade, GroupsRoom, Narrow, bitInputs, bitSquarings, bitTables, bitsLess, partNumbers}
+use Rattle.groups.specs.Groups.{columnBits, columnSquarings, group, groupCount, groupTables, inputCount, inputs, mostInputs}
+use Rattle.groups.specs.Groups.{mostMembers, overInputs, selection, sheetSquarings, sheetTables, weigh}
+use Rattle.groups.specs.Inner.{Bounded, Grouped, GroupedFor, GroupsMade, GroupsRoom, Narrow, bitInputs, bitSquarings, bitTables}
+use Rattle.groups.specs.Inner.{bitsLess, partNumbers}
 use Rattle.groups.proofs.Counting.{groups-few, lessTo}
 use Rattle.groups.proofs.Inputs.{over-same}
 use Rattle.groups.proofs.Members.{column-bits, members-count}

@@ -39,7 +39,8 @@ returns : tie.Need-returns
 returns c =
     let numbered = c .before .before .before .before .before .before .before .before .before .before .before in
     let s = numbered .before .before .before .before .before in
-    groups-made (s .pre) (numbered .number-inputs .ensures) (c .before .before .before .before .before .before .before .make-squarings .ensures) (c .before .before .make-tables .ensures)
+    let squared = c .before .before .before .before .before .before .before .make-squarings .ensures in
+    groups-made (s .pre) (numbered .number-inputs .ensures) squared (c .before .before .make-tables .ensures)
 
 pub make-groups-spec : {M : Type 1} → statement M
 make-groups-spec =

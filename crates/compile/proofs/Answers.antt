@@ -1,4 +1,4 @@
--- What `judge_accepted` and `compile` answer.
+-- Each way through compile gives the answer of its rule: what was judged first is passed on, and the slices are as before or hold the chain.
 use mathlib.Core.Path.{_≡_, sym, ap, _∙_}
 use mathlib.Core.List.{List, [], _∷_}
 use Prim.Native.Nat.{ℕ, _/_, _≤_, _<_}
@@ -6,13 +6,13 @@ use native.Mathlib.Omega.{arith}
 use lib.ListN.{length, getD}
 use Rattle.chain.specs.Verdict.{Verdict, fine, refused, Answer, done, refusal, answer}
 use Rattle.chain.specs.Judgement.{verdictOf}
-use Rattle.chain.specs.Written.{over}
-use Rattle.chain.specs.Chain.{mostSteps, flat, lengthRule}
+use Rattle.chain.specs.Chain.{mostSteps, lengthRule}
 use Rattle.chain.specs.declared.Judgement.{Judgement}
 use Rattle.chain.specs.declared.Judgement.the-variants as judgement
 use Rattle.chain.proofs.Rules.{told-fine, told-refused, pass, stop, refuse-yes, refuse-no, lt-yes, lt-no, or-left, or-right, or-none, answer-refused, answer-done, kept, renewed}
 use Rattle.chain.proofs.Told.{verdictIn, told, told-values}
 use Rattle.sheet.specs.Sheet.{sheetRule}
+use Rattle.methods.specs.Inner.{ChainStored}
 use Rattle.compile.specs.Compile.{methodRule, chainOf, count, acceptedRule, compileRule, compileAnswer, compileSteps, compileOutputs}
 use Rattle.compile.specs.Compiled.{compiledOf}
 use Rattle.compile.specs.declared.Compiled.{Compiled}
@@ -74,12 +74,12 @@ module _ (p q : ℕ) (amounts : List ℕ) (method k : ℕ) where
       few-outputs h = refusing 5 0 (pass _ _ _ was-accepted (refuse-yes _ 5 0 (or-right _ _ (lt-yes _ _ h))))
 
       pub compiled : n ≤ length steps / 2 → q ≤ length outputs → (steps′ outputs′ : List ℕ)
-          → (steps′ ≡ over (flat (chainOf p q amounts method k .steps)) steps) × (outputs′ ≡ over (chainOf p q amounts method k .outputs) outputs)
+          → ChainStored steps outputs steps′ outputs′ (chainOf p q amounts method k)
           → Leaves (done (n ∷ [])) steps′ outputs′
       unfolding compileAnswer compileSteps compileOutputs compileRule
       compiled h g steps′ outputs′ e =
           let c = was-counted in
           let v = pass accepted _ _ was-accepted (refuse-no _ 5 0 (or-none _ _ (lt-no (length steps / 2) count′ (omega arith)) (lt-no (length outputs) q g))) in (
             ap (λ (m : ℕ). done (m ∷ [])) c ∙ answer-done _ _ v,
-            (renewed _ _ steps steps′ v (e .0), renewed _ _ outputs outputs′ v (e .1)),
+            (renewed _ _ steps steps′ v (e .steps-are), renewed _ _ outputs outputs′ v (e .outputs-are)),
           )

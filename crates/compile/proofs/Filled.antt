@@ -1,4 +1,4 @@
--- What the answer of `compile` tells its caller.
+-- What compile answered tells what its rule found, and so that its slices begin with the chain.
 use mathlib.Core.Path.{_≡_, refl, sym, ap, _∙_}
 use mathlib.Core.List.{List}
 use Prim.Native.Nat.{ℕ, _*_, _/_, _≤_}
@@ -54,7 +54,7 @@ module _ (p q : ℕ) (amounts : List ℕ) (method k : ℕ) (steps outputs : List
         let pairs-room = not-lt _ _ (rooms .0) in
         let places = not-lt _ _ (rooms .1) in
         let ok = accepted p q amounts method k (t .0) in
-        let right = compiled-right p q amounts method k low (ok .fitting .fits) in
+        let right = compiled-right p q amounts method k low (ok .ranges .fits) in
         let counts = compile-counts in
         let c = chainOf p q amounts method k in
         let fs : steps′ ≡ over (flat (c .steps)) steps = es ∙ sym (renewed _ _ steps _ compile-passes refl) in

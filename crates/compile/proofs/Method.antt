@@ -1,4 +1,4 @@
--- The range of parameters by the method's number.
+-- The rule of methods and parameters, arm by arm of the code's match: each arm's numbers choose one line of the rule.
 use mathlib.Core.Path.{_≡_, refl, sym, _∙_}
 use mathlib.Core.Bool.{true}
 use Prim.Native.Nat.{ℕ, _*_, _≤_, _<_}

@@ -1,5 +1,5 @@
 -- Compile (document 01, "The three methods", "Turned down"): from a sheet to a chain by a method's number and its parameter.
-use mathlib.Core.Bool.{Bool, true, false, not, cond}
+use mathlib.Core.Bool.{Bool, true, cond}
 use mathlib.Core.List.{List, [], _∷_}
 use Prim.Native.Nat.{ℕ, _*_, _/_}
 use lib.ListN.{length}
@@ -8,9 +8,10 @@ use Rattle.chain.specs.Verdict.{Verdict, _then_, refuseIf, Answer, answer, onFi
 use Rattle.chain.specs.Written.{over}
 use Rattle.chain.specs.Chain.{Chain, mostSteps, flat, lengthRule}
 use Rattle.sheet.specs.Sheet.{sheetRule}
-use Rattle.straus.specs.Straus.{straus, strausCount, strausCeiling}
-use Rattle.yao.specs.Yao.{yao, yaoCount, yaoCeiling}
-use Rattle.partition.specs.Partition.{partition, partitionCount, partitionCeiling}
+use Rattle.methods.specs.Method.{Method}
+use Rattle.straus.specs.Straus.{strausMethod}
+use Rattle.yao.specs.Yao.{yaoMethod}
+use Rattle.partition.specs.Method.{partitionMethod}
 
 -- the parameter is outside lowest .. highest
 abbrev pub outside : ℕ → ℕ → ℕ → Bool
@@ -26,18 +27,21 @@ methodRule p method k =
     true)))
     3 0
 
--- what the method of a number makes of its three definitions' values
-abbrev pub byMethod : {A : Type 0} → ℕ → A → A → A → A
-byMethod method a b c = cond (method =? 1) a (cond (method =? 2) b c)
+-- the method of a number, for a sheet and a parameter; the rule above lets no number but 1, 2 and 3 pass
+unfoldable pub methodOf : ℕ → ℕ → List ℕ → ℕ → ℕ → Method
+methodOf p q amounts method k =
+    cond (method =? 1) (strausMethod p q amounts k)
+    (cond (method =? 2) (yaoMethod p q amounts k)
+    (partitionMethod p q amounts k))
 
-unfoldable pub chainOf : ℕ → ℕ → List ℕ → ℕ → ℕ → Chain
-chainOf p q amounts method k = byMethod method (straus p q amounts k) (yao p q amounts k) (partition p q amounts k)
+abbrev pub chainOf : ℕ → ℕ → List ℕ → ℕ → ℕ → Chain
+chainOf p q amounts method k = methodOf p q amounts method k .chain
 
-unfoldable pub count : ℕ → ℕ → List ℕ → ℕ → ℕ → ℕ
-count p q amounts method k = byMethod method (strausCount p q amounts k) (yaoCount p q amounts k) (partitionCount p q amounts k)
+abbrev pub count : ℕ → ℕ → List ℕ → ℕ → ℕ → ℕ
+count p q amounts method k = methodOf p q amounts method k .count
 
-unfoldable pub ceiling : ℕ → ℕ → List ℕ → ℕ → ℕ → ℕ
-ceiling p q amounts method k = byMethod method (strausCeiling p q amounts k) (yaoCeiling p q amounts k) (partitionCeiling p q amounts k)
+abbrev pub ceiling : ℕ → ℕ → List ℕ → ℕ → ℕ → ℕ
+ceiling p q amounts method k = methodOf p q amounts method k .ceiling
 
 -- "A sheet, a method and a parameter are accepted together if compile's order below, 5 left aside, finds nothing against them;
 -- for its 4, n is the method's count": 1, 2, 3, 4

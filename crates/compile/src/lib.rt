@@ -3,11 +3,11 @@ ghost use mathlib.Core.Path.{_≡_};
 ghost use mathlib.Core.List.{[], _∷_};
 ghost use Prim.Native.Nat.{_*_, _/_, _≤_};
 ghost use lib.ListN.{length};
-ghost use Rattle.chain.specs.Chain.{mostColumns, flat};
+ghost use Rattle.chain.specs.Chain.{mostColumns};
 ghost use Rattle.chain.specs.Judgement.{verdictOf};
 ghost use Rattle.chain.specs.Verdict.{fine, answer};
-ghost use Rattle.chain.specs.Written.{over};
 ghost use Rattle.sheet.specs.Sheet.{sheetRule};
+ghost use Rattle.methods.specs.Inner.{ChainStored};
 ghost use Rattle.compile.specs.Compile.{methodRule, chainOf, count, acceptedRule, compileAnswer, compileSteps, compileOutputs};
 ghost use Rattle.compile.specs.Compiled.{compiledOf};
 use chain::Judgement;
@@ -86,9 +86,10 @@ fn emit(
     steps: &mut [u32],
     outputs: &mut [u32],
 )
-    requires { ⌜ (acceptedRule p q (now amounts) method k ≡ fine) × (2 * count p q (now amounts) method k ≤ length (now steps)) × (q ≤ length (now outputs)) ⌝ }
-    ensures { λ r. ⌜ now (steps .exit) ≡ over (flat (chainOf p q (now (amounts .entry)) method k .steps)) (now (steps .entry)) ⌝ }
-    ensures { λ r. ⌜ now (outputs .exit) ≡ over (chainOf p q (now (amounts .entry)) method k .outputs) (now (outputs .entry)) ⌝ }
+    requires { ⌜ acceptedRule p q (now amounts) method k ≡ fine ⌝ }
+    requires { ⌜ (2 * count p q (now amounts) method k ≤ length (now steps)) × (q ≤ length (now outputs)) ⌝ }
+    ensures { λ r. ⌜ ChainStored (now (steps .entry)) (now (outputs .entry)) (now (steps .exit)) (now (outputs .exit))
+        (chainOf p q (now (amounts .entry)) method k) ⌝ }
 {
     match method {
         1 => straus::emit(p, q, amounts, k, steps, outputs),

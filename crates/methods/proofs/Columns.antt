@@ -1,7 +1,7 @@
--- Laws by which the columns' functions keep to their contracts: the largest amount of a column, and the squarings column by column.
-use mathlib.Core.Path.{_≡_, refl, sym, ap, _∙_}
+-- The largest amount grows payslip by payslip, and the squarings column by column: each column's are appended to those before it.
+use mathlib.Core.Path.{_≡_, refl, ap, _∙_}
 use mathlib.Core.List.{List}
-use Prim.Native.Nat.{ℕ, zero, suc, _+_, _*_, _^_, _≤_, _<_, max}
+use Prim.Native.Nat.{ℕ, zero, suc, _+_, _≤_, _<_, max}
 use native.Mathlib.Numerals.{add-one}
 use native.Mathlib.Omega.{arith}
 use lib.ListN.{length, getD}
@@ -9,12 +9,12 @@ use Rattle.chain.specs.declared.Step.{Step}
 use Rattle.chain.proofs.Rules.{eq-yes, eq-no}
 use Rattle.digits.specs.Range.{maxTo}
 use Rattle.sheet.specs.Sheet.{amount}
-use Rattle.methods.specs.Product.{made, squared}
+use Rattle.products.specs.Product.{made, squared}
 use Rattle.methods.specs.Powers.{largestIn, countsOf, squarings, powerAt}
-use Rattle.methods.specs.Emitted.{stepsIn, Room, Stored, Emitted}
-use Rattle.methods.proofs.Sound.{Begins, begins-rise}
-use Rattle.methods.proofs.Product.{squared-begins}
-use Rattle.methods.proofs.Emitted.{stored-own, emits-room, emits-on}
+use Rattle.products.specs.Inner.{stepsIn, StepsRoom, StepsStored, Emitted}
+use Rattle.products.proofs.Sound.{Begins, begins-rise}
+use Rattle.products.proofs.Product.{squared-begins}
+use Rattle.products.proofs.Emitted.{stored-own, emits-room, emits-on}
 
 -- the largest amount of column c over the first i payslips
 unfoldable pub largestTo : ℕ → List ℕ → ℕ → ℕ → ℕ
@@ -55,26 +55,26 @@ squarings-same p n m (suc c) e =
     ap (λ (s : List Step). squared p (n c) (made s (c + 1)) .steps) (squarings-same p n m c (λ d h. e d (omega arith)))
     ∙ ap (λ (k : ℕ). squared p k (made (squarings p m c) (c + 1)) .steps) (e c (omega arith))
 
-module _ (p : ℕ) (counts old : List ℕ) (room : Room p old 0 (squarings p (countsOf counts) (length counts))) where
-  pub columns-start : Stored old old 0 (squarings p (countsOf counts) 0)
+module _ (p : ℕ) (counts old : List ℕ) (room : StepsRoom p old 0 (squarings p (countsOf counts) (length counts))) where
+  pub columns-start : StepsStored old old 0 (squarings p (countsOf counts) 0)
   columns-start = stored-own old 0 (room .so-far)
 
-  module _ (cells : List ℕ) (n c : ℕ) (s : Stored old cells n (squarings p (countsOf counts) c)) (less : c < length counts) where
+  module _ (cells : List ℕ) (n c : ℕ) (s : StepsStored old cells n (squarings p (countsOf counts) c)) (less : c < length counts) where
     base : Emitted old cells n (c + 1) (made (squarings p (countsOf counts) c) (c + 1))
     base = record { stored = s; value = refl }
 
     begins : Begins (squarings p (countsOf counts) c) (squarings p (countsOf counts) (suc c))
     begins = squarings-begin p (countsOf counts) c (suc c) (omega arith)
 
-    pub columns-room : Room p cells n (squared p (getD counts c 0) (made (stepsIn cells n) (c + 1)) .steps)
+    pub columns-room : StepsRoom p cells n (squared p (getD counts c 0) (made (stepsIn cells n) (c + 1)) .steps)
     columns-room = emits-room room (squared p (countsOf counts c)) base begins (squarings-begin p (countsOf counts) (suc c) (length counts) less)
 
     pub columns-on : (cells′ : List ℕ) (n′ v′ : ℕ) → Emitted cells cells′ n′ v′ (squared p (getD counts c 0) (made (stepsIn cells n) (c + 1)))
-        → Stored old cells′ n′ (squarings p (countsOf counts) (c + 1))
+        → StepsStored old cells′ n′ (squarings p (countsOf counts) (c + 1))
     columns-on cells′ n′ v′ t = rw (add-one c) (emits-on (squared p (countsOf counts c)) base begins t .stored)
 
 pub columns-end : (p : ℕ) (counts old cells : List ℕ) (n c : ℕ) → c ≤ length counts → length counts ≤ c
-    → Stored old cells n (squarings p (countsOf counts) c) → Stored old cells n (squarings p (countsOf counts) (length counts))
+    → StepsStored old cells n (squarings p (countsOf counts) c) → StepsStored old cells n (squarings p (countsOf counts) (length counts))
 columns-end p counts old cells n c h g s = let last : length counts ≡ c = omega arith in rw last s
 
 pub ruleset squaring-columns = (columns-start, columns-room, columns-on, columns-end)

@@ -1,12 +1,6 @@
-pub mod Sound
-pub mod Nonempty
-pub mod Product
 pub mod Payslips
+pub mod Right
 pub mod Powers
-pub mod Table
-pub mod Entries
-pub mod Emitted
-pub mod Emitters
-pub mod Tabling
 pub mod Paying
+pub mod Filling
 pub mod Columns

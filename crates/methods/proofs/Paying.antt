@@ -1,36 +1,32 @@
--- Laws by which payslips emitted one after the other keep to their contract, for any method whose payslips only append steps.
-use mathlib.Core.Path.{_≡_, refl, ap, _∙_}
-use mathlib.Core.List.{List, [], _∷_, _++_, append-assoc}
-use Prim.Native.Nat.{ℕ, zero, suc, _+_, _≤_, _<_}
+-- Payslips are emitted one after the other, by any method whose payslips only append steps: a loop over them keeps the steps and the outputs of the
+-- payslips so far, and after whatever the chain begins with they make it whole.
+use mathlib.Core.Path.{_≡_, refl, ap, ap₂, _∙_}
+use mathlib.Core.List.{List, []}
+use Prim.Native.Nat.{ℕ, zero, suc, _+_, _≤_, _<_, zero-le}
 use native.Mathlib.Numerals.{add-one}
 use native.Mathlib.Omega.{arith}
-use lib.ListN.{length, getD, drop, set, length-append}
-use lib.Seq.{drop-cons, set-at}
-use Rattle.chain.specs.Chain.{flat}
+use lib.ListN.{length, set, length-append, length-set}
+use Rattle.chain.specs.Chain.{mostColumns, flat}
 use Rattle.chain.specs.Written.{over}
 use Rattle.chain.specs.declared.Step.{Step}
-use Rattle.methods.specs.Product.{Made, payslips}
-use Rattle.methods.specs.Emitted.{stepsIn, Room, Stored, Emitted}
-use Rattle.methods.proofs.Sound.{Begins, begins-rise}
-use Rattle.methods.proofs.Emitted.{stored-own, stored-is, stored-on, stored-room}
-
--- one number more over a slice's front
-pub over-next : (l old : List ℕ) (x n : ℕ) → length l ≡ n → n < length old → set (over l old) n x ≡ over (l ++ x ∷ []) old
-unfolding over
-over-next l old x n long h =
-    let len : length (l ++ x ∷ []) ≡ suc n = length-append l (x ∷ []) ∙ omega arith in
-    rw (len, long, drop-cons old n 0 h, append-assoc) (set-at l (getD old n 0) (drop (suc n) old) x n long)
-
--- before the first payslip, and after the last
-pub paid-none : (p : ℕ) (cells : List ℕ) (n : ℕ) (steps : List Step) → Room p cells n steps → Stored cells cells n (stepsIn cells n)
-paid-none p cells n steps room = stored-own cells n (room .so-far)
+use Rattle.chain.proofs.Pairs.{length-flat}
+use Rattle.chain.proofs.Written.{over-over, over-next}
+use Rattle.products.specs.Product.{Made, payslips}
+use Rattle.products.specs.Inner.{stepsIn, StepsRoom, StepsStored, Emitted}
+use Rattle.products.proofs.Sound.{Begins, begins-own, begins-rise, begins-length}
+use Rattle.products.proofs.Emitted.{stored-own, stored-is, stored-length, stored-on, stored-room}
+use Rattle.methods.specs.Inner.{ChainRoom, ChainStored}
 
 pub over-none : (old : List ℕ) → old ≡ over [] old
 unfolding over
 over-none old = refl
 
+-- the slices before the first payslip, and after the last
+pub paid-none : (p : ℕ) (cells : List ℕ) (n : ℕ) (steps : List Step) → StepsRoom p cells n steps → StepsStored cells cells n (stepsIn cells n)
+paid-none p cells n steps room = stored-own cells n (room .so-far)
+
 module _ (slip : ℕ → List Step → Made) (start : List Step) (i q : ℕ) (h : i ≤ q) (g : q ≤ i) where
-  pub paid-steps : (old cells : List ℕ) (s : ℕ) → Stored old cells s (payslips slip start i .steps) → cells ≡ over (flat (payslips slip start q .steps)) old
+  pub paid-steps : (old cells : List ℕ) (s : ℕ) → StepsStored old cells s (payslips slip start i .steps) → cells ≡ over (flat (payslips slip start q .steps)) old
   paid-steps old cells s st =
       let last : q ≡ i = omega arith in
       rw last (st .cells-are)
@@ -49,12 +45,12 @@ module _ (slip : ℕ → List Step → Made) (start : List Step) (each : (i : �
   paid-length (suc i) = length-append (payslips slip start i .outputs) _ ∙ omega (arith, paid-length i)
 
   -- payslip i after those before it
-  module _ (old cells : List ℕ) (s i : ℕ) (st : Stored old cells s (payslips slip start i .steps)) where
-    pub pay-room : (p n q : ℕ) → Room p old n (payslips slip start q .steps) → i < q → Room p cells s (slip i (stepsIn cells s) .steps)
+  module _ (old cells : List ℕ) (s i : ℕ) (st : StepsStored old cells s (payslips slip start i .steps)) where
+    pub pay-room : (p n q : ℕ) → StepsRoom p old n (payslips slip start q .steps) → i < q → StepsRoom p cells s (slip i (stepsIn cells s) .steps)
     pay-room p n q room h =
         rw (stored-is st) (stored-room room st (each i (payslips slip start i .steps)) (paid-begins (suc i) q h))
 
-    pub pay-steps : (cells′ : List ℕ) (s′ v : ℕ) → Emitted cells cells′ s′ v (slip i (stepsIn cells s)) → Stored old cells′ s′ (payslips slip start (i + 1) .steps)
+    pub pay-steps : (cells′ : List ℕ) (s′ v : ℕ) → Emitted cells cells′ s′ v (slip i (stepsIn cells s)) → StepsStored old cells′ s′ (payslips slip start (i + 1) .steps)
     pay-steps cells′ s′ v e =
         let t = rw (stored-is st) at (e .stored) in
         rw (add-one i) (stored-on st (each i (payslips slip start i .steps)) t)
@@ -64,3 +60,88 @@ module _ (slip : ℕ → List Step → Made) (start : List Step) (each : (i : �
     pay-output cells′ s′ v e old′ outputs h is =
         let t : v ≡ slip i (payslips slip start i .steps) .value = e .value ∙ ap (λ (l : List Step). slip i l .value) (stored-is st) in
         rw (add-one i, is, t) (over-next (payslips slip start i .outputs) old′ _ i (paid-length i) h)
+
+-- The state of a loop over q payslips after the first i: the slices, which were steps₀ and outputs₀, hold their s steps after those of start, and
+-- their outputs.
+pub record Paying (q : ℕ) (slip : ℕ → List Step → Made) (start : List Step) (steps₀ outputs₀ : List ℕ) (i : ℕ) (steps outputs : List ℕ) (s : ℕ) : Type 0 where
+  pub so-far : i ≤ q
+  pub steps-long : length steps ≡ length steps₀
+  pub outputs-long : length outputs ≡ length outputs₀
+  pub outputs-fit : q ≤ length outputs
+  pub stored : StepsStored steps₀ steps s (payslips slip start i .steps)
+  pub outputs-are : outputs ≡ over (payslips slip start i .outputs) outputs₀
+
+pub paying-start : (p q : ℕ) (slip : ℕ → List Step → Made) (steps outputs : List ℕ) (n : ℕ)
+    → StepsRoom p steps n (payslips slip (stepsIn steps n) q .steps) → q ≤ length outputs
+    → Paying q slip (stepsIn steps n) steps outputs 0 steps outputs n
+paying-start p q slip steps outputs n room fit =
+    record {
+      so-far = zero-le;
+      steps-long = refl;
+      outputs-long = refl;
+      outputs-fit = fit;
+      stored = paid-none p steps n _ room;
+      outputs-are = over-none outputs;
+    }
+
+pub paying-end : {q : ℕ} {slip : ℕ → List Step → Made} {start : List Step} {steps₀ outputs₀ : List ℕ} {i : ℕ} {steps outputs : List ℕ} {s : ℕ}
+    → Paying q slip start steps₀ outputs₀ i steps outputs s → q ≤ i → ChainStored steps₀ outputs₀ steps outputs (payslips slip start q)
+paying-end {q} {slip} {start} {steps₀} {outputs₀} {i} state done =
+    record {
+      steps-are = paid-steps slip start i q (state .so-far) done _ _ _ (state .stored);
+      outputs-are = paid-outputs slip start i q (state .so-far) done _ _ (state .outputs-are);
+    }
+
+module _ (slip : ℕ → List Step → Made) (each : (i : ℕ) (before : List Step) → Begins before (slip i before .steps)) where
+  -- a turn: there is room for payslip i, and its steps and output are stored
+  module _ {q : ℕ} {start : List Step} {steps₀ outputs₀ : List ℕ} {i : ℕ} {steps outputs : List ℕ} {s : ℕ}
+      (state : Paying q slip start steps₀ outputs₀ i steps outputs s) {p n : ℕ} (room : StepsRoom p steps₀ n (payslips slip start q .steps)) (less : i < q) where
+    pub paying-room : StepsRoom p steps s (slip i (stepsIn steps s) .steps)
+    paying-room = pay-room slip start each steps₀ steps s i (state .stored) p n q room less
+
+    pub paying-on : {steps′ : List ℕ} {s′ v : ℕ} → Emitted steps steps′ s′ v (slip i (stepsIn steps s))
+        → Paying q slip start steps₀ outputs₀ (i + 1) steps′ (set outputs i v) s′
+    paying-on {steps′} {s′} {v} e =
+        record {
+          so-far = omega arith;
+          steps-long = stored-length (e .stored) (paying-room .cells-hold) ∙ state .steps-long;
+          outputs-long = length-set outputs i v ∙ state .outputs-long;
+          outputs-fit = rw (length-set outputs i v) (state .outputs-fit);
+          stored = pay-steps slip start each steps₀ steps s i (state .stored) steps′ s′ v e;
+          outputs-are =
+              pay-output slip start each steps₀ steps s i (state .stored) steps′ s′ v e outputs₀ outputs
+              (omega (arith, state .outputs-long, state .outputs-fit)) (state .outputs-are);
+        }
+
+  -- A chain of some steps that it begins with, and its payslips.
+  module _ (start : List Step) (q : ℕ) {p count : ℕ} {old outputs₀ : List ℕ} (columns : p ≤ mostColumns) (fits : ChainRoom q count old outputs₀)
+      (counted : length (payslips slip start q .steps) ≡ count) where
+    whole : StepsRoom p old 0 (payslips slip start q .steps)
+    whole = record { so-far = zero-le; cells-hold = omega (arith, fits .steps-fit); numbers-fit = omega (arith, fits .short) }
+
+    -- there is room for the beginning, and after it for the payslips
+    pub begin-room : StepsRoom p old 0 start
+    begin-room =
+        let w = whole in
+        let longer = begins-length (paid-begins slip start each 0 q zero-le) in
+        record { so-far = zero-le; cells-hold = omega (arith, w .cells-hold); numbers-fit = omega (arith, w .numbers-fit) }
+
+    pub payslips-room : {cells : List ℕ} {n : ℕ} → StepsStored old cells n start → StepsRoom p cells n (payslips slip (stepsIn cells n) q .steps)
+    payslips-room st = rw (stored-is st) (stored-room whole st (paid-begins slip start each 0 q zero-le) (begins-own _))
+
+  -- the payslips over the beginning are the chain
+  pub chain-stored : (start : List Step) (q : ℕ) {old cells : List ℕ} {n : ℕ} → StepsStored old cells n start
+      → {outputs₀ cells′ outputs′ : List ℕ} → ChainStored cells outputs₀ cells′ outputs′ (payslips slip (stepsIn cells n) q)
+      → ChainStored old outputs₀ cells′ outputs′ (payslips slip start q)
+  chain-stored start q {old} {cells} {n} st {outputs₀} r =
+      record {
+        steps-are =
+            r .steps-are
+            ∙ ap₂ (λ (l : List Step) (c : List ℕ). over (flat (payslips slip l q .steps)) c) (stored-is st) (st .cells-are)
+            ∙ over-over (flat start) (flat (payslips slip start q .steps)) old longer;
+        outputs-are = r .outputs-are ∙ ap (λ (l : List Step). over (payslips slip l q .outputs) outputs₀) (stored-is st);
+      }
+    where
+      longer : length (flat start) ≤ length (flat (payslips slip start q .steps))
+      longer =
+          omega (arith, length-flat start, length-flat (payslips slip start q .steps), begins-length (paid-begins slip start each 0 q zero-le))

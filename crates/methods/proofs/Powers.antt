@@ -1,4 +1,4 @@
--- Laws of the powers of the bases by repeated squaring: what they make, and how many steps they cost.
+-- By induction on the columns: j squarings of a base make 2^j of its column, at the value number that the squarings before it tell.
 use mathlib.Core.Path.{_≡_, refl, sym, ap, _∙_}
 use Prim.Native.Nat.{ℕ, zero, suc, _+_, _*_, _^_, _≤_, _<_}
 use native.Mathlib.Nat.{one-mul, le-refl, le-trans}
@@ -11,10 +11,10 @@ use Rattle.chain.proofs.Exponents.{Makes}
 use Rattle.digits.specs.Range.{sumTo, sign}
 use Rattle.digits.proofs.Range.{sign-some}
 use Rattle.digits.proofs.Vector.{delta, delta-part}
-use Rattle.methods.specs.Product.{Made, made, squared}
+use Rattle.products.specs.Product.{Made, made, squared}
 use Rattle.methods.specs.Powers.{squarings, powerOf}
-use Rattle.methods.proofs.Sound.{makes-on, makes-base, Sound, sound-none}
-use Rattle.methods.proofs.Product.{squared-count, squared-last, squared-begins, Result, result-value, result-squared}
+use Rattle.products.proofs.Sound.{makes-on, makes-base, Sound, sound-none}
+use Rattle.products.proofs.Product.{squared-count, squared-last, squared-begins, Result, result-value, result-squared}
 
 -- as many steps as squarings
 pub squarings-count : (p : ℕ) (n : ℕ → ℕ) (c : ℕ) → length (squarings p n c) ≡ sumTo c n

@@ -1,4 +1,3 @@
-pub mod Product
-pub mod Table
 pub mod Powers
-pub mod Emitted
+pub mod Method
+pub mod Inner

@@ -7,7 +7,7 @@ use Rattle.chain.specs.Tests.{_=?_}
 use Rattle.chain.specs.declared.Step.{Step}
 use Rattle.digits.specs.Range.{sumTo, maxTo}
 use Rattle.sheet.specs.Sheet.{amount}
-use Rattle.methods.specs.Product.{made, squared}
+use Rattle.products.specs.Product.{made, squared}
 
 -- "its largest amount", of column c over q payslips
 abbrev pub largestIn : ℕ → ℕ → List ℕ → ℕ → ℕ

@@ -1,13 +1,6 @@
-pub mod Inputs
-pub mod Groups
-pub mod Tables
 pub mod Parts
-pub mod Members
 pub mod Partition
-pub mod Counting
-pub mod Filling
-pub mod Rows
-pub mod Taking
-pub mod Emitting
+pub mod Joining
 pub mod Paying
 pub mod Whole
+pub mod Right

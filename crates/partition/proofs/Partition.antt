@@ -1,39 +1,27 @@
--- The theorems of method 3: its chain is legal, each output makes its payslip, no exponent is too large, and the steps are as many as the count,
--- which keeps to the ceiling.
-use mathlib.Core.Path.{_≡_, refl, sym, ap, ap₂, _∙_}
+-- Method 3's chain: after the squarings and the groups' tables each payslip makes its amounts, and squarings, tables and payslips add up to the count.
+use mathlib.Core.Path.{_≡_, ap, ap₂, _∙_}
 use mathlib.Core.List.{List}
-use Prim.Native.Nat.{ℕ, zero, suc, _+_, _-_, _*_, _^_, _≤_, _<_, min}
-use native.Mathlib.Nat.{le-refl, le-trans, add-le-add, pow-suc}
-use native.Mathlib.Decide.{decLe}
+use Prim.Native.Nat.{ℕ, _+_, _-_, _*_, _≤_, _<_}
+use native.Mathlib.Nat.{le-refl}
 use native.Mathlib.Omega.{arith}
 use lib.ListN.{length, getD}
-use lib.Pow.{pow-mono}
-use Rattle.chain.specs.Verdict.{fine}
-use Rattle.chain.specs.Chain.{mostAmount, stepsRule, outputsRule}
+use Rattle.chain.specs.Chain.{mostAmount}
 use Rattle.chain.specs.declared.Step.{Step}
-use Rattle.chain.proofs.Exponents.{Makes, Within}
-use Rattle.digits.specs.Range.{sumTo, sign}
-use Rattle.digits.proofs.Range.{sum-same, sum-low, signs-low}
+use Rattle.digits.specs.Range.{sumTo}
+use Rattle.digits.proofs.Range.{sum-low, signs-low}
 use Rattle.sheet.specs.Sheet.{amount}
-use Rattle.methods.specs.Powers.{squarings}
-use Rattle.methods.proofs.Sound.{Begins, Sound}
-use Rattle.methods.proofs.Product.{Result, result-like}
-use Rattle.methods.proofs.Powers.{Powers, powers, squarings-count}
-use Rattle.methods.proofs.Payslips.{Pays, pays-legal, payslips-make, payslips-count}
-use Rattle.partition.specs.Partition.{columnBits, columnSquarings, inputs, taken, inputCount, group, groupCount, groupSize, weigh, groupTables, parts, partition, squaringCount, partitionCount, groupCeiling, partitionCeiling}
-use Rattle.partition.proofs.Groups.{inputs-below, reached, reached-all}
-use Rattle.partition.proofs.Tables.{Grouped, tables-count, tables-make}
-use Rattle.partition.proofs.Parts.{parts-make, parts-count}
-use Rattle.partition.proofs.Members.{exponentIn, members-count, taken-count, taken-two, members-some, members-make, members-sum, column-bits, taken-sum}
-
--- a table of more inputs has no fewer steps
-table-more : (g c : ℕ) → g ≤ c → 2 ^ g - g - 1 ≤ 2 ^ c - c - 1
-table-more g zero h = let e : g ≡ 0 = omega arith in rw e (le-refl _)
-table-more g (suc c) h = by-size (table-more g c) (decLe g c)
-  where
-    by-size : (g ≤ c → 2 ^ g - g - 1 ≤ 2 ^ c - c - 1) → Dec (g ≤ c) → 2 ^ g - g - 1 ≤ 2 ^ suc c - suc c - 1
-    by-size ih (yes le) = rw (pow-suc 2 c) (omega (arith, ih le, inputs-below c))
-    by-size ih (no gt) = let e : g ≡ suc c = omega arith in rw e (le-refl _)
+use Rattle.products.proofs.Sound.{Begins, Sound}
+use Rattle.products.proofs.Product.{Result, result-like}
+use Rattle.methods.proofs.Powers.{squarings-count}
+use Rattle.methods.proofs.Payslips.{Pays, payslips-make, payslips-count}
+use Rattle.groups.specs.Groups.{columnSquarings, group, groupCount, inputCount, inputs, selection, sheetSquarings, sheetTables, squaringCount, tablesCount, weigh}
+use Rattle.groups.proofs.Counting.{tables-ceiling}
+use Rattle.groups.proofs.Members.{exponentIn, members-count, members-some, selection-sum, selection-two}
+use Rattle.groups.proofs.Parts.{uses}
+use Rattle.groups.proofs.Prepared.{selected, selection-long, sheet-tables}
+use Rattle.groups.proofs.Tables.{tables-count}
+use Rattle.partition.specs.Partition.{joinCount, partition, partitionCeiling, partitionCount, partitionPayslip}
+use Rattle.partition.proofs.Parts.{parts-count, parts-make}
 
 -- the count keeps to the ceiling
 pub partition-ceiling : (p q : ℕ) (amounts : List ℕ) (c : ℕ) → partitionCount p q amounts c ≤ partitionCeiling p q amounts c
@@ -41,85 +29,59 @@ unfolding partitionCount partitionCeiling
 partition-ceiling p q amounts c =
     let w : ℕ = inputCount p q amounts in
     let G : ℕ = groupCount c w in
-    let tables = sum-low G (λ g. 2 ^ groupSize c w g - groupSize c w g - 1) (2 ^ c - c - 1) (λ g h. table-more (groupSize c w g) c (omega arith)) in
+    let tables = tables-ceiling c w in
     let joins =
-    sum-low q (λ i. sumTo G (λ g. sign (weigh (group c g (taken p q amounts i)))) - 1) (G - 1)
-    (λ i h. omega (arith, signs-low G (λ g. weigh (group c g (taken p q amounts i))))) in
+    sum-low q (joinCount p q amounts c G) (G - 1) (λ i h. omega (arith, signs-low G (λ g. weigh (group c g (selection p q amounts i))))) in
     omega arith
 
-module _ (p q : ℕ) (amounts : List ℕ) (c : ℕ) (some : 1 ≤ c) where
-  same-length : (i : ℕ) → length (taken p q amounts i) ≡ length (inputs p q amounts)
-  same-length i = taken-count p q amounts i ∙ sym (members-count p q amounts)
+module _ (p q : ℕ) (amounts : List ℕ) (c : ℕ) where
+  abbrev G : ℕ
+  G = groupCount c (inputCount p q amounts)
+
+  abbrev members : List ℕ
+  members = inputs p q amounts
+
+  abbrev squares : List Step
+  squares = sheetSquarings p q amounts
 
   -- the steps are as many as the count
   pub partition-count : length (partition p q amounts c .steps) ≡ partitionCount p q amounts c
   unfolding partition partitionCount
   partition-count =
-      let n : ℕ → ℕ = columnSquarings p q amounts in
-      let G : ℕ = groupCount c (inputCount p q amounts) in
-      payslips-count _ (groupTables p c (inputs p q amounts) (squarings p n p) G) _ q
-      (λ i h before. parts-count p c (inputs p q amounts) (squarings p n p) (taken p q amounts i) (same-length i) (taken-two p q amounts i) (members-some p q amounts) before G)
-      ∙ ap (λ (s : ℕ). s + sumTo q (λ i. sumTo G (λ g. sign (weigh (group c g (taken p q amounts i)))) - 1))
-      (tables-count p c (inputs p q amounts) (squarings p n p) G
-      ∙ ap₂ _+_ (squarings-count p n p)
-      (ap (λ (w : ℕ). sumTo G (λ g. 2 ^ groupSize c w g - groupSize c w g - 1)) (members-count p q amounts)))
+      payslips-count (partitionPayslip p q amounts c) (sheetTables p q amounts c) (joinCount p q amounts c G) q each
+      ∙ ap (λ (s : ℕ). s + sumTo q (joinCount p q amounts c G)) (tables-count p c members squares G ∙ ap₂ _+_ squared tabled)
+    where
+      each : (i : ℕ) → i < q → (before : List Step) → length (partitionPayslip p q amounts c i before .steps) ≡ length before + joinCount p q amounts c G i
+      each i h before =
+          parts-count p c members squares (selection p q amounts i) (selection-long p q amounts i) (selection-two p q amounts i) (members-some p q amounts) before G
 
-  module _ (low : (j : ℕ) → getD amounts j 0 ≤ mostAmount) where
-    abbrev n : ℕ → ℕ
-    n = columnSquarings p q amounts
+      squared : length squares ≡ squaringCount p q amounts
+      squared = squarings-count p (columnSquarings p q amounts) p
 
-    -- the squarings
-    made : Powers p mostAmount n p
-    made =
-        powers p mostAmount n (omega arith)
-        (λ d h. let few = column-bits p q amounts low d in le-trans (pow-mono {j = 31} (omega arith)) (omega arith)) p (le-refl p)
+      tabled : tablesCount c (length members) G ≡ tablesCount c (inputCount p q amounts) G
+      tabled = ap (λ (w : ℕ). tablesCount c w G) (members-count p q amounts)
 
-    -- the groups' tables
-    tables : (G : ℕ) → Grouped p mostAmount c (inputs p q amounts) (squarings p n p) (exponentIn p q amounts) G
-    tables G =
-        tables-make p mostAmount c (inputs p q amounts) (squarings p n p) (exponentIn p q amounts) (members-make p q amounts mostAmount made) sums (made .sound) G
-      where
-        sums : (d : ℕ) → d < p → sumTo (length (inputs p q amounts)) (λ j. exponentIn p q amounts j d) ≤ mostAmount
-        sums d h =
-            let few = pow-mono {j = 32} (column-bits p q amounts low d) in
-            rw (members-count p q amounts) (omega (arith, members-sum p q amounts d h))
+  -- every payslip is made, within the limit
+  pub partition-pays : 1 ≤ c → ((j : ℕ) → getD amounts j 0 ≤ mostAmount)
+      → Pays p mostAmount (sheetTables p q amounts c) (amount p amounts) q (partition p q amounts c)
+  unfolding partition
+  partition-pays some low =
+      payslips-make p mostAmount (partitionPayslip p q amounts c) (sheetTables p q amounts c) (amount p amounts) q (sheet-tables p q amounts low c G .sound) each
+    where
+      x : ℕ → ℕ → ℕ
+      x = exponentIn p q amounts
 
-    pays : Pays p mostAmount (groupTables p c (inputs p q amounts) (squarings p n p) (groupCount c (inputCount p q amounts))) (amount p amounts) q (partition p q amounts c)
-    unfolding partition
-    pays = payslips-make p mostAmount _ _ (amount p amounts) q (tables G .sound) each
-      where
-        G : ℕ
-        G = groupCount c (inputCount p q amounts)
+      each : (i : ℕ) → i < q → (before : List Step) → Sound p mostAmount before → Begins (sheetTables p q amounts c) before
+          → Result p mostAmount before (partitionPayslip p q amounts c i before) (amount p amounts i)
+      each i h before s b = result-like (λ d g. selected p q amounts c some i d h g) made
+        where
+          own : List ℕ
+          own = selection p q amounts i
 
-        total : (i d : ℕ) → i < q → d < p
-            → sumTo (length (inputs p q amounts)) (λ j. getD (taken p q amounts i) j 0 * exponentIn p q amounts j d) ≡ amount p amounts i d
-        total i d h g = rw (members-count p q amounts) (taken-sum p q amounts i d h g)
+          within : (d : ℕ) → d < p → sumTo (length members) (λ j. getD own j 0 * x j d) ≤ mostAmount
+          within d g = rw (members-count p q amounts, selection-sum p q amounts i d h g) (low (i * p + d))
 
-        all : reached c (length (inputs p q amounts)) G ≡ length (inputs p q amounts)
-        all = rw (← members-count p q amounts) (reached-all c (length (inputs p q amounts)) some)
-
-        each : (i : ℕ) → i < q → (before : List Step) → Sound p mostAmount before
-            → Begins (groupTables p c (inputs p q amounts) (squarings p n p) G) before
-            → Result p mostAmount before (parts p c (inputs p q amounts) (squarings p n p) (taken p q amounts i) before G) (amount p amounts i)
-        each i h before s b =
-            result-like
-            (λ d g. ap (λ (k : ℕ). sumTo k (λ j. getD (taken p q amounts i) j 0 * exponentIn p q amounts j d)) all ∙ total i d h g)
-            (parts-make p c (inputs p q amounts) (squarings p n p) (taken p q amounts i) (same-length i) (taken-two p q amounts i) mostAmount (exponentIn p q amounts)
-            (λ d g. rw (total i d h g) (low (i * p + d))) G (tables G) before s b G (le-refl G))
-
-    -- the steps are legal and the outputs are values' numbers
-    pub partition-legal : (stepsRule p 1 (partition p q amounts c .steps) ≡ fine)
-        × (outputsRule (p + length (partition p q amounts c .steps)) 1 (partition p q amounts c .outputs) ≡ fine)
-    partition-legal = (pays .sound .legal, pays-legal pays)
-
-    -- each output makes its payslip
-    pub partition-makes : (i : ℕ) → i < q → Makes p (partition p q amounts c .steps) (getD (partition p q amounts c .outputs) i 0) (λ d. amount p amounts i d)
-    partition-makes = pays .makes
-
-    -- no exponent is above 4,294,967,295
-    pub partition-within : Within p (partition p q amounts c .steps) mostAmount
-    partition-within = pays .sound .within
-
-    -- an output for each payslip
-    pub partition-outputs : length (partition p q amounts c .outputs) ≡ q
-    partition-outputs = pays .outputs
+          made : Result p mostAmount before (partitionPayslip p q amounts c i before) (uses c members own (selection-long p q amounts i) (selection-two p q amounts i) x G)
+          made =
+              parts-make p c members squares own (selection-long p q amounts i) (selection-two p q amounts i) mostAmount x within G
+              (sheet-tables p q amounts low c G) before s b G (le-refl G)

@@ -1,79 +1,96 @@
--- Laws by which the emitters of the payslips keep to their contracts.
+-- A payslip's parts by their numbers are its parts by its bits: the numbers are the bits' and each table stands where the full ones before it end.
 use mathlib.Core.Path.{_≡_, refl, sym, ap, ap₂, subst, _∙_}
-use mathlib.Core.List.{List, []}
-use Prim.Native.Nat.{ℕ, zero, suc, _+_, _-_, _*_, _^_, _≤_, _<_}
-use native.Mathlib.Nat.{mul-le-mul-right}
+use mathlib.Core.List.{List}
+use Prim.Native.Nat.{ℕ, zero, suc, _+_, _*_, _^_, _≤_, _<_}
+use native.Mathlib.Numerals.{add-one}
 use native.Mathlib.Omega.{arith}
 use lib.ListN.{length, getD}
 use Rattle.chain.specs.declared.Step.{Step}
-use Rattle.digits.specs.Range.{sumTo}
-use Rattle.digits.proofs.Range.{sum-low}
-use Rattle.methods.specs.Product.{Made, times}
-use Rattle.methods.specs.Powers.{countsOf, squarings}
-use Rattle.methods.specs.Table.{entry}
+use Rattle.products.specs.Product.{Made, made, times}
+use Rattle.products.specs.Inner.{stepsIn, StepsRoom, Emitted}
+use Rattle.products.proofs.Sound.{Begins, begins-rise}
+use Rattle.products.proofs.Product.{times-begins}
+use Rattle.products.proofs.Emitted.{emits-room, emits-on}
+use Rattle.tables.specs.Table.{entry}
+use Rattle.methods.specs.Powers.{countsOf}
 use Rattle.methods.proofs.Powers.{squarings-count}
-use Rattle.methods.proofs.Sound.{Begins}
-use Rattle.partition.specs.Partition.{columnSquarings, inputs, taken, inputCount, group, groupCount, groupSize, weigh, parts, squaringCount}
-use Rattle.partition.specs.Bits.{partsBy}
-use Rattle.partition.proofs.Tables.{tables-count}
-use Rattle.partition.proofs.Parts.{part-number}
-use Rattle.partition.proofs.Members.{members-count, taken-count, taken-two}
-use Rattle.partition.proofs.Emitting.{parts-begin}
-use Rattle.partition.proofs.Taking.{column-few}
+use Rattle.groups.specs.declared.Grouping.{Grouping}
+use Rattle.groups.specs.Groups.{columnSquarings, group, groupCount, inputCount, inputs, selection, sheetSquarings, weigh}
+use Rattle.groups.specs.Inner.{tableAt}
+use Rattle.groups.proofs.Measured.{grouped-count, numbers-long}
+use Rattle.groups.proofs.Members.{members-count, selection-two}
+use Rattle.groups.proofs.Parts.{part-number}
+use Rattle.groups.proofs.Prepared.{selection-long}
+use Rattle.groups.proofs.Tabling.{table-place}
+use Rattle.partition.specs.Inner.{Numbered, Ready, partsBy, payslipOf}
+use Rattle.partition.specs.Partition.{partitionPayslip, parts}
+use Rattle.partition.proofs.Parts.{parts-begin}
 
--- parts by their numbers; of the steps before the tables, they see the number alone
-parts-same : (p c : ℕ) (members : List ℕ) (start start′ : List Step) (number : ℕ → ℕ) (bits : List ℕ) (before : List Step) → length start ≡ length start′ → (g : ℕ)
-    → ((e : ℕ) → e < g → number e ≡ weigh (group c e bits)) → partsBy p c members start number before g ≡ parts p c members start′ bits before g
-parts-same p c members start start′ number bits before same zero is = refl
-parts-same p c members start start′ number bits before same (suc g) is =
-    ap₂ (times p) (parts-same p c members start start′ number bits before same g (λ e h. is e (omega arith)))
-    (ap₂ (λ (n t : ℕ). entry 1 (group c g members) (p + n + 1) t)
-    (tables-count p c members start g
-    ∙ ap (λ (n : ℕ). n + sumTo g (λ h. 2 ^ groupSize c (length members) h - groupSize c (length members) h - 1)) same
-    ∙ sym (tables-count p c members start′ g))
-    (is g (omega arith)))
+-- a payslip's parts by their numbers
+module _ (s : Grouping) (members : List ℕ) (number : ℕ → ℕ) (before : List Step) where
+  abbrev by-number : ℕ → Made
+  by-number = partsBy s members number before
 
-module _ (p q : ℕ) (amounts : List ℕ) where
-  pub members-long : (members : List ℕ) → members ≡ inputs p q amounts → length members ≡ inputCount p q amounts
-  members-long members is = ap length is ∙ members-count p q amounts
+  rise : (g G : ℕ) → g ≤ G → Begins (by-number g .steps) (by-number G .steps)
+  rise = begins-rise (λ g. by-number g .steps) (λ g. times-begins (s .p) (by-number g) _)
 
-  pub squarings-few : ((j : ℕ) → getD amounts j 0 < 2 ^ 32) → p ≤ 16 → squaringCount p q amounts ≤ 512
-  squarings-few low h =
-      omega (arith, sum-low p (columnSquarings p q amounts) 32 (λ col g. omega (arith, column-few p q amounts low col)), mul-le-mul-right 32 h)
+  -- one part more: y its value
+  module _ (old cells : List ℕ) (m v g y : ℕ) (e : Emitted old cells m v (partsBy s members number before g))
+      (value : y ≡ entry 1 (group (s .c) g members) (tableAt s g) (number g)) where
+    next : times (s .p) (by-number g) y ≡ by-number (suc g)
+    next = ap (times (s .p) (by-number g)) value
 
-  pub first-few : ((j : ℕ) → getD amounts j 0 < 2 ^ 32) → (first : ℕ) → first ≡ squaringCount p q amounts → p ≤ 16 → first ≤ 16000
-  first-few low first is h = omega (arith, squarings-few low h)
+    pub part-room : (n : ℕ) → StepsRoom (s .p) old n (partsBy s members number before (s .groups) .steps) → g < s .groups
+        → StepsRoom (s .p) cells m (times (s .p) (made (stepsIn cells m) v) y .steps)
+    part-room n room h = emits-room room (λ r. times (s .p) r y) e (times-begins (s .p) _ y) (rw next (rise (suc g) (s .groups) h))
 
-  -- payslip i after the steps before
-  module _ (c : ℕ) where
-    abbrev pub slip : ℕ → List Step → Made
-    slip i before =
-        parts p c (inputs p q amounts) (squarings p (columnSquarings p q amounts) p) (taken p q amounts i) before (groupCount c (inputCount p q amounts))
+    pub part-on : (cells′ : List ℕ) (m′ v′ : ℕ) → Emitted cells cells′ m′ v′ (times (s .p) (made (stepsIn cells m) v) y)
+        → Emitted old cells′ m′ v′ (partsBy s members number before (g + 1))
+    part-on cells′ m′ v′ f = rw (add-one g, ← next) (emits-on (λ r. times (s .p) r y) e (times-begins (s .p) _ y) f)
 
-    pub slip-begins : (i : ℕ) (before : List Step) → Begins before (slip i before .steps)
-    slip-begins i before =
-        let G : ℕ = groupCount c (inputCount p q amounts) in
-        let start : List Step = squarings p (columnSquarings p q amounts) p in
-        let bits : List ℕ = taken p q amounts i in
-        subst (λ (m : Made). Begins before (m .steps))
-        (parts-same p c (inputs p q amounts) start start (λ g. weigh (group c g bits)) bits before refl G (λ g h. refl))
-        (parts-begin p c (inputs p q amounts) start (λ g. weigh (group c g bits)) before 0 G (omega arith))
+  pub parts-end : (old cells : List ℕ) (m v g : ℕ) → Emitted old cells m v (partsBy s members number before g) → g ≤ s .groups → s .groups ≤ g
+      → Emitted old cells m v (partsBy s members number before (s .groups))
+  parts-end old cells m v g e h k =
+      let last : g ≡ s .groups = omega arith in
+      subst (λ (n : ℕ). Emitted old cells m v (partsBy s members number before n)) last e
 
-    module _ (members numbers : List ℕ) (i groups : ℕ) (is : members ≡ inputs p q amounts) (all : groups ≡ groupCount c (inputCount p q amounts))
-        (at : (g : ℕ) → g < groups → getD numbers g 0 ≡ weigh (group c g (taken p q amounts i))) where
-      pub slip-is : (start before : List Step) (first n : ℕ) → length start ≡ first → first ≡ squaringCount p q amounts → groups ≡ n
-          → partsBy p c members start (countsOf numbers) before n ≡ slip i before
-      slip-is start before first n long told same =
-          ap (partsBy p c members start (countsOf numbers) before) (sym same)
-          ∙ ap (λ (m : List ℕ). partsBy p c m start (countsOf numbers) before groups) is
-          ∙ parts-same p c (inputs p q amounts) start (squarings p (columnSquarings p q amounts) p) (countsOf numbers) (taken p q amounts i) before
-          (long ∙ told ∙ sym (squarings-count p (columnSquarings p q amounts) p)) groups at
-          ∙ ap (λ (g : ℕ). parts p c (inputs p q amounts) (squarings p (columnSquarings p q amounts) p) (taken p q amounts i) before g) all
+-- of payslip i of a grouped sheet
+module _ (s : Grouping) (amounts bits members cells : List ℕ) (ready : Ready s amounts bits members cells) where
+  abbrev squares : List Step
+  squares = sheetSquarings (s .p) (s .q) amounts
 
-      pub same-groups : (n : ℕ) → groups ≡ n → n ≡ groupCount c (length members)
-      same-groups n same = sym same ∙ all ∙ ap (groupCount c) (sym (members-long members is))
+  pub members-long : length members ≡ s .inputs
+  members-long = ap length (ready .members-are) ∙ members-count (s .p) (s .q) amounts ∙ sym (ready .grouped .inputs-are)
 
-      pub parts-number : (n : ℕ) → groups ≡ n → (g : ℕ) → g < n → getD numbers g 0 < 2 ^ (1 * length (group c g members))
-      parts-number n same g h =
-          rw (at g (omega arith), is)
-          (part-number p c (inputs p q amounts) [] (taken p q amounts i) (taken-count p q amounts i ∙ sym (members-count p q amounts)) (taken-two p q amounts i) g)
+  squared : length squares ≡ s .squarings
+  squared = squarings-count (s .p) (columnSquarings (s .p) (s .q) amounts) (s .p) ∙ sym (ready .grouped .squarings-are)
+
+  module _ (i : ℕ) (numbers : List ℕ)
+      (at : (g : ℕ) → g < s .groups → getD numbers g 0 ≡ weigh (group (s .c) g (selection (s .p) (s .q) amounts i))) where
+    abbrev own : List ℕ
+    own = selection (s .p) (s .q) amounts i
+
+    parts-same : (before : List Step) (g : ℕ) → g ≤ s .groups
+        → partsBy s members (countsOf numbers) before g ≡ parts (s .p) (s .c) members squares own before g
+    parts-same before zero h = refl
+    parts-same before (suc g) h =
+        let there = table-place s (ready .grouped .cuts) members squares members-long squared g h in
+        ap₂ (times (s .p)) (parts-same before g (omega arith)) (ap₂ (entry 1 (group (s .c) g members)) (sym there) (at g h))
+
+    pub payslip-is : (before : List Step) → partsBy s members (countsOf numbers) before (s .groups) ≡ payslipOf s amounts i before
+    payslip-is before =
+        parts-same before (s .groups) (omega arith)
+        ∙ ap₂ (λ (m : List ℕ) (g : ℕ). parts (s .p) (s .c) m squares own before g) (ready .members-are) (grouped-count s amounts bits (ready .grouped))
+
+    pub payslip-numbered : length numbers ≡ s .groups → Numbered s members numbers
+    payslip-numbered long = record { cuts = ready .grouped .cuts; members-long = members-long; numbers-long = long; numbers-low = low }
+      where
+        low : (g : ℕ) → g < s .groups → getD numbers g 0 < 2 ^ (1 * length (group (s .c) g members))
+        low g h =
+            rw (at g h, ready .members-are)
+            (part-number (s .c) (inputs (s .p) (s .q) amounts) own (selection-long (s .p) (s .q) amounts i) (selection-two (s .p) (s .q) amounts i) g)
+
+-- a payslip only appends steps
+pub payslip-begins : (p q : ℕ) (amounts : List ℕ) (c i : ℕ) (before : List Step) → Begins before (partitionPayslip p q amounts c i before .steps)
+payslip-begins p q amounts c i before =
+    parts-begin p c (inputs p q amounts) (sheetSquarings p q amounts) (selection p q amounts i) before 0 (groupCount c (inputCount p q amounts)) (omega arith)

@@ -1,157 +1,65 @@
--- Laws by which the count and the emitter of the whole chain keep to their contracts.
-use mathlib.Core.Path.{_≡_, sym, ap, ap₂, _∙_}
+-- Squarings and tables begin the chain, so there is room for them, and the payslips stored after them make it whole.
+use mathlib.Core.Path.{_≡_, _∙_, subst}
 use mathlib.Core.List.{List}
-use Prim.Native.Nat.{ℕ, _+_, _-_, _*_, _^_, _≤_, _<_}
+use Prim.Native.Nat.{ℕ, _≤_}
 use native.Mathlib.Omega.{arith}
-use lib.ListN.{length, getD, take}
-use Rattle.chain.specs.Chain.{flat}
-use Rattle.chain.specs.Written.{over}
+use lib.ListN.{length}
 use Rattle.chain.specs.declared.Step.{Step}
-use Rattle.chain.proofs.Pairs.{length-flat}
-use Rattle.chain.proofs.Written.{take-over, over-over}
-use Rattle.digits.specs.Range.{sumTo}
-use Rattle.digits.proofs.Range.{sum-same}
-use Rattle.methods.specs.Product.{payslips}
-use Rattle.methods.specs.Powers.{countsOf, squarings, powerAt, powerOf}
-use Rattle.methods.specs.Emitted.{stepsIn, Room, Stored}
-use Rattle.methods.proofs.Columns.{squarings-same}
-use Rattle.methods.proofs.Emitted.{stored-is, stored-length, stored-on, stored-room}
-use Rattle.methods.proofs.Paying.{paid-begins}
-use Rattle.methods.proofs.Powers.{squarings-count}
-use Rattle.methods.proofs.Sound.{Begins, begins-own, begins-on, begins-length}
-use Rattle.partition.specs.Partition.{columnBits, columnSquarings, powersOf, inputs, inputCount, groupCount, groupTables, partition, squaringCount, partitionCount}
-use Rattle.partition.proofs.Inputs.{length-powers, getD-powers, powers-same, length-over, over-same}
-use Rattle.partition.proofs.Members.{members-count}
+use Rattle.products.specs.Inner.{stepsIn, StepsRoom, StepsStored}
+use Rattle.products.proofs.Sound.{Begins, begins-length}
+use Rattle.methods.specs.Inner.{ChainRoom, ChainStored}
+use Rattle.methods.proofs.Paying.{begin-room, payslips-room, chain-stored, paid-begins}
+use Rattle.groups.specs.declared.Grouping.{Grouping}
+use Rattle.groups.specs.Groups.{mostInputs, sheetTables}
+use Rattle.groups.specs.Inner.{Grouped, GroupedFor, GroupsMade, GroupsRoom}
+use Rattle.groups.proofs.Measured.{as-given, groups-room, sheet-stored}
+use Rattle.partition.specs.Inner.{payslipOf, payslipsOf}
+use Rattle.partition.specs.Partition.{partition, partitionCount}
 use Rattle.partition.proofs.Partition.{partition-count}
-use Rattle.partition.proofs.Counting.{bitsTo, tablesTo}
-use Rattle.partition.proofs.Filling.{measured, inputsTo}
-use Rattle.partition.proofs.Taking.{joinsTo, bits-at, bits-sum}
-use Rattle.partition.proofs.Emitting.{tables-begin}
-use Rattle.partition.proofs.Paying.{members-long, squarings-few, slip, slip-begins}
+use Rattle.partition.proofs.Paying.{payslip-begins}
 
-module _ (p q : ℕ) (amounts : List ℕ) where
-  -- the columns' bits less some, in the front of a slice
-  module _ (old cells : List ℕ) where
-    pub measured-is : (less : ℕ) → cells ≡ over (measured p q amounts less old p) old → take p cells ≡ measured p q amounts less old p
-    measured-is less e = ap (take p) e ∙ take-over p (measured p q amounts less old p) old (length-powers p _)
+-- a grouped sheet and room for its chain
+module _ (s : Grouping) (amounts bits : List ℕ) (grouped : Grouped s amounts bits) (old outputs : List ℕ)
+    (fits : ChainRoom (s .q) (partitionCount (s .p) (s .q) amounts (s .c)) old outputs) where
+  abbrev tables : List Step
+  tables = sheetTables (s .p) (s .q) amounts (s .c)
 
-    pub measured-long : (less : ℕ) → cells ≡ over (measured p q amounts less old p) old → p ≡ length (take p cells)
-    measured-long less e = sym (ap length (measured-is less e) ∙ length-powers p _)
+  counted : length (payslipsOf s amounts tables .steps) ≡ partitionCount (s .p) (s .q) amounts (s .c)
+  unfolding partition
+  counted = partition-count (s .p) (s .q) amounts (s .c)
 
-    pub bits-are : cells ≡ over (measured p q amounts 0 old p) old → take p cells ≡ powersOf p (columnBits p q amounts)
-    bits-are e = measured-is 0 e ∙ powers-same p _ _ (λ col h. omega arith)
+  each : (i : ℕ) (before : List Step) → Begins before (payslipOf s amounts i before .steps)
+  each = payslip-begins (s .p) (s .q) amounts (s .c)
 
-  pub inputs-told : (w : ℕ) → w ≡ bitsTo p q amounts 0 p → w ≡ inputCount p q amounts
-  inputs-told w e = e ∙ sum-same p _ _ (λ col h. omega arith)
+  -- the squarings and the tables
+  pub begin-fits : (members : List ℕ) → mostInputs ≤ length members → GroupsRoom s bits members old
+  begin-fits members room =
+      let rise = begins-length (paid-begins (payslipOf s amounts) tables each 0 (s .q) (omega arith)) in
+      groups-room s amounts bits grouped members old room (omega (arith, counted, fits .short))
+      (begin-room (payslipOf s amounts) each tables (s .q) (grouped .cuts .columns) fits counted)
 
-  -- the squarings, the tables and the payslips
-  pub count-all : (c w groups a b r : ℕ) → w ≡ bitsTo p q amounts 0 p → groups ≡ groupCount c w → a ≡ bitsTo p q amounts 1 p → b ≡ tablesTo c w (groupCount c w)
-      → r ≡ joinsTo p q amounts c groups q → a + b + r ≡ partitionCount p q amounts c
-  unfolding partitionCount
-  count-all c w groups a b r all grouped squarings tables joins =
-      ap₂ _+_ (ap₂ _+_ squarings tables) (joins ∙ ap (λ (g : ℕ). joinsTo p q amounts c g q) grouped)
-      ∙ ap (λ (n : ℕ). bitsTo p q amounts 1 p + tablesTo c n (groupCount c n) + joinsTo p q amounts c (groupCount c n) q) (inputs-told w all)
+  -- the payslips
+  module _ (members₀ members cells : List ℕ) (n : ℕ) (made : GroupsMade s bits members₀ old members cells n) where
+    tabled : StepsStored old cells n tables
+    tabled = sheet-stored s amounts bits grouped members₀ old members cells n made
 
-  -- how often each column is squared, in a slice
-  module _ (counts : List ℕ) (is : counts ≡ powersOf p (columnSquarings p q amounts)) where
-    counts-at : (col : ℕ) → col < p → getD counts col 0 ≡ columnSquarings p q amounts col
-    counts-at col h = ap (λ (l : List ℕ). getD l col 0) is ∙ getD-powers p (columnSquarings p q amounts) col h
+    pub slips-room : StepsRoom (s .p) cells n (payslipsOf s amounts (stepsIn cells n) .steps)
+    slips-room = payslips-room (payslipOf s amounts) each tables (s .q) (grouped .cuts .columns) fits counted tabled
 
-    pub counts-long : length counts ≡ p
-    counts-long = ap length is ∙ length-powers p (columnSquarings p q amounts)
+    pub chain-whole : (cells′ outputs′ : List ℕ) → ChainStored cells outputs cells′ outputs′ (payslipsOf s amounts (stepsIn cells n))
+        → ChainStored old outputs cells′ outputs′ (partition (s .p) (s .q) amounts (s .c))
+    unfolding partition
+    chain-whole cells′ outputs′ r = chain-stored (payslipOf s amounts) each tables (s .q) tabled r
 
-    pub counts-few : ((j : ℕ) → getD amounts j 0 < 2 ^ 32) → p ≤ 16 → sumTo p (countsOf counts) ≤ 512
-    counts-few low h = rw (sum-same p (countsOf counts) (columnSquarings p q amounts) counts-at) (squarings-few p q amounts low h)
+-- a sheet's grouping stands for what was given
+module _ (p q : ℕ) (amounts : List ℕ) (c : ℕ) (bits : List ℕ) (s : Grouping) (told : GroupedFor p q amounts c bits s) where
+  pub count-given : (r : ℕ) → r ≡ partitionCount (s .p) (s .q) amounts (s .c) → r ≡ partitionCount p q amounts c
+  count-given r e = e ∙ as-given (λ p q c. partitionCount p q amounts c) told
 
-    squares-are : squarings p (countsOf counts) (length counts) ≡ squarings p (columnSquarings p q amounts) p
-    squares-are = ap (squarings p (countsOf counts)) counts-long ∙ squarings-same p (countsOf counts) (columnSquarings p q amounts) p counts-at
+  pub room-given : (steps outputs : List ℕ) → ChainRoom q (partitionCount p q amounts c) steps outputs
+      → ChainRoom (s .q) (partitionCount (s .p) (s .q) amounts (s .c)) steps outputs
+  room-given steps outputs room = rw (told .same-p, told .same-q, told .same-c) room
 
-    -- the inputs' value numbers, in the front of a slice
-    module _ (bits old cells : List ℕ) (bits-are′ : bits ≡ powersOf p (columnBits p q amounts)) (w : ℕ) (all : w ≡ inputCount p q amounts)
-        (e : cells ≡ over (inputsTo p bits counts old p) old) where
-      pub inputs-are : take w cells ≡ inputs p q amounts
-      unfolding inputs
-      inputs-are =
-          ap (take w) e
-          ∙ take-over w (inputsTo p bits counts old p) old (length-over (countsOf bits) (powerOf p (countsOf counts)) p ∙ bits-sum p q amounts bits bits-are′ ∙ sym all)
-          ∙ over-same (countsOf bits) (columnBits p q amounts) (powerOf p (countsOf counts)) (powerOf p (columnSquarings p q amounts)) p (bits-at p q amounts bits bits-are′)
-          (λ col j h. ap (λ (k : ℕ). powerAt col (p + k) j) (sum-same col (countsOf counts) (columnSquarings p q amounts) (λ d g. counts-at d (omega arith))))
-
-      pub inputs-long : w ≡ length (take w cells)
-      inputs-long = sym (ap length inputs-are ∙ members-count p q amounts ∙ sym all)
-
-    -- the squarings, then the tables, then the payslips
-    module _ (c : ℕ) (members old : List ℕ) (some : 1 ≤ c) (columns : p ≤ 16) (members-are : members ≡ inputs p q amounts)
-        (few : partitionCount p q amounts c ≤ 16000) (hold : 2 * partitionCount p q amounts c ≤ length old) where
-      abbrev Squares : List Step
-      Squares = squarings p (columnSquarings p q amounts) p
-
-      abbrev Tables : List Step
-      Tables = groupTables p c (inputs p q amounts) Squares (groupCount c (inputCount p q amounts))
-
-      abbrev Steps : List Step
-      Steps = payslips (slip p q amounts c) Tables q .steps
-
-      steps-count : length Steps ≡ partitionCount p q amounts c
-      unfolding partition
-      steps-count = partition-count p q amounts c some
-
-      whole : Room p old 0 Steps
-      whole = record { so-far = omega arith; cells-hold = omega (arith, steps-count); numbers-fit = omega (arith, steps-count) }
-
-      tables-begins : Begins Squares Tables
-      tables-begins = tables-begin p c (inputs p q amounts) Squares 0 (groupCount c (inputCount p q amounts)) (omega arith)
-
-      steps-begins : Begins Tables Steps
-      steps-begins = paid-begins (slip p q amounts c) Tables (slip-begins p q amounts c) 0 q (omega arith)
-
-      pub squares-room : Room p old 0 (squarings p (countsOf counts) (length counts))
-      squares-room =
-          let w = whole in
-          let longer = begins-length (begins-on tables-begins steps-begins) in
-          rw squares-are (record { so-far = omega arith; cells-hold = omega (arith, w .cells-hold); numbers-fit = omega (arith, w .numbers-fit) })
-
-      module _ (cells : List ℕ) (first : ℕ) (st : Stored old cells first (squarings p (countsOf counts) (length counts))) where
-        squared : Stored old cells first Squares
-        squared = rw squares-are at st
-
-        tables-are : groupTables p c members (stepsIn cells first) (groupCount c (length members)) ≡ Tables
-        tables-are =
-            ap (λ (n : ℕ). groupTables p c members (stepsIn cells first) (groupCount c n)) (members-long p q amounts members members-are)
-            ∙ ap₂ (λ (m : List ℕ) (s : List Step). groupTables p c m s (groupCount c (inputCount p q amounts))) members-are (stored-is squared)
-
-        pub tables-few : length (groupTables p c members (stepsIn cells first) (groupCount c (length members))) ≤ 16000
-        tables-few = rw tables-are (omega (arith, begins-length steps-begins, steps-count))
-
-        pub tables-room : Room p cells first (groupTables p c members (stepsIn cells first) (groupCount c (length members)))
-        tables-room = rw tables-are (stored-room whole squared tables-begins steps-begins)
-
-        pub first-told : first ≡ squaringCount p q amounts
-        first-told = squared .count ∙ squarings-count p (columnSquarings p q amounts) p
-
-        module _ (cells′ : List ℕ) (n : ℕ) (st′ : Stored cells cells′ n (groupTables p c members (stepsIn cells first) (groupCount c (length members)))) where
-          tabled : Stored old cells′ n Tables
-          tabled = stored-on squared tables-begins (rw tables-are at st′)
-
-          pub first-fits : 2 * first ≤ length cells′
-          first-fits =
-              let t = begins-length tables-begins in
-              let s = begins-length steps-begins in
-              let long = stored-length tabled (omega (arith, steps-count)) in
-              omega (arith, squared .count, steps-count)
-
-          pub payslips-room : Room p cells′ n (payslips (slip p q amounts c) (stepsIn cells′ n) q .steps)
-          payslips-room = rw (stored-is tabled) (stored-room whole tabled steps-begins (begins-own Steps))
-
-          pub chain-steps : (cells″ : List ℕ) → cells″ ≡ over (flat (payslips (slip p q amounts c) (stepsIn cells′ n) q .steps)) cells′
-              → cells″ ≡ over (flat (partition p q amounts c .steps)) old
-          unfolding partition
-          chain-steps cells″ e =
-              e
-              ∙ ap₂ (λ (l : List Step) (d : List ℕ). over (flat (payslips (slip p q amounts c) l q .steps)) d) (stored-is tabled) (tabled .cells-are)
-              ∙ over-over (flat Tables) (flat Steps) old (omega (arith, length-flat Tables, length-flat Steps, begins-length steps-begins))
-
-          pub chain-outputs : (outputs outputs′ : List ℕ) → outputs′ ≡ over (payslips (slip p q amounts c) (stepsIn cells′ n) q .outputs) outputs
-              → outputs′ ≡ over (partition p q amounts c .outputs) outputs
-          unfolding partition
-          chain-outputs outputs outputs′ e = e ∙ ap (λ (l : List Step). over (payslips (slip p q amounts c) l q .outputs) outputs) (stored-is tabled)
+  pub chain-given : (steps₀ outputs₀ steps outputs : List ℕ) → ChainStored steps₀ outputs₀ steps outputs (partition (s .p) (s .q) amounts (s .c))
+      → ChainStored steps₀ outputs₀ steps outputs (partition p q amounts c)
+  chain-given steps₀ outputs₀ steps outputs r = subst (ChainStored steps₀ outputs₀ steps outputs) (as-given (λ p q c. partition p q amounts c) told) r

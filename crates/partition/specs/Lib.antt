@@ -1,2 +1,3 @@
 pub mod Partition
-pub mod Bits
+pub mod Inner
+pub mod Method

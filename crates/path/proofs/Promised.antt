@@ -21,9 +21,10 @@ use Rattle.layout.specs.Layout.{edition1}
 use Rattle.layout.specs.File.{byteCount, fileOf, Held, writeRule, readRule}
 use Rattle.layout.proofs.Editions.{edition1-sound, legal-held}
 use Rattle.layout.proofs.ReadingBack.{ReadBack, reading-gives, reading-back}
-use Rattle.compile.specs.Compile.{chainOf, count, ceiling, acceptedRule, compileRule}
+use Rattle.compile.specs.Compile.{methodOf, chainOf, count, ceiling, acceptedRule, compileRule}
 use Rattle.compile.proofs.Fits.{Accepted, accepted}
-use Rattle.compile.proofs.Right.{Right, compiled-right}
+use Rattle.methods.proofs.Right.{Right}
+use Rattle.compile.proofs.Right.{compiled-right}
 
 -- what is promised of the chain c of an accepted sheet, with n its count and most its ceiling
 pub record Promised (p q : ℕ) (amounts : List ℕ) (method k : ℕ) (c : Chain) (n most : ℕ) : Type 0 where
@@ -53,11 +54,11 @@ module _ (p q : ℕ) (amounts : List ℕ) (method k : ℕ) (low : (j : ℕ) → 
   fits : Accepted p q amounts method k
   fits = accepted p q amounts method k ok
 
-  right : Right p q amounts c (count p q amounts method k) (ceiling p q amounts method k)
-  right = compiled-right p q amounts method k low (fits .fitting .fits)
+  right : Right p q amounts (methodOf p q amounts method k)
+  right = compiled-right p q amounts method k low (fits .ranges .fits)
 
   sizes : Sizes p (length (c .outputs))
-  sizes = subst (λ (n : ℕ). Sizes p n) (sym (right .outputs)) (fits .fitting .sizes)
+  sizes = subst (λ (n : ℕ). Sizes p n) (sym (right .outputs)) (fits .ranges .sizes)
 
   few : length (c .steps) ≤ mostSteps
   few = omega (arith, right .counted, fits .short)
@@ -74,7 +75,7 @@ module _ (p q : ℕ) (amounts : List ℕ) (method k : ℕ) (low : (j : ℕ) → 
   made =
       record {
         legal = legal;
-        amounts-fit = fits .fitting .amounts-are ∙ ap (λ (n : ℕ). p * n) (sym (right .outputs));
+        amounts-fit = fits .ranges .amounts-are ∙ ap (λ (n : ℕ). p * n) (sym (right .outputs));
         low = right .within;
         made = λ i h. right .makes i (omega (arith, right .outputs));
       }

@@ -1,37 +1,28 @@
 -- Straus's table: its inputs are the bases, and entry t makes the digits of t.
-use mathlib.Core.Path.{_≡_, refl, _∙_}
-use mathlib.Core.List.{[], _∷_, _++_}
-use Prim.Native.Nat.{ℕ, zero, suc, _+_, _-_, _*_, _^_, _≤_, _<_}
+use mathlib.Core.Path.{_≡_, _∙_}
+use mathlib.Core.List.{[]}
+use Prim.Native.Nat.{ℕ, _+_, _-_, _*_, _^_, _≤_, _<_}
 use native.Mathlib.Nat.{mul-comm, le-refl}
-use native.Mathlib.Decide.{decLt}
 use native.Mathlib.Omega.{arith}
-use lib.ListN.{length, getD, length-append, List·getD-append}
-use lib.Seq.{getD-at}
+use lib.ListN.{length, getD}
 use lib.Pow.{pow-lt}
 use Rattle.chain.proofs.Exponents.{Makes, makes-like}
 use Rattle.digits.specs.Digits.{digit}
 use Rattle.digits.specs.Range.{sign}
 use Rattle.digits.proofs.Range.{sum-same}
+use Rattle.digits.proofs.Listed.{length-list, getD-list}
 use Rattle.digits.proofs.Vector.{delta, digit-low, sum-delta}
-use Rattle.methods.specs.Table.{entry}
-use Rattle.methods.proofs.Sound.{makes-base, Sound, sound-none}
-use Rattle.methods.proofs.Table.{table-count, entry-sign}
-use Rattle.methods.proofs.Entries.{combined, Inputs, Entries, table-makes}
+use Rattle.tables.specs.Table.{entry}
+use Rattle.products.proofs.Sound.{makes-base, Sound, sound-none}
+use Rattle.tables.proofs.Table.{table-count, entry-sign}
+use Rattle.tables.proofs.Entries.{combined, Inputs, Entries, table-makes}
 use Rattle.straus.specs.Straus.{bases, strausTable}
 
 pub length-bases : (p : ℕ) → length (bases p) ≡ p
-length-bases zero = refl
-length-bases (suc p) = length-append (bases p) _ ∙ omega (arith, length-bases p)
+length-bases p = length-list p (λ c. c + 1)
 
-pub getD-bases : (p j : ℕ) → j < p → getD (bases p) j 0 ≡ j + 1
-getD-bases zero j h = absurd (omega arith)
-getD-bases (suc p) j h = by-place (getD-bases p j) (decLt j p)
-  where
-    by-place : (j < p → getD (bases p) j 0 ≡ j + 1) → Dec (j < p) → getD (bases p ++ suc p ∷ []) j 0 ≡ j + 1
-    by-place ih (yes lt) = List·getD-append (bases p) _ 0 j (omega (arith, length-bases p)) ∙ ih lt
-    by-place ih (no ge) =
-        let last : j ≡ p = omega arith in
-        rw last (getD-at (bases p) (suc p) [] 0 p (length-bases p) ∙ omega arith)
+getD-bases : (p j : ℕ) → j < p → getD (bases p) j 0 ≡ j + 1
+getD-bases p = getD-list p (λ c. c + 1)
 
 bases-some : (p j : ℕ) → j < length (bases p) → 0 < getD (bases p) j 0
 bases-some p j h = rw (getD-bases p j (omega (arith, length-bases p))) (omega arith)

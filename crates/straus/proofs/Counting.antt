@@ -1,4 +1,5 @@
--- Laws by which the functions of digits and counts keep to their contracts.
+-- A payslip's amounts laid one over the other have the digits of the largest, and a zero digit exactly where the digit vector is zero: so its steps
+-- are counted from one number.
 use mathlib.Core.Path.{_≡_, refl, sym, ap, ap₂, _∙_}
 use mathlib.Core.List.{List}
 use Prim.Native.Nat.{ℕ, zero, suc, _+_, _-_, _*_, _^_, _≤_, _<_}
@@ -13,7 +14,8 @@ use Rattle.digits.proofs.Overlay.{or-on, or-digits, or-count}
 use Rattle.digits.proofs.Vector.{digit-low, vector-low}
 use Rattle.digits.proofs.Words.{digit-place}
 use Rattle.sheet.specs.Sheet.{amount}
-use Rattle.straus.specs.Straus.{strausDigits, digitVector, strausCount}
+use Rattle.straus.specs.Straus.{strausDigits, digitVector, payslipCount, strausCount}
+use Rattle.straus.specs.Inner.{payslipMost}
 
 -- the amounts of payslip i, one over the other: those of its first c columns, with the next
 abbrev pub overlaidTo : ℕ → List ℕ → ℕ → ℕ → ℕ
@@ -29,9 +31,9 @@ overlaid-end p amounts i c all h g e =
     e ∙ ap (overlaidTo p amounts i) last
 
 -- its digits
-pub digits-told : (p k : ℕ) (amounts : List ℕ) (i x r : ℕ) → 0 < k → r ≡ digitCount k x → x ≡ overlaidTo p amounts i p → r ≡ strausDigits p k amounts i
+pub digits-told : (p : ℕ) (amounts : List ℕ) (k i x r : ℕ) → 0 < k → r ≡ digitCount k x → x ≡ overlaidTo p amounts i p → r ≡ strausDigits p amounts k i
 unfolding strausDigits
-digits-told p k amounts i x r some e is = e ∙ ap (digitCount k) is ∙ or-count k p (amount p amounts i) some
+digits-told p amounts k i x r some e is = e ∙ ap (digitCount k) is ∙ or-count k p (amount p amounts i) some
 
 pub digits-fit : (k x r : ℕ) → 0 < k → x < 2 ^ 32 → r ≡ digitCount k x → k * (r - 1) < 32
 digits-fit k x zero some low e = rw (mul-zero k) (omega arith)
@@ -40,88 +42,84 @@ digits-fit k x (suc r) some low e = digit-place k x (suc r - 1) some low (omega 
 pub ruleset overlaying = (overlaid-on, overlaid-end)
 
 -- the vector of its digits with weight 2^(kj): that of its first c columns, with the next
-abbrev pub vectorTo : ℕ → ℕ → List ℕ → ℕ → ℕ → ℕ → ℕ
-vectorTo p k amounts i j c = sumTo c (λ b. digit k (amount p amounts i b) j * 2 ^ (k * b))
+abbrev pub vectorTo : ℕ → List ℕ → ℕ → ℕ → ℕ → ℕ → ℕ
+vectorTo p amounts k i j c = sumTo c (λ b. digit k (amount p amounts i b) j * 2 ^ (k * b))
 
-pub weight-fits : (p k c : ℕ) → k * p < 32 → c < p → k * c < 32
+pub weight-fits : (p k c : ℕ) → p + k * p < 32 → c < p → k * c < 32
 weight-fits p k c room h =
     let le : c ≤ p = omega arith in
     omega (arith, mul-le-mul-left k le)
 
-module _ (p k : ℕ) (amounts : List ℕ) (i j c v x d w : ℕ) (so-far : v ≡ vectorTo p k amounts i j c) (is : x ≡ amount p amounts i c) (digit-is : d ≡ digit k x j)
+module _ (p : ℕ) (amounts : List ℕ) (k i j c v x d w : ℕ) (so-far : v ≡ vectorTo p amounts k i j c) (is : x ≡ amount p amounts i c) (digit-is : d ≡ digit k x j)
     (weight : w ≡ 2 ^ (k * c)) where
-  pub vector-on : v + d * w ≡ vectorTo p k amounts i j (c + 1)
+  pub vector-on : v + d * w ≡ vectorTo p amounts k i j (c + 1)
   vector-on = sum-on (λ b. digit k (amount p amounts i b) j * 2 ^ (k * b)) c v (d * w) (ap₂ _*_ (digit-is ∙ ap (λ (y : ℕ). digit k y j) is) weight) so-far
 
-  pub vector-fits : k * p < 32 → c < p → v + d * w < 2 ^ 32
+  pub vector-fits : p + k * p < 32 → c < p → v + d * w < 2 ^ 32
   vector-fits room h =
       let le : c + 1 ≤ p = omega arith in
       rw vector-on
       (lt-of-lt-of-le (vector-low k (λ b. digit k (amount p amounts i b) j) (c + 1) (λ b g. digit-low k (amount p amounts i b) j))
       (pow-mono {j = 32} (omega (arith, mul-le-mul-left k le))))
 
-  pub term-fits : k * p < 32 → c < p → d * w < 2 ^ 32
+  pub term-fits : p + k * p < 32 → c < p → d * w < 2 ^ 32
   term-fits room h = omega (arith, vector-fits room h)
 
-pub vector-end : (p k : ℕ) (amounts : List ℕ) (i j c v : ℕ) → c ≤ p → p ≤ c → v ≡ vectorTo p k amounts i j c → v ≡ digitVector p k amounts i j
-vector-end p k amounts i j c v h g e =
+pub vector-end : (p : ℕ) (amounts : List ℕ) (k i j c v : ℕ) → c ≤ p → p ≤ c → v ≡ vectorTo p amounts k i j c → v ≡ digitVector p amounts k i j
+vector-end p amounts k i j c v h g e =
     let last : c ≡ p = omega arith in
-    e ∙ ap (vectorTo p k amounts i j) last
+    e ∙ ap (vectorTo p amounts k i j) last
 
 pub ruleset adding = (weight-fits, vector-on, vector-fits, term-fits, vector-end)
 
 -- the digits below the top one: how many of their vectors are not zero, of the first n
-abbrev pub signsTo : ℕ → ℕ → List ℕ → ℕ → ℕ → ℕ
-signsTo p k amounts i n = sumTo n (λ j. sign (digitVector p k amounts i j))
+abbrev pub signsTo : ℕ → List ℕ → ℕ → ℕ → ℕ → ℕ
+signsTo p amounts k i n = sumTo n (λ j. sign (digitVector p amounts k i j))
 
--- the steps of payslip i
-abbrev pub payslipCost : ℕ → ℕ → List ℕ → ℕ → ℕ
-payslipCost p k amounts i = (strausDigits p k amounts i - 1) * k + signsTo p k amounts i (strausDigits p k amounts i - 1)
-
-module _ (p k : ℕ) (amounts : List ℕ) (i d : ℕ) where
+module _ (p : ℕ) (amounts : List ℕ) (k i d : ℕ) where
   pub lower-place : (j : ℕ) → k * (d - 1) < 32 → j < d - 1 → k * j < 32
   lower-place j room h =
       let le : j ≤ d - 1 = omega arith in
       omega (arith, mul-le-mul-left k le)
 
-  pub cost-none : d ≡ strausDigits p k amounts i → d ≡ 0 → 0 ≡ payslipCost p k amounts i
+  pub cost-none : d ≡ strausDigits p amounts k i → d ≡ 0 → 0 ≡ payslipCount p amounts k i
   cost-none e z =
-      let none : strausDigits p k amounts i - 1 ≡ 0 = omega arith in
+      let none : strausDigits p amounts k i - 1 ≡ 0 = omega arith in
       rw none (omega (arith, zero-mul k))
 
   pub squarings-fit : k * (d - 1) < 32 → (d - 1) * k < 32
   squarings-fit room = omega (arith, mul-comm k (d - 1))
 
   -- a vector is zero exactly where that digit of all amounts, one over the other, is
-  overlaid-sign : (j x : ℕ) → x ≡ overlaidTo p amounts i p → sign (digit k x j) ≡ sign (digitVector p k amounts i j)
+  overlaid-sign : (j x : ℕ) → x ≡ overlaidTo p amounts i p → sign (digit k x j) ≡ sign (digitVector p amounts k i j)
   overlaid-sign j x is =
       ap (λ (y : ℕ). sign (digit k y j)) is ∙ or-digits k j p (amount p amounts i)
       ∙ sum-sign p _ _ (λ c h. sym (sign-mul (digit k (amount p amounts i c) j) (2 ^ (k * c)) (pow-pos (k * c))))
 
-  pub signs-on : (n j x v r b : ℕ) → x ≡ overlaidTo p amounts i p → v ≡ digit k x j → r ≡ sign v → n ≡ b + signsTo p k amounts i j
-      → n + r ≡ b + signsTo p k amounts i (j + 1)
+  pub signs-on : (n j x v r b : ℕ) → x ≡ overlaidTo p amounts i p → v ≡ digit k x j → r ≡ sign v → n ≡ b + signsTo p amounts k i j
+      → n + r ≡ b + signsTo p amounts k i (j + 1)
   signs-on n j x v r b is digit-is told e =
-      omega (arith, sum-on (λ l. sign (digitVector p k amounts i l)) j (signsTo p k amounts i j) r (told ∙ ap sign digit-is ∙ overlaid-sign j x is) refl)
+      omega (arith, sum-on (λ l. sign (digitVector p amounts k i l)) j (signsTo p amounts k i j) r (told ∙ ap sign digit-is ∙ overlaid-sign j x is) refl)
 
   -- the squarings are below 32, and so are the other steps
-  pub cost-low : 0 < k → k * (d - 1) < 32 → (j : ℕ) → j ≤ d - 1 → (d - 1) * k + signsTo p k amounts i j ≤ 62
+  pub cost-low : 0 < k → k * (d - 1) < 32 → (j : ℕ) → j ≤ d - 1 → (d - 1) * k + signsTo p amounts k i j ≤ payslipMost
   cost-low some room j h =
-      omega (arith, mul-comm k (d - 1), signs-low j (digitVector p k amounts i), mul-le-mul-right (d - 1) some)
+      omega (arith, mul-comm k (d - 1), signs-low j (digitVector p amounts k i), mul-le-mul-right (d - 1) some)
 
-  pub sum-fits : (n j v r : ℕ) → 0 < k → k * (d - 1) < 32 → j < d - 1 → r ≡ sign v → n ≡ (d - 1) * k + signsTo p k amounts i j → n + r < 64
+  pub sum-fits : (n j v r : ℕ) → 0 < k → k * (d - 1) < 32 → j < d - 1 → r ≡ sign v → n ≡ (d - 1) * k + signsTo p amounts k i j → n + r < 64
   sum-fits n j v r some room h told e = omega (arith, cost-low some room j (omega arith), sign-low v)
 
-  pub cost-all : (n j : ℕ) → d ≡ strausDigits p k amounts i → j ≤ d - 1 → d - 1 ≤ j → n ≡ (d - 1) * k + signsTo p k amounts i j → n ≡ payslipCost p k amounts i
+  pub cost-all : (n j : ℕ) → d ≡ strausDigits p amounts k i → j ≤ d - 1 → d - 1 ≤ j → n ≡ (d - 1) * k + signsTo p amounts k i j → n ≡ payslipCount p amounts k i
   cost-all n j e h g is =
       let last : j ≡ d - 1 = omega arith in
-      rw (← e) (is ∙ ap (λ (m : ℕ). (d - 1) * k + signsTo p k amounts i m) last)
+      rw (← e) (is ∙ ap (λ (m : ℕ). (d - 1) * k + signsTo p amounts k i m) last)
 
-  pub cost-few : (n j : ℕ) → 0 < k → k * (d - 1) < 32 → j ≤ d - 1 → n ≡ (d - 1) * k + signsTo p k amounts i j → n ≤ 62
+  pub cost-few : (n j : ℕ) → 0 < k → k * (d - 1) < 32 → j ≤ d - 1 → n ≡ (d - 1) * k + signsTo p amounts k i j → n ≤ payslipMost
   cost-few n j some room h e = omega (arith, cost-low some room j h)
 
 -- the steps of the first n payslips
-abbrev pub costsTo : ℕ → ℕ → List ℕ → ℕ → ℕ
-costsTo p k amounts n = sumTo n (λ i. payslipCost p k amounts i)
+abbrev pub costsTo : ℕ → List ℕ → ℕ → ℕ → ℕ
+costsTo p amounts k n = sumTo n (payslipCount p amounts k)
 
 below-power : (n : ℕ) → n < 2 ^ n
 below-power zero = omega arith
@@ -134,11 +132,11 @@ columns-below p k w e some =
     let grown : 2 ^ p ≤ 2 ^ (p * k) = pow-mono wide in
     omega (arith, below-power p)
 
-pub costs-on : (p k : ℕ) (amounts : List ℕ) (n i r b : ℕ) → r ≡ payslipCost p k amounts i → n ≡ b + costsTo p k amounts i → n + r ≡ b + costsTo p k amounts (i + 1)
-costs-on p k amounts n i r b is e = omega (arith, sum-on (payslipCost p k amounts) i (costsTo p k amounts i) r is refl)
+pub costs-on : (p : ℕ) (amounts : List ℕ) (k n i r b : ℕ) → r ≡ payslipCount p amounts k i → n ≡ b + costsTo p amounts k i → n + r ≡ b + costsTo p amounts k (i + 1)
+costs-on p amounts k n i r b is e = omega (arith, sum-on (payslipCount p amounts k) i (costsTo p amounts k i) r is refl)
 
-pub count-all : (p q : ℕ) (amounts : List ℕ) (k n i w : ℕ) → w ≡ 2 ^ (p * k) → i ≤ q → q ≤ i → n ≡ w - p - 1 + costsTo p k amounts i → n ≡ strausCount p q amounts k
+pub count-all : (p q : ℕ) (amounts : List ℕ) (k n i w : ℕ) → w ≡ 2 ^ (p * k) → i ≤ q → q ≤ i → n ≡ w - p - 1 + costsTo p amounts k i → n ≡ strausCount p q amounts k
 unfolding strausCount
 count-all p q amounts k n i w e h g is =
     let last : i ≡ q = omega arith in
-    is ∙ ap₂ (λ (a b : ℕ). a - p - 1 + costsTo p k amounts b) e last
+    is ∙ ap₂ (λ (a b : ℕ). a - p - 1 + costsTo p amounts k b) e last

@@ -1,21 +1,22 @@
--- Laws by which the emitters of payslips and of the chain keep to their contracts.
+-- A payslip's digits are emitted from the top down: each turn of Horner's rule appends its steps, and there is room because the whole payslip has it.
 use mathlib.Core.Path.{_≡_, ap, ap₂, subst, _∙_}
 use mathlib.Core.List.{List}
 use Prim.Native.Nat.{ℕ, suc, _+_, _-_, _*_, _^_, _≤_, _<_}
-use native.Mathlib.Nat.{mul-le-mul-left}
+use native.Mathlib.Nat.{mul-comm, mul-le-mul-left}
 use native.Mathlib.Numerals.{add-one}
 use native.Mathlib.Omega.{arith}
-use lib.ListN.{length, set}
+use lib.ListN.{length}
 use lib.Pow.{pow-mono}
-use Rattle.chain.specs.Written.{over}
 use Rattle.chain.specs.declared.Step.{Step}
-use Rattle.methods.specs.Product.{Made, made, times, squared, payslips}
-use Rattle.methods.specs.Table.{entry}
-use Rattle.methods.specs.Emitted.{stepsIn, Room, Stored, Emitted}
-use Rattle.methods.proofs.Sound.{Begins, begins-own, begins-on, begins-rise}
-use Rattle.methods.proofs.Product.{times-begins, squared-begins}
-use Rattle.methods.proofs.Emitted.{emitted-own, emits-room, emits-on}
-use Rattle.methods.proofs.Paying.{pay-room, pay-steps, pay-output}
+use Rattle.products.specs.Product.{Made, made, times, squared}
+use Rattle.tables.specs.Table.{entry}
+use Rattle.products.specs.Inner.{stepsIn, StepsRoom, Emitted}
+use Rattle.products.proofs.Sound.{Begins, begins-own, begins-on, begins-rise}
+use Rattle.products.proofs.Product.{times-begins, squared-begins}
+use Rattle.products.proofs.Emitted.{emitted-own, emits-room, emits-on}
+use Rattle.methods.specs.Inner.{Asked}
+use Rattle.sheet.proofs.Amounts.{payslip-within}
+use Rattle.straus.specs.Inner.{PayslipAsked}
 use Rattle.straus.specs.Straus.{bases, strausDigits, digitVector, horner, strausPayslip}
 use Rattle.straus.proofs.Bases.{length-bases}
 use Rattle.straus.proofs.Payslip.{in-table}
@@ -25,11 +26,11 @@ module _ (p k n v y : ℕ) (cells : List ℕ) where
   abbrev start : Made
   start = made (stepsIn cells n) v
 
-  pub squares-room : Room p cells n (times p (squared p k start) y .steps) → Room p cells n (squared p k start .steps)
+  pub squares-room : StepsRoom p cells n (times p (squared p k start) y .steps) → StepsRoom p cells n (squared p k start .steps)
   squares-room room = emits-room room (squared p k) (emitted-own p cells n v _ room) (squared-begins p start 0 k (omega arith)) (times-begins p (squared p k start) y)
 
-  pub times-room : (cells′ : List ℕ) (n′ v′ : ℕ) → Room p cells n (times p (squared p k start) y .steps) → Emitted cells cells′ n′ v′ (squared p k start)
-      → Room p cells′ n′ (times p (made (stepsIn cells′ n′) v′) y .steps)
+  pub times-room : (cells′ : List ℕ) (n′ v′ : ℕ) → StepsRoom p cells n (times p (squared p k start) y .steps) → Emitted cells cells′ n′ v′ (squared p k start)
+      → StepsRoom p cells′ n′ (times p (made (stepsIn cells′ n′) v′) y .steps)
   times-room cells′ n′ v′ room e = emits-room room (λ m. times p m y) e (times-begins p (squared p k start) y) (begins-own _)
 
   pub digit-taken : (cells′ cells″ : List ℕ) (n′ n″ v′ v″ : ℕ) → Emitted cells cells′ n′ v′ (squared p k start)
@@ -39,83 +40,76 @@ module _ (p k n v y : ℕ) (cells : List ℕ) where
 pub ruleset taking = (squares-room, times-room, digit-taken)
 
 -- payslip i after the first d of its digits, the top one first
-abbrev pub digitsMade : ℕ → ℕ → List ℕ → ℕ → List Step → ℕ → Made
-digitsMade p k amounts i before d =
-    horner p k (λ j. entry k (bases p) (p + 1) (digitVector p k amounts i j)) (strausDigits p k amounts i) before d
+abbrev pub digitsMade : ℕ → List ℕ → ℕ → ℕ → List Step → ℕ → Made
+digitsMade p amounts k i before d =
+    horner p k (λ j. entry k (bases p) (p + 1) (digitVector p amounts k i j)) (strausDigits p amounts k i) before d
 
-module _ (p k : ℕ) (amounts : List ℕ) (i : ℕ) where
-  next-begins : (before : List Step) (d : ℕ) → Begins (digitsMade p k amounts i before d .steps) (digitsMade p k amounts i before (suc d) .steps)
+module _ (p : ℕ) (amounts : List ℕ) (k i : ℕ) where
+  next-begins : (before : List Step) (d : ℕ) → Begins (digitsMade p amounts k i before d .steps) (digitsMade p amounts k i before (suc d) .steps)
   next-begins before d =
-      let m = digitsMade p k amounts i before d in
+      let m = digitsMade p amounts k i before d in
       begins-on (squared-begins p m 0 k (omega arith)) (times-begins p (squared p k m) _)
 
-  digits-begin : (before : List Step) (c d : ℕ) → c ≤ d → Begins (digitsMade p k amounts i before c .steps) (digitsMade p k amounts i before d .steps)
-  digits-begin before = begins-rise (λ d. digitsMade p k amounts i before d .steps) (next-begins before)
+  digits-begin : (before : List Step) (c d : ℕ) → c ≤ d → Begins (digitsMade p amounts k i before c .steps) (digitsMade p amounts k i before d .steps)
+  digits-begin before = begins-rise (λ d. digitsMade p amounts k i before d .steps) (next-begins before)
 
   -- a payslip only appends steps
-  pub payslip-begins : (before : List Step) → Begins before (strausPayslip p k amounts i before .steps)
-  payslip-begins before = digits-begin before 0 (strausDigits p k amounts i) (omega arith)
+  pub payslip-begins : (before : List Step) → Begins before (strausPayslip p amounts k i before .steps)
+  payslip-begins before = digits-begin before 0 (strausDigits p amounts k i) (omega arith)
 
   -- the next digit: t is its vector and y that vector's value
   module _ (old : List ℕ) (n : ℕ) (cells : List ℕ) (m v d digits t y : ℕ) (inputs : List ℕ)
-      (is : digits ≡ strausDigits p k amounts i) (less : d < digits) (vector : t ≡ digitVector p k amounts i (digits - (d + 1)))
+      (is : digits ≡ strausDigits p amounts k i) (less : d < digits) (vector : t ≡ digitVector p amounts k i (digits - (d + 1)))
       (bases-are : inputs ≡ bases p) (value : y ≡ entry k inputs (p + 1) t)
-      (e : Emitted old cells m v (digitsMade p k amounts i (stepsIn old n) d)) where
+      (e : Emitted old cells m v (digitsMade p amounts k i (stepsIn old n) d)) where
     next-made : Made → Made
     next-made r = times p (squared p k r) y
 
-    next-is : next-made (digitsMade p k amounts i (stepsIn old n) d) ≡ digitsMade p k amounts i (stepsIn old n) (suc d)
+    next-is : next-made (digitsMade p amounts k i (stepsIn old n) d) ≡ digitsMade p amounts k i (stepsIn old n) (suc d)
     unfolding next-made
     next-is =
-        let place : digits - (d + 1) ≡ strausDigits p k amounts i - suc d = omega arith in
-        ap (times p (squared p k (digitsMade p k amounts i (stepsIn old n) d)))
-        (value ∙ ap₂ (λ (l : List ℕ) (x : ℕ). entry k l (p + 1) x) bases-are (vector ∙ ap (digitVector p k amounts i) place))
+        let place : digits - (d + 1) ≡ strausDigits p amounts k i - suc d = omega arith in
+        ap (times p (squared p k (digitsMade p amounts k i (stepsIn old n) d)))
+        (value ∙ ap₂ (λ (l : List ℕ) (x : ℕ). entry k l (p + 1) x) bases-are (vector ∙ ap (digitVector p amounts k i) place))
 
-    more : Begins (digitsMade p k amounts i (stepsIn old n) d .steps) (next-made (digitsMade p k amounts i (stepsIn old n) d) .steps)
+    more : Begins (digitsMade p amounts k i (stepsIn old n) d .steps) (next-made (digitsMade p amounts k i (stepsIn old n) d) .steps)
     more = rw next-is (next-begins (stepsIn old n) d)
 
-    pub digit-room : Room p old n (strausPayslip p k amounts i (stepsIn old n) .steps) → Room p cells m (times p (squared p k (made (stepsIn cells m) v)) y .steps)
+    pub digit-room : StepsRoom p old n (strausPayslip p amounts k i (stepsIn old n) .steps) → StepsRoom p cells m (times p (squared p k (made (stepsIn cells m) v)) y .steps)
     unfolding next-made
-    digit-room room = emits-room room next-made e more (rw next-is (digits-begin (stepsIn old n) (suc d) (strausDigits p k amounts i) (omega arith)))
+    digit-room room = emits-room room next-made e more (rw next-is (digits-begin (stepsIn old n) (suc d) (strausDigits p amounts k i) (omega arith)))
 
     pub digit-on : (cells′ : List ℕ) (m′ v′ : ℕ) → Emitted cells cells′ m′ v′ (times p (squared p k (made (stepsIn cells m) v)) y)
-        → Emitted old cells′ m′ v′ (digitsMade p k amounts i (stepsIn old n) (d + 1))
+        → Emitted old cells′ m′ v′ (digitsMade p amounts k i (stepsIn old n) (d + 1))
     unfolding next-made
     digit-on cells′ m′ v′ f = rw (add-one d, ← next-is) (emits-on next-made e more f)
 
-  pub digits-end : (old : List ℕ) (n : ℕ) (cells : List ℕ) (m v d digits : ℕ) → digits ≡ strausDigits p k amounts i → d ≤ digits → digits ≤ d
-      → Emitted old cells m v (digitsMade p k amounts i (stepsIn old n) d) → Emitted old cells m v (strausPayslip p k amounts i (stepsIn old n))
+  pub digits-end : (old : List ℕ) (n : ℕ) (cells : List ℕ) (m v d digits : ℕ) → digits ≡ strausDigits p amounts k i → d ≤ digits → digits ≤ d
+      → Emitted old cells m v (digitsMade p amounts k i (stepsIn old n) d) → Emitted old cells m v (strausPayslip p amounts k i (stepsIn old n))
   digits-end old n cells m v d digits is h g e =
-      let last : d ≡ strausDigits p k amounts i = omega arith in
-      subst (λ (c : ℕ). Emitted old cells m v (digitsMade p k amounts i (stepsIn old n) c)) last e
+      let last : d ≡ strausDigits p amounts k i = omega arith in
+      subst (λ (c : ℕ). Emitted old cells m v (digitsMade p amounts k i (stepsIn old n) c)) last e
 
   -- its vector is an entry of the table
-  pub entry-place : (j t : ℕ) (inputs : List ℕ) → 0 < k → t ≡ digitVector p k amounts i j → inputs ≡ bases p → t < 2 ^ (k * length inputs)
-  entry-place j t inputs some e is = rw (e, is, length-bases p) (in-table p k some amounts i j)
+  pub entry-place : (j t : ℕ) (inputs : List ℕ) → 0 < k → t ≡ digitVector p amounts k i j → inputs ≡ bases p → t < 2 ^ (k * length inputs)
+  entry-place j t inputs some e is = rw (e, is, length-bases p) (in-table p amounts k some i j)
 
-  pub entry-number : (j t : ℕ) → 0 < k → p + k * p < 32 → t ≡ digitVector p k amounts i j → p + 1 + t < 2 ^ 32
+  pub entry-number : (j t : ℕ) → 0 < k → p + k * p < 32 → t ≡ digitVector p amounts k i j → p + 1 + t < 2 ^ 32
   entry-number j t some small e =
       let most : 2 ^ (k * p) ≤ 2 ^ 31 = pow-mono {j = 31} (omega arith) in
-      omega (arith, in-table p k some amounts i j)
+      omega (arith, in-table p amounts k some i j)
 
 pub digit-fits : (k d digits : ℕ) → k * (digits - 1) < 32 → d < digits → k * (digits - (d + 1)) < 32
 digit-fits k d digits room h =
     let le : digits - (d + 1) ≤ digits - 1 = omega arith in
     omega (arith, mul-le-mul-left k le)
 
--- the payslips: each after those before it
-module _ (p k : ℕ) (amounts : List ℕ) (start : List Step) (old cells : List ℕ) (s i : ℕ)
-    (st : Stored old cells s (payslips (strausPayslip p k amounts) start i .steps)) where
-  pub payslip-room : (n q : ℕ) → Room p old n (payslips (strausPayslip p k amounts) start q .steps) → i < q
-      → Room p cells s (strausPayslip p k amounts i (stepsIn cells s) .steps)
-  payslip-room n q = pay-room (strausPayslip p k amounts) start (payslip-begins p k amounts) old cells s i st p n q
-
-  pub payslip-steps : (cells′ : List ℕ) (s′ v : ℕ) → Emitted cells cells′ s′ v (strausPayslip p k amounts i (stepsIn cells s))
-      → Stored old cells′ s′ (payslips (strausPayslip p k amounts) start (i + 1) .steps)
-  payslip-steps = pay-steps (strausPayslip p k amounts) start (payslip-begins p k amounts) old cells s i st
-
-  pub payslip-output : (cells′ : List ℕ) (s′ v : ℕ) → Emitted cells cells′ s′ v (strausPayslip p k amounts i (stepsIn cells s)) → (q : ℕ) (old′ outputs : List ℕ)
-      → i < q → q ≤ length old′ → outputs ≡ over (payslips (strausPayslip p k amounts) start i .outputs) old′
-      → set outputs i v ≡ over (payslips (strausPayslip p k amounts) start (i + 1) .outputs) old′
-  payslip-output cells′ s′ v e q old′ outputs h g =
-      pay-output (strausPayslip p k amounts) start (payslip-begins p k amounts) old cells s i st cells′ s′ v e old′ outputs (omega arith)
+-- what a payslip's functions ask, from what the chain's do
+pub payslip-asked : {p q : ℕ} {amounts : List ℕ} {k i : ℕ} → Asked 5 p q amounts k → p * k ≤ 10 → i < q → PayslipAsked p amounts k i
+payslip-asked {p} {q} {amounts} {k} {i} asked small less =
+    record {
+      there = payslip-within p q i (length amounts) (asked .sheet .amounts-are) less;
+      k-some = asked .k-some;
+      k-low = omega (arith, asked .k-low);
+      vectors-low = omega (arith, asked .sheet .p-low, mul-comm p k);
+    }

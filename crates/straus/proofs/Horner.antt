@@ -12,9 +12,9 @@ use Rattle.digits.specs.Digits.{digit}
 use Rattle.digits.specs.Range.{sumTo, sign}
 use Rattle.digits.proofs.Range.{sign-some, sign-pos}
 use Rattle.digits.proofs.Vector.{digits-from}
-use Rattle.methods.specs.Product.{made, squared}
-use Rattle.methods.proofs.Sound.{makes-on, Sound}
-use Rattle.methods.proofs.Product.{times-cost, squared-sign, squared-count, Result, result-empty, result-like, result-times, result-squared}
+use Rattle.products.specs.Product.{made, squared}
+use Rattle.products.proofs.Sound.{makes-on, Sound}
+use Rattle.products.proofs.Product.{times-cost, squared-sign, squared-count, Result, result-empty, result-like, result-times, result-squared}
 use Rattle.straus.specs.Straus.{horner}
 
 -- the upper n of J digits of the numbers x, where e j makes their digit j

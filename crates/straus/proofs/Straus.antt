@@ -1,20 +1,18 @@
--- The theorems of method 1: its chain is legal, each output makes its payslip, no exponent is too large, and the steps are as many as the count,
--- which keeps to the ceiling.
+-- Method 1 is right: the table is sound, each payslip made after it makes its amounts, and the steps of table and payslips add up to the count.
 use mathlib.Core.Path.{_≡_, refl, ap₂, _∙_}
 use mathlib.Core.List.{List}
-use Prim.Native.Nat.{ℕ, _+_, _-_, _*_, _^_, _≤_, _<_}
+use Prim.Native.Nat.{ℕ, _+_, _-_, _*_, _^_, _≤_}
 use native.Mathlib.Nat.{mul-add, mul-one, le-refl, le-trans, add-le-add}
 use native.Mathlib.Omega.{arith}
 use lib.ListN.{length, getD}
 use lib.Pow.{pow-mono}
-use Rattle.chain.specs.Verdict.{fine}
-use Rattle.chain.specs.Chain.{mostAmount, stepsRule, outputsRule}
-use Rattle.chain.proofs.Exponents.{Makes, Within}
+use Rattle.chain.specs.Chain.{mostAmount}
 use Rattle.digits.specs.Range.{sumTo, sign}
 use Rattle.digits.proofs.Range.{sum-le, signs-low}
 use Rattle.sheet.specs.Sheet.{amount}
-use Rattle.methods.proofs.Payslips.{Pays, pays-legal, payslips-make, payslips-count}
-use Rattle.straus.specs.Straus.{strausTable, strausDigits, digitVector, strausPayslip, straus, strausCount, strausCeiling}
+use Rattle.methods.proofs.Payslips.{Pays, payslips-make, payslips-count}
+use Rattle.methods.proofs.Right.{Right, pays-right}
+use Rattle.straus.specs.Straus.{strausTable, strausDigits, digitVector, strausPayslip, straus, strausCount, strausCeiling, strausMethod}
 use Rattle.straus.proofs.Bases.{straus-table-count, straus-table-sound}
 use Rattle.straus.proofs.Payslip.{payslip-count, payslip-makes}
 
@@ -22,7 +20,7 @@ use Rattle.straus.proofs.Payslip.{payslip-count, payslip-makes}
 pub straus-ceiling : (p q : ℕ) (amounts : List ℕ) (k : ℕ) → strausCount p q amounts k ≤ strausCeiling p q amounts k
 unfolding strausCount strausCeiling
 straus-ceiling p q amounts k =
-    add-le-add (le-refl (2 ^ (p * k) - p - 1)) (sum-le q _ _ (λ i h. each (strausDigits p k amounts i - 1) (digitVector p k amounts i)))
+    add-le-add (le-refl (2 ^ (p * k) - p - 1)) (sum-le q _ _ (λ i h. each (strausDigits p amounts k i - 1) (digitVector p amounts k i)))
   where
     each : (n : ℕ) (v : ℕ → ℕ) → n * k + sumTo n (λ j. sign (v j)) ≤ n * (k + 1)
     each n v = omega (arith, signs-low n v, mul-add n k 1, mul-one n)
@@ -32,7 +30,7 @@ module _ (p q : ℕ) (amounts : List ℕ) (k : ℕ) (some : 1 ≤ k) where
   pub straus-count : length (straus p q amounts k .steps) ≡ strausCount p q amounts k
   unfolding straus strausCount
   straus-count =
-      payslips-count (strausPayslip p k amounts) (strausTable p k) _ q (λ i h before. payslip-count p k some amounts i before)
+      payslips-count (strausPayslip p amounts k) (strausTable p k) _ q (λ i h before. payslip-count p amounts k some i before)
       ∙ ap₂ _+_ (straus-table-count p k some) refl
 
   module _ (few : k ≤ 5) (low : (j : ℕ) → getD amounts j 0 ≤ mostAmount) where
@@ -40,22 +38,9 @@ module _ (p q : ℕ) (amounts : List ℕ) (k : ℕ) (some : 1 ≤ k) where
     unfolding straus
     pays =
         let room : 2 ^ k ≤ mostAmount + 1 = le-trans (pow-mono few) (omega arith) in
-        payslips-make p mostAmount (strausPayslip p k amounts) (strausTable p k) (amount p amounts) q (straus-table-sound p k some mostAmount room)
-        (λ i h. payslip-makes p k some amounts i mostAmount room (λ c g. low (i * p + c)))
+        payslips-make p mostAmount (strausPayslip p amounts k) (strausTable p k) (amount p amounts) q (straus-table-sound p k some mostAmount room)
+        (λ i h. payslip-makes p amounts k some i mostAmount room (λ c g. low (i * p + c)))
 
-    -- the steps are legal and the outputs are values' numbers
-    pub straus-legal : (stepsRule p 1 (straus p q amounts k .steps) ≡ fine)
-        × (outputsRule (p + length (straus p q amounts k .steps)) 1 (straus p q amounts k .outputs) ≡ fine)
-    straus-legal = (pays .sound .legal, pays-legal pays)
-
-    -- each output makes its payslip
-    pub straus-makes : (i : ℕ) → i < q → Makes p (straus p q amounts k .steps) (getD (straus p q amounts k .outputs) i 0) (λ c. amount p amounts i c)
-    straus-makes = pays .makes
-
-    -- no exponent is above 4,294,967,295
-    pub straus-within : Within p (straus p q amounts k .steps) mostAmount
-    straus-within = pays .sound .within
-
-    -- an output for each payslip
-    pub straus-outputs : length (straus p q amounts k .outputs) ≡ q
-    straus-outputs = pays .outputs
+    -- all that is asked of a method
+    pub straus-right : Right p q amounts (strausMethod p q amounts k)
+    straus-right = pays-right _ pays straus-count (straus-ceiling p q amounts k)

@@ -1,1 +1,2 @@
 pub mod Straus
+pub mod Inner

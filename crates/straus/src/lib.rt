@@ -1,15 +1,17 @@
 // Method 1: Straus, or Brauer for one column.
 ghost use mathlib.Core.Path.{_≡_};
-ghost use Prim.Native.Nat.{_+_, _-_, _*_, _^_, _≤_, _<_};
+ghost use Prim.Native.Nat.{_+_, _-_, _*_, _≤_, _<_};
 ghost use lib.ListN.{length};
-ghost use Rattle.chain.specs.Chain.{mostColumns, mostPayslips, flat};
+ghost use Rattle.chain.specs.Chain.{mostColumns};
 ghost use Rattle.chain.specs.Written.{over};
-ghost use Rattle.digits.specs.Range.{sumTo, orTo, sign};
+ghost use Rattle.digits.specs.Range.{orTo};
 ghost use Rattle.sheet.specs.Sheet.{amount};
-ghost use Rattle.methods.specs.Product.{made, times, squared, payslips};
-ghost use Rattle.methods.specs.Emitted.{stepsIn, Room, Emitted};
-ghost use Rattle.straus.specs.Straus.{bases, strausDigits, digitVector, strausPayslip, straus, strausCount};
-use methods::PartialProduct;
+ghost use Rattle.products.specs.Product.{made, times, squared, payslips};
+ghost use Rattle.products.specs.Inner.{stepsIn, StepsRoom, Emitted};
+ghost use Rattle.methods.specs.Inner.{Asked, ChainRoom, ChainStored};
+ghost use Rattle.straus.specs.Straus.{bases, strausDigits, digitVector, strausPayslip, payslipCount, straus, strausCount};
+ghost use Rattle.straus.specs.Inner.{PayslipAsked, payslipMost};
+use products::PartialProduct;
 
 // The amounts of payslip i, one over the other: they have as many digits as the largest, and a digit is 0 exactly where all are.
 fn overlaid(p: usize, amounts: &[u32], i: usize) -> u32
@@ -26,17 +28,17 @@ fn overlaid(p: usize, amounts: &[u32], i: usize) -> u32
 }
 
 // How many digits the largest amount of payslip i has.
-fn digit_count(p: usize, k: usize, amounts: &[u32], i: usize) -> usize
-    requires { ⌜ (i * p + p ≤ length (now amounts)) × (0 < k) × (k < 32) ⌝ }
-    ensures { λ r. ⌜ (r ≡ strausDigits p k (now (amounts .entry)) i) × (k * (r - 1) < 32) ⌝ }
+fn digit_count(p: usize, amounts: &[u32], k: usize, i: usize) -> usize
+    requires { ⌜ PayslipAsked p (now amounts) k i ⌝ }
+    ensures { λ r. ⌜ (r ≡ strausDigits p (now (amounts .entry)) k i) × (k * (r - 1) < 32) ⌝ }
 {
     digits::digit_count(k, overlaid(p, amounts, i))
 }
 
 // The number of the vector of its digits with weight 2^(kj).
-fn vector(p: usize, k: usize, amounts: &[u32], i: usize, j: usize) -> u32
-    requires { ⌜ (i * p + p ≤ length (now amounts)) × (k < 32) × (k * p < 32) × (k * j < 32) ⌝ }
-    ensures { λ r. ⌜ r ≡ digitVector p k (now (amounts .entry)) i j ⌝ }
+fn vector(p: usize, amounts: &[u32], k: usize, i: usize, j: usize) -> u32
+    requires { ⌜ PayslipAsked p (now amounts) k i × (k * j < 32) ⌝ }
+    ensures { λ r. ⌜ r ≡ digitVector p (now (amounts .entry)) k i j ⌝ }
 {
     let mut v: u32 = 0;
     let mut c: usize = 0;
@@ -49,9 +51,9 @@ fn vector(p: usize, k: usize, amounts: &[u32], i: usize, j: usize) -> u32
 }
 
 // The steps of payslip i.
-fn payslip_count(p: usize, k: usize, amounts: &[u32], i: usize) -> usize
-    requires { ⌜ (i * p + p ≤ length (now amounts)) × (0 < k) × (k < 32) × (k * p < 32) ⌝ }
-    ensures { λ r. ⌜ (r ≡ (strausDigits p k (now (amounts .entry)) i - 1) * k + sumTo (strausDigits p k (now (amounts .entry)) i - 1) (λ j. sign (digitVector p k (now (amounts .entry)) i j))) × (r ≤ 62) ⌝ }
+fn payslip_count(p: usize, amounts: &[u32], k: usize, i: usize) -> usize
+    requires { ⌜ PayslipAsked p (now amounts) k i ⌝ }
+    ensures { λ r. ⌜ (r ≡ payslipCount p (now (amounts .entry)) k i) × (r ≤ payslipMost) ⌝ }
 {
     let all = overlaid(p, amounts, i);
     let digits = digits::digit_count(k, all);
@@ -70,13 +72,13 @@ fn payslip_count(p: usize, k: usize, amounts: &[u32], i: usize) -> usize
 
 // The number of steps of the chain.
 pub fn count(p: usize, q: usize, amounts: &[u32], k: usize) -> usize
-    requires { ⌜ (1 ≤ p) × (p ≤ mostColumns) × (q ≤ mostPayslips) × (length (now amounts) ≡ p * q) × (1 ≤ k) × (k ≤ 5) × (p * k ≤ 10) ⌝ }
+    requires { ⌜ Asked 5 p q (now amounts) k × (p * k ≤ 10) ⌝ }
     ensures { λ r. ⌜ r ≡ strausCount p q (now (amounts .entry)) k ⌝ }
 {
     let mut n = digits::power(p * k) as usize - p - 1;
     let mut i: usize = 0;
     while i < q {
-        n += payslip_count(p, k, amounts, i);
+        n += payslip_count(p, amounts, k, i);
         i += 1;
     }
     n
@@ -84,33 +86,34 @@ pub fn count(p: usize, q: usize, amounts: &[u32], k: usize) -> usize
 
 // One digit more of a product: squared k times, then times value y.
 fn take_digit(p: usize, k: usize, m: PartialProduct, y: u32, steps: &mut [u32]) -> PartialProduct
-    requires { ⌜ Room p (now steps) (m .n) (times p (squared p k (made (stepsIn (now steps) (m .n)) (m .value))) y .steps) ⌝ }
+    requires { ⌜ StepsRoom p (now steps) (m .n) (times p (squared p k (made (stepsIn (now steps) (m .n)) (m .value))) y .steps) ⌝ }
     ensures { λ r. ⌜ Emitted (now (steps .entry)) (now (steps .exit)) (r .n) (r .value) (times p (squared p k (made (stepsIn (now (steps .entry)) (m .n)) (m .value))) y) ⌝ }
 {
-    let s = methods::squared(p, k, m, steps);
-    methods::times(p, s, y, steps)
+    let s = products::squared(p, k, m, steps);
+    products::times(p, s, y, steps)
 }
 
 // Payslip i after n steps, by Horner's rule over its digits.
 fn make_payslip(
     p: usize,
-    k: usize,
     amounts: &[u32],
+    k: usize,
     inputs: &[u32],
     i: usize,
     n: usize,
     steps: &mut [u32],
 ) -> PartialProduct
-    requires { ⌜ (i * p + p ≤ length (now amounts)) × (0 < k) × (k < 32) × (p + k * p < 32) × (now inputs ≡ bases p) ⌝ }
-    requires { ⌜ Room p (now steps) n (strausPayslip p k (now amounts) i (stepsIn (now steps) n) .steps) ⌝ }
-    ensures { λ r. ⌜ Emitted (now (steps .entry)) (now (steps .exit)) (r .n) (r .value) (strausPayslip p k (now (amounts .entry)) i (stepsIn (now (steps .entry)) n)) ⌝ }
+    requires { ⌜ PayslipAsked p (now amounts) k i × (now inputs ≡ bases p) ⌝ }
+    requires { ⌜ StepsRoom p (now steps) n (strausPayslip p (now amounts) k i (stepsIn (now steps) n) .steps) ⌝ }
+    ensures { λ r. ⌜ Emitted (now (steps .entry)) (now (steps .exit)) (r .n) (r .value)
+        (strausPayslip p (now (amounts .entry)) k i (stepsIn (now (steps .entry)) n)) ⌝ }
 {
-    let digits = digit_count(p, k, amounts, i);
+    let digits = digit_count(p, amounts, k, i);
     let mut r = PartialProduct { n: n, value: 0 };
     let mut d: usize = 0;
     while d < digits {
-        let t = vector(p, k, amounts, i, digits - (d + 1));
-        let e = methods::entry(k, inputs, (p + 1) as u32, t);
+        let t = vector(p, amounts, k, i, digits - (d + 1));
+        let e = tables::entry(k, inputs, (p + 1) as u32, t);
         r = take_digit(p, k, r, e, steps);
         d += 1;
     }
@@ -121,22 +124,22 @@ fn make_payslip(
 fn make_payslips(
     p: usize,
     q: usize,
-    k: usize,
     amounts: &[u32],
+    k: usize,
     inputs: &[u32],
     n: usize,
     steps: &mut [u32],
     outputs: &mut [u32],
 )
-    requires { ⌜ (length (now amounts) ≡ p * q) × (0 < k) × (k < 32) × (p + k * p < 32) × (now inputs ≡ bases p) × (q ≤ length (now outputs)) ⌝ }
-    requires { ⌜ Room p (now steps) n (payslips (strausPayslip p k (now amounts)) (stepsIn (now steps) n) q .steps) ⌝ }
-    ensures { λ r. ⌜ now (steps .exit) ≡ over (flat (payslips (strausPayslip p k (now (amounts .entry))) (stepsIn (now (steps .entry)) n) q .steps)) (now (steps .entry)) ⌝ }
-    ensures { λ r. ⌜ now (outputs .exit) ≡ over (payslips (strausPayslip p k (now (amounts .entry))) (stepsIn (now (steps .entry)) n) q .outputs) (now (outputs .entry)) ⌝ }
+    requires { ⌜ Asked 5 p q (now amounts) k × (p * k ≤ 10) × (now inputs ≡ bases p) × (q ≤ length (now outputs)) ⌝ }
+    requires { ⌜ StepsRoom p (now steps) n (payslips (strausPayslip p (now amounts) k) (stepsIn (now steps) n) q .steps) ⌝ }
+    ensures { λ r. ⌜ ChainStored (now (steps .entry)) (now (outputs .entry)) (now (steps .exit)) (now (outputs .exit))
+        (payslips (strausPayslip p (now (amounts .entry)) k) (stepsIn (now (steps .entry)) n) q) ⌝ }
 {
     let mut s = n;
     let mut i: usize = 0;
     while i < q {
-        let r = make_payslip(p, k, amounts, inputs, i, s, steps);
+        let r = make_payslip(p, amounts, k, inputs, i, s, steps);
         s = r.n;
         outputs[i] = r.value;
         i += 1;
@@ -153,22 +156,33 @@ fn make_chain(
     steps: &mut [u32],
     outputs: &mut [u32],
 )
-    requires { ⌜ (p ≤ mostColumns) × (q ≤ mostPayslips) × (length (now amounts) ≡ p * q) × (1 ≤ k) × (k ≤ 5) × (p * k ≤ 10) × (now inputs ≡ bases p) ⌝ }
-    requires { ⌜ (2 * strausCount p q (now amounts) k ≤ length (now steps)) × (q ≤ length (now outputs)) ⌝ }
-    ensures { λ r. ⌜ now (steps .exit) ≡ over (flat (straus p q (now (amounts .entry)) k .steps)) (now (steps .entry)) ⌝ }
-    ensures { λ r. ⌜ now (outputs .exit) ≡ over (straus p q (now (amounts .entry)) k .outputs) (now (outputs .entry)) ⌝ }
+    requires { ⌜ Asked 5 p q (now amounts) k × (p * k ≤ 10) × (now inputs ≡ bases p) ⌝ }
+    requires { ⌜ ChainRoom q (strausCount p q (now amounts) k) (now steps) (now outputs) ⌝ }
+    ensures { λ r. ⌜ ChainStored (now (steps .entry)) (now (outputs .entry)) (now (steps .exit)) (now (outputs .exit)) (straus p q (now (amounts .entry)) k) ⌝ }
 {
-    let n = methods::make_table(p, k, inputs, 0, steps);
-    make_payslips(p, q, k, amounts, inputs, n, steps, outputs);
+    let n = tables::make_table(p, k, inputs, 0, steps);
+    make_payslips(p, q, amounts, k, inputs, n, steps, outputs);
+}
+
+// The values of the bases.
+fn fill_bases(p: usize, cells: &mut [u32])
+    requires { ⌜ (p ≤ mostColumns) × (p ≤ length (now cells)) ⌝ }
+    ensures { λ r. ⌜ now (cells .exit) ≡ over (bases p) (now (cells .entry)) ⌝ }
+{
+    let mut c: usize = 0;
+    while c < p {
+        cells[c] = (c + 1) as u32;
+        c += 1;
+    }
 }
 
 // The chain: its steps, first and second in turn, and its outputs.
 pub fn emit(p: usize, q: usize, amounts: &[u32], k: usize, steps: &mut [u32], outputs: &mut [u32])
-    requires { ⌜ (1 ≤ p) × (p ≤ mostColumns) × (q ≤ mostPayslips) × (length (now amounts) ≡ p * q) × (1 ≤ k) × (k ≤ 5) × (p * k ≤ 10) ⌝ }
-    requires { ⌜ (2 * strausCount p q (now amounts) k ≤ length (now steps)) × (q ≤ length (now outputs)) ⌝ }
-    ensures { λ r. ⌜ now (steps .exit) ≡ over (flat (straus p q (now (amounts .entry)) k .steps)) (now (steps .entry)) ⌝ }
-    ensures { λ r. ⌜ now (outputs .exit) ≡ over (straus p q (now (amounts .entry)) k .outputs) (now (outputs .entry)) ⌝ }
+    requires { ⌜ Asked 5 p q (now amounts) k × (p * k ≤ 10) ⌝ }
+    requires { ⌜ ChainRoom q (strausCount p q (now amounts) k) (now steps) (now outputs) ⌝ }
+    ensures { λ r. ⌜ ChainStored (now (steps .entry)) (now (outputs .entry)) (now (steps .exit)) (now (outputs .exit)) (straus p q (now (amounts .entry)) k) ⌝ }
 {
-    let all: [u32; 16] = [1, 2, 3, 4, 5, 6, 7, 8, 9, 10, 11, 12, 13, 14, 15, 16];
-    make_chain(p, q, amounts, k, &all[..p], steps, outputs);
+    let mut inputs = [0u32; chain::MOST_COLUMNS];
+    fill_bases(p, &mut inputs);
+    make_chain(p, q, amounts, k, &inputs[..p], steps, outputs);
 }

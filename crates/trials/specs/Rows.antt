@@ -17,12 +17,12 @@ use Rattle.verify.specs.Verify.{overOr, otherOr, exponentsRule, payslipsRule, f
 use Rattle.run.specs.Run.{residues, runRule, runAnswer, runValues, runFigures}
 use Rattle.bits.specs.Bits.{bits, fields, value, bytesBits, front, pack, fieldsAt}
 use Rattle.layout.specs.File.{fileBits, fileOf, writeRule, writeAnswer, writeBytes, stepsOf, outputsOf, readRule, readAnswer, readSteps, readOutputs}
-use Rattle.methods.specs.Product.{times}
-use Rattle.methods.specs.Table.{entry, tableNext}
+use Rattle.products.specs.Product.{times}
+use Rattle.tables.specs.Table.{entry, tableNext}
 use Rattle.straus.specs.Straus.{strausDigits, straus, strausCount, strausCeiling}
 use Rattle.yao.specs.Yao.{yaoDigits, gatherOne, yao, yaoCount, yaoCeiling}
-use Rattle.partition.specs.Partition.{columnBits, inputs, taken, partition, partitionCount, partitionCeiling}
-use Rattle.compile.specs.Compile.{methodRule, chainOf, count, ceiling, acceptedRule, compileRule, compileAnswer, compileSteps, compileOutputs}
+use Rattle.partition.specs.Partition.{columnBits, inputs, selection, partition, partitionCount, partitionCeiling}
+use Rattle.compile.specs.Compile.{methodRule, methodOf, acceptedRule, compileRule, compileAnswer, compileSteps, compileOutputs}
 use Rattle.choose.specs.Choose.{Choice, first, second, neither, fileRule, better, unless, chooseRule, choice}
 use Rattle.listing.specs.Listing.{decimal, lineOf, listingRule, chainText, refusedText, textFor, listing}
 
@@ -84,5 +84,5 @@ chosen (neither n s) = 0 ∷ n ∷ s ∷ []
 
 -- all that the tables compute with: a table that unfolds this unfolds every definition of document 01
 unfoldable pub definitions : Unit {0}
-unfolding _<?_ _≤?_ _=?_ _≠?_ _or_ _then_ refuseIf refuseAt answer onFine over sizesRule lengthRule stepRule chainRule legalRule shapeRule heldRule exponents amountsRule sheetRule digitCount bitLength figure overOr otherOr exponentsRule payslipsRule fittingRule verifyRule verifyAnswer verifyScratch residues runRule runAnswer runValues runFigures bits fields value bytesBits front pack fieldsAt fileBits fileOf writeRule writeAnswer writeBytes stepsOf outputsOf readRule readAnswer readSteps readOutputs times entry tableNext strausDigits straus strausCount strausCeiling yaoDigits gatherOne yao yaoCount yaoCeiling columnBits inputs taken partition partitionCount partitionCeiling methodRule chainOf count ceiling acceptedRule compileRule compileAnswer compileSteps compileOutputs fileRule better unless chooseRule choice decimal lineOf listingRule chainText refusedText textFor listing
+unfolding _<?_ _≤?_ _=?_ _≠?_ _or_ _then_ refuseIf refuseAt answer onFine over sizesRule lengthRule stepRule chainRule legalRule shapeRule heldRule exponents amountsRule sheetRule digitCount bitLength figure overOr otherOr exponentsRule payslipsRule fittingRule verifyRule verifyAnswer verifyScratch residues runRule runAnswer runValues runFigures bits fields value bytesBits front pack fieldsAt fileBits fileOf writeRule writeAnswer writeBytes stepsOf outputsOf readRule readAnswer readSteps readOutputs times entry tableNext strausDigits straus strausCount strausCeiling yaoDigits gatherOne yao yaoCount yaoCeiling columnBits inputs selection partition partitionCount partitionCeiling methodRule methodOf acceptedRule compileRule compileAnswer compileSteps compileOutputs fileRule better unless chooseRule choice decimal lineOf listingRule chainText refusedText textFor listing
 definitions = tt

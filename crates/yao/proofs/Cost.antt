@@ -1,4 +1,4 @@
--- The cost of an amount: a step for each nonzero digit but the first, and one for each value of d up to the largest digit but the first.
+-- By induction on the rounds: a step for each nonzero digit but the first, and one for each value of d up to the largest digit but the first.
 use mathlib.Core.Path.{_≡_, sym, ap, _∙_}
 use mathlib.Core.List.{List}
 use Prim.Native.Nat.{ℕ, zero, suc, _+_, _-_, _*_, _^_, _≤_, _<_}
@@ -11,9 +11,9 @@ use Rattle.digits.specs.Digits.{digit}
 use Rattle.digits.specs.Range.{sumTo, maxTo, sign}
 use Rattle.digits.proofs.Range.{sum-same, sum-zero, sum-add, sum-sign, max-sign, max-low, sign-mono, sign-sign, sign-add, sign-mul, signs-low}
 use Rattle.digits.proofs.Vector.{digit-low, digit-zero, vector-own}
-use Rattle.methods.specs.Product.{Made, made}
-use Rattle.methods.proofs.Product.{times-cost, times-spent}
-use Rattle.yao.specs.Yao.{gather, Running, running, amountCount}
+use Rattle.products.specs.Product.{Made, made}
+use Rattle.products.proofs.Product.{times-cost, times-spent}
+use Rattle.yao.specs.Yao.{gather, Sweep, sweep, amountCount}
 use Rattle.yao.proofs.Gather.{gather-count}
 use Rattle.yao.proofs.Rounds.{rounds, rounds-none, rounds-all, rounds-next, rounds-match, max-rounds, each, in-b, joins}
 
@@ -32,21 +32,21 @@ in-b-sign k x J n h =
     ∙ ap sign (max-rounds k n h (digit k x) J)
 
 -- After n rounds, with a and b empty or not: a step for each power in b, and one for each round with a nonempty b, but the first of either.
-pub record Spent (k x J : ℕ) (before : List Step) (n : ℕ) (r : Running) : Type 0 where
+pub record Spent (k x J : ℕ) (before : List Step) (n : ℕ) (r : Sweep) : Type 0 where
   pub count : length (r .steps) + sign (r .a) + sign (r .b) ≡ length before + sumTo J (in-b k x n) + rounds k n (largest k x J)
   pub value-a : sign (r .a) ≡ sign (rounds k n (largest k x J))
   pub value-b : sign (r .b) ≡ sign (rounds k n (largest k x J))
 
 module _ (p k : ℕ) (power : ℕ → ℕ) (x J : ℕ) (before : List Step) (some : (j : ℕ) → j < J → 0 < power j) where
-  spent : (n : ℕ) → n < 2 ^ k → Spent k x J before n (running p k power J x before n)
+  spent : (n : ℕ) → n < 2 ^ k → Spent k x J before n (sweep p k power J x before n)
   spent zero h =
       let none : rounds k 0 (largest k x J) ≡ 0 = rounds-none k _ (largest-low k x J) in
       let zeros : sumTo J (in-b k x 0) ≡ 0 = sum-zero J _ (λ j g. ap sign (rounds-none k (digit k x j) (digit-low k x j))) in
       record { count = omega arith; value-a = sym (ap sign none); value-b = sym (ap sign none) }
   spent (suc n) h = more (spent n (omega arith))
     where
-      r : Running
-      r = running p k power J x before n
+      r : Sweep
+      r = sweep p k power J x before n
 
       g : Made
       g = gather p k power x (2 ^ k - suc n) J (made (r .steps) (r .b))
@@ -63,7 +63,7 @@ module _ (p k : ℕ) (power : ℕ → ℕ) (x J : ℕ) (before : List Step) (som
       sum : z + m ≡ sumTo J (in-b k x (suc n))
       sum = sym (sum-add J (in-b k x n) (joins k x n)) ∙ sum-same J _ _ (λ j i. rounds-match k n (digit k x j) (omega arith))
 
-      more : Spent k x J before n r → Spent k x J before (suc n) (running p k power J x before (suc n))
+      more : Spent k x J before n r → Spent k x J before (suc n) (sweep p k power J x before (suc n))
       more s =
           let gathered = gather-count p k power x (2 ^ k - suc n) J (made (r .steps) (r .b)) some in
           let a = made (g .steps) (r .a) in
@@ -76,11 +76,11 @@ module _ (p k : ℕ) (power : ℕ → ℕ) (x J : ℕ) (before : List Step) (som
           }
 
   -- all rounds
-  end : Spent k x J before (2 ^ k - 1) (running p k power J x before (2 ^ k - 1))
+  end : Spent k x J before (2 ^ k - 1) (sweep p k power J x before (2 ^ k - 1))
   end = spent (2 ^ k - 1) (omega (arith, pow-pos k))
 
-  pub running-count : length (running p k power J x before (2 ^ k - 1) .steps) ≡ length before + amountCount k J x
-  running-count =
+  pub sweep-count : length (sweep p k power J x before (2 ^ k - 1) .steps) ≡ length before + amountCount k J x
+  sweep-count =
       let h : ℕ = largest k x J in
       let z : ℕ = sumTo J (λ j. sign (digit k x j)) in
       let all : rounds k (2 ^ k - 1) h ≡ h = rounds-all k h in
@@ -89,16 +89,16 @@ module _ (p k : ℕ) (power : ℕ → ℕ) (x J : ℕ) (before : List Step) (som
       by-size h z (sym (ap sign signs) ∙ in-b-sign k x J (2 ^ k - 1) (omega (arith, pow-pos k)) ∙ ap sign all)
       (omega (arith, s .count, s .value-a, s .value-b, ap sign all))
     where
-      by-size : (h z : ℕ) → sign z ≡ sign h → length (running p k power J x before (2 ^ k - 1) .steps) + sign h + sign h ≡ length before + z + h
-          → length (running p k power J x before (2 ^ k - 1) .steps) ≡ length before + (z + h - 2)
+      by-size : (h z : ℕ) → sign z ≡ sign h → length (sweep p k power J x before (2 ^ k - 1) .steps) + sign h + sign h ≡ length before + z + h
+          → length (sweep p k power J x before (2 ^ k - 1) .steps) ≡ length before + (z + h - 2)
       by-size zero zero e c = omega arith
       by-size zero (suc z) e c = absurd (omega arith)
       by-size (suc h) zero e c = absurd (omega arith)
       by-size (suc h) (suc z) e c = omega arith
 
   -- the product is empty where the amount is 0
-  pub running-value : x < 2 ^ (k * J) → sign (running p k power J x before (2 ^ k - 1) .a) ≡ sign x
-  running-value short =
+  pub sweep-value : x < 2 ^ (k * J) → sign (sweep p k power J x before (2 ^ k - 1) .a) ≡ sign x
+  sweep-value short =
       end .value-a
       ∙ ap sign (rounds-all k (largest k x J))
       ∙ max-sign J (digit k x)

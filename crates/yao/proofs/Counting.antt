@@ -1,4 +1,4 @@
--- Laws by which the functions of digits and counts keep to their contracts.
+-- Digits, amounts and payslips are counted one by one: each sum so far is that of the definition, and few digits of 32-bit numbers keep it low.
 use mathlib.Core.Path.{_≡_, refl, sym, ap, ap₂, _∙_}
 use mathlib.Core.List.{List}
 use Prim.Native.Nat.{ℕ, zero, suc, _+_, _-_, _*_, _^_, _≤_, _<_, max}
@@ -7,6 +7,7 @@ use native.Mathlib.Decide.{decLt}
 use native.Mathlib.Numerals.{sub-one}
 use native.Mathlib.Omega.{arith}
 use lib.Pow.{pow-mono}
+use Rattle.chain.specs.Chain.{mostColumns}
 use Rattle.digits.specs.Digits.{digitCount, digit}
 use Rattle.digits.specs.Range.{sumTo, maxTo, sign}
 use Rattle.digits.proofs.Count.{count-high}
@@ -14,13 +15,13 @@ use Rattle.digits.proofs.Range.{sum-on, max-on, sign-low, signs-low, max-low}
 use Rattle.digits.proofs.Vector.{digit-low}
 use Rattle.sheet.specs.Sheet.{amount}
 use Rattle.methods.specs.Powers.{largestIn}
-use Rattle.yao.specs.Yao.{yaoDigits, yaoSquarings, amountCount, yaoCount}
-use Rattle.yao.specs.Emitted.{payslipCount}
+use Rattle.yao.specs.Yao.{yaoDigits, yaoSquarings, amountCount, payslipCount, yaoCount}
+use Rattle.yao.specs.Inner.{squaringsMost, amountMost}
 
 -- the digits of a column
-pub digits-are : (p q k : ℕ) (amounts : List ℕ) (c x r : ℕ) → x ≡ largestIn p q amounts c → r ≡ digitCount k x → r ≡ yaoDigits p q k amounts c
+pub digits-are : (p q : ℕ) (amounts : List ℕ) (k c x r : ℕ) → x ≡ largestIn p q amounts c → r ≡ digitCount k x → r ≡ yaoDigits p q amounts k c
 unfolding yaoDigits
-digits-are p q k amounts c x r e f = f ∙ ap (digitCount k) e
+digits-are p q amounts k c x r e f = f ∙ ap (digitCount k) e
 
 -- a number of 32 bits has no digit that begins past them
 pub digits-few : (k x r : ℕ) → 0 < k → x < 2 ^ 32 → r ≡ digitCount k x → k * r ≤ 31 + k
@@ -42,19 +43,9 @@ digit-place k j digits some h room = omega (arith, mul-le-mul-left k h, mul-suc 
 pub squarings-none : (digits k : ℕ) → digits ≡ 0 → 0 ≡ (digits - 1) * k
 squarings-none digits k e = rw e (sym (zero-mul k))
 
-pub squarings-few : (k digits : ℕ) → k * digits ≤ 31 + k → (digits - 1) * k ≤ 31
+pub squarings-few : (k digits : ℕ) → k * digits ≤ 31 + k → (digits - 1) * k ≤ squaringsMost
 squarings-few k zero h = rw (zero-mul k) (omega arith)
 squarings-few k (suc d) h = rw (sub-one (suc d)) (omega (arith, mul-suc k d, mul-comm k d))
-
--- the squarings of the first c columns
-pub squarings-on : (p q k : ℕ) (amounts : List ℕ) (n c d r : ℕ) → d ≡ yaoDigits p q k amounts c → r ≡ (d - 1) * k
-    → n ≡ sumTo c (yaoSquarings p q k amounts) → n + r ≡ sumTo (c + 1) (yaoSquarings p q k amounts)
-squarings-on p q k amounts n c d r e f = sum-on (yaoSquarings p q k amounts) c n r (f ∙ ap (λ (y : ℕ). (y - 1) * k) e)
-
-pub squarings-end : (p q k : ℕ) (amounts : List ℕ) (n c : ℕ) → c ≤ p → p ≤ c → n ≡ sumTo c (yaoSquarings p q k amounts) → n ≡ sumTo p (yaoSquarings p q k amounts)
-squarings-end p q k amounts n c h g e =
-    let last : c ≡ p = omega arith in
-    e ∙ ap (λ (m : ℕ). sumTo m (yaoSquarings p q k amounts)) last
 
 -- the digits of an amount x: how many of the first j are not 0, and the largest
 abbrev pub signsTo : ℕ → ℕ → ℕ → ℕ
@@ -91,7 +82,7 @@ module _ (k x : ℕ) where
     pub amount-fits : (m : ℕ) → m ≡ mostTo k x j → z + m < 512
     amount-fits m f = omega (arith, signs-fit digits j some small room h, most-fits j small)
 
-    pub amount-few : (m : ℕ) → m ≡ mostTo k x j → z + m - 2 ≤ 300
+    pub amount-few : (m : ℕ) → m ≡ mostTo k x j → z + m - 2 ≤ amountMost
     amount-few m f = omega (arith, signs-fit digits j some small room h, most-fits j small)
 
   pub amount-end : (digits j z h : ℕ) → j ≤ digits → digits ≤ j → z ≡ signsTo k x j → h ≡ mostTo k x j → z + h - 2 ≡ amountCount k digits x
@@ -103,48 +94,49 @@ module _ (k x : ℕ) where
   amount-none digits j z h le ge e f low = omega (arith, amount-end digits j z h le ge e f)
 
 -- the steps of payslip i: those of its first c amounts, and how many of these are not 0
-abbrev pub amountsTo : ℕ → ℕ → ℕ → List ℕ → ℕ → ℕ → ℕ
-amountsTo p q k amounts i c = sumTo c (λ d. amountCount k (yaoDigits p q k amounts d) (amount p amounts i d))
+abbrev pub amountsTo : ℕ → ℕ → List ℕ → ℕ → ℕ → ℕ → ℕ
+amountsTo p q amounts k i c = sumTo c (λ d. amountCount k (yaoDigits p q amounts k d) (amount p amounts i d))
 
 abbrev pub nonzeroTo : ℕ → List ℕ → ℕ → ℕ → ℕ
 nonzeroTo p amounts i c = sumTo c (λ d. sign (amount p amounts i d))
 
-module _ (p q k : ℕ) (amounts : List ℕ) (i : ℕ) where
-  pub amounts-on : (n c d x r : ℕ) → d ≡ yaoDigits p q k amounts c → x ≡ amount p amounts i c → r ≡ amountCount k d x
-      → n ≡ amountsTo p q k amounts i c → n + r ≡ amountsTo p q k amounts i (c + 1)
+module _ (p q : ℕ) (amounts : List ℕ) (k i : ℕ) where
+  pub amounts-on : (n c d x r : ℕ) → d ≡ yaoDigits p q amounts k c → x ≡ amount p amounts i c → r ≡ amountCount k d x
+      → n ≡ amountsTo p q amounts k i c → n + r ≡ amountsTo p q amounts k i (c + 1)
   amounts-on n c d x r e f g =
-      sum-on (λ b. amountCount k (yaoDigits p q k amounts b) (amount p amounts i b)) c n r (g ∙ ap₂ (amountCount k) e f)
+      sum-on (λ b. amountCount k (yaoDigits p q amounts k b) (amount p amounts i b)) c n r (g ∙ ap₂ (amountCount k) e f)
 
   pub nonzero-few : (z c x r : ℕ) → r ≡ sign x → z ≤ c → z + r ≤ c + 1
   nonzero-few z c x r f h = omega (arith, sign-low x)
 
-  pub nonzero-fits : (z c x r : ℕ) → r ≡ sign x → z ≤ c → c < p → p ≤ 16 → z + r < 32
+  pub nonzero-fits : (z c x r : ℕ) → r ≡ sign x → z ≤ c → c < p → p ≤ mostColumns → z + r < 32
   nonzero-fits z c x r f h g columns = omega (arith, sign-low x)
 
   pub nonzero-on : (z c x r : ℕ) → x ≡ amount p amounts i c → r ≡ sign x → z ≡ nonzeroTo p amounts i c → z + r ≡ nonzeroTo p amounts i (c + 1)
   nonzero-on z c x r e f = sum-on (λ b. sign (amount p amounts i b)) c z r (f ∙ ap sign e)
 
-  payslip-end : (n z c : ℕ) → c ≤ p → p ≤ c → n ≡ amountsTo p q k amounts i c → z ≡ nonzeroTo p amounts i c → n + (z - 1) ≡ payslipCount p q k amounts i
+  payslip-end : (n z c : ℕ) → c ≤ p → p ≤ c → n ≡ amountsTo p q amounts k i c → z ≡ nonzeroTo p amounts i c → n + (z - 1) ≡ payslipCount p q amounts k i
   payslip-end n z c h g e f =
       let last : c ≡ p = omega arith in
-      ap₂ (λ (a b : ℕ). a + (b - 1)) (e ∙ ap (amountsTo p q k amounts i) last) (f ∙ ap (nonzeroTo p amounts i) last)
+      ap₂ (λ (a b : ℕ). a + (b - 1)) (e ∙ ap (amountsTo p q amounts k i) last) (f ∙ ap (nonzeroTo p amounts i) last)
 
-  pub payslip-none : (n z c : ℕ) → c ≤ p → p ≤ c → n ≡ amountsTo p q k amounts i c → z ≡ nonzeroTo p amounts i c → z ≡ 0 → n ≡ payslipCount p q k amounts i
+  pub payslip-none : (n z c : ℕ) → c ≤ p → p ≤ c → n ≡ amountsTo p q amounts k i c → z ≡ nonzeroTo p amounts i c → z ≡ 0 → n ≡ payslipCount p q amounts k i
   payslip-none n z c h g e f none = omega (arith, payslip-end n z c h g e f)
 
-  pub payslip-some : (n z c : ℕ) → c ≤ p → p ≤ c → n ≡ amountsTo p q k amounts i c → z ≡ nonzeroTo p amounts i c → (z ≡ 0 → ⊥)
-      → n + z - 1 ≡ payslipCount p q k amounts i
+  pub payslip-some : (n z c : ℕ) → c ≤ p → p ≤ c → n ≡ amountsTo p q amounts k i c → z ≡ nonzeroTo p amounts i c → (z ≡ 0 → ⊥)
+      → n + z - 1 ≡ payslipCount p q amounts k i
   payslip-some n z c h g e f some = omega (arith, payslip-end n z c h g e f)
 
 -- the steps of the first payslips
-abbrev pub costsTo : ℕ → ℕ → ℕ → List ℕ → ℕ → ℕ
-costsTo p q k amounts n = sumTo n (λ i. payslipCount p q k amounts i)
+abbrev pub costsTo : ℕ → ℕ → List ℕ → ℕ → ℕ → ℕ
+costsTo p q amounts k n = sumTo n (payslipCount p q amounts k)
 
-pub costs-on : (p q k : ℕ) (amounts : List ℕ) (n i r b : ℕ) → r ≡ payslipCount p q k amounts i → n ≡ b + costsTo p q k amounts i → n + r ≡ b + costsTo p q k amounts (i + 1)
-costs-on p q k amounts n i r b is e = omega (arith, sum-on (payslipCount p q k amounts) i (costsTo p q k amounts i) r is refl)
+pub costs-on : (p q : ℕ) (amounts : List ℕ) (k n i r b : ℕ) → r ≡ payslipCount p q amounts k i
+    → n ≡ b + costsTo p q amounts k i → n + r ≡ b + costsTo p q amounts k (i + 1)
+costs-on p q amounts k n i r b is e = omega (arith, sum-on (payslipCount p q amounts k) i (costsTo p q amounts k i) r is refl)
 
-pub count-all : (p q k : ℕ) (amounts : List ℕ) (n i b : ℕ) → b ≡ sumTo p (yaoSquarings p q k amounts) → i ≤ q → q ≤ i → n ≡ b + costsTo p q k amounts i → n ≡ yaoCount p q amounts k
+pub count-all : (p q : ℕ) (amounts : List ℕ) (k n i b : ℕ) → b ≡ sumTo p (yaoSquarings p q amounts k) → i ≤ q → q ≤ i → n ≡ b + costsTo p q amounts k i → n ≡ yaoCount p q amounts k
 unfolding yaoCount
-count-all p q k amounts n i b e h g is =
+count-all p q amounts k n i b e h g is =
     let last : i ≡ q = omega arith in
-    is ∙ ap₂ (λ (a c : ℕ). a + costsTo p q k amounts c) e last
+    is ∙ ap₂ (λ (a c : ℕ). a + costsTo p q amounts k c) e last

@@ -1,4 +1,4 @@
--- Gathering: what b makes, and how many steps it costs, once it is multiplied by each power whose digit is d.
+-- By induction on the powers: b gets the weight of each whose digit is d, and a step for each but the first into an empty product.
 use mathlib.Core.Path.{_≡_, ap, _∙_, sym}
 use mathlib.Core.List.{List}
 use Prim.Native.Nat.{ℕ, zero, suc, _+_, _*_, _^_, _≤_, _<_}
@@ -13,9 +13,9 @@ use Rattle.digits.specs.Digits.{digit}
 use Rattle.digits.specs.Range.{sumTo, sign}
 use Rattle.digits.proofs.Range.{sign-some, sign-add}
 use Rattle.digits.proofs.Vector.{vector, delta, delta-same, delta-other, delta-part}
-use Rattle.methods.specs.Product.{Made, times}
-use Rattle.methods.proofs.Sound.{makes-on}
-use Rattle.methods.proofs.Product.{times-cost, times-spent, Result, result-like, result-times}
+use Rattle.products.specs.Product.{Made, times}
+use Rattle.products.proofs.Sound.{makes-on}
+use Rattle.products.proofs.Product.{times-cost, times-spent, Result, result-like, result-times}
 use Rattle.yao.specs.Yao.{gatherOne, gather}
 
 -- one power: a product where the digit is d, else nothing

@@ -1,12 +1,11 @@
 pub mod Gather
 pub mod Rounds
-pub mod Running
+pub mod Sweeping
 pub mod Cost
 pub mod Payslip
 pub mod Yao
 pub mod Counting
 pub mod Emitting
-pub mod Squarings
 pub mod Paying
 pub mod Whole
 pub mod Measuring

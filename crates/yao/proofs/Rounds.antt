@@ -1,4 +1,4 @@
--- The rounds of a digit: in how many of the first n rounds of Yao's method its power is in b.
+-- A digit y is in b from the round of d = y on, so in y rounds of all: summed over the digits, that makes the amount.
 use mathlib.Core.Path.{_≡_, sym, ap, _∙_}
 use Prim.Native.Nat.{ℕ, zero, suc, _+_, _-_, _*_, _^_, _≤_, _<_}
 use native.Mathlib.Nat.{mul-le-mul-right}

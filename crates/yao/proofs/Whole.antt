@@ -1,73 +1,47 @@
--- Laws by which the emitter of the whole chain keeps to its contract.
-use mathlib.Core.Path.{_≡_, ap, ap₂, _∙_}
+-- The chain is the squarings of the bases and then the payslips: there is room for both, and both together are what was asked for.
+use mathlib.Core.Path.{_≡_}
 use mathlib.Core.List.{List}
-use Prim.Native.Nat.{ℕ, _*_, _≤_}
-use native.Mathlib.Omega.{arith}
+use Prim.Native.Nat.{ℕ}
 use lib.ListN.{length}
-use Rattle.chain.specs.Chain.{flat}
-use Rattle.chain.specs.Written.{over}
 use Rattle.chain.specs.declared.Step.{Step}
-use Rattle.chain.proofs.Pairs.{length-flat}
-use Rattle.chain.proofs.Written.{over-over}
-use Rattle.methods.specs.Product.{payslips}
+use Rattle.digits.specs.Range.{listTo}
+use Rattle.products.specs.Product.{payslips}
+use Rattle.products.specs.Inner.{stepsIn, StepsRoom, StepsStored}
 use Rattle.methods.specs.Powers.{countsOf, squarings}
-use Rattle.methods.specs.Emitted.{stepsIn, Room, Stored}
-use Rattle.methods.proofs.Sound.{Begins, begins-own, begins-length}
-use Rattle.methods.proofs.Emitted.{stored-is, stored-room}
-use Rattle.methods.proofs.Paying.{paid-begins}
+use Rattle.methods.specs.Inner.{Asked, ChainRoom, ChainStored}
+use Rattle.methods.proofs.Paying.{begin-room, payslips-room, chain-stored}
 use Rattle.yao.specs.Yao.{yaoSquarings, yao, yaoCount}
-use Rattle.yao.specs.Emitted.{squaringsTo, yaoSlip}
-use Rattle.yao.proofs.Squarings.{squared-as}
+use Rattle.yao.specs.Inner.{Measured, squaringsIn, yaoSlip}
+use Rattle.yao.proofs.Measuring.{squared-as}
 use Rattle.yao.proofs.Paying.{slip-begins}
 use Rattle.yao.proofs.Yao.{yao-count}
 
-module _ (p q : ℕ) (amounts : List ℕ) (k : ℕ) where
-  abbrev Powers : List Step
-  Powers = squarings p (yaoSquarings p q k amounts) p
+module _ {p q : ℕ} {amounts : List ℕ} {k : ℕ} (asked : Asked 8 p q amounts k) {cells : List ℕ} (measured : Measured p q amounts k p cells) {counts : List ℕ}
+    (is : counts ≡ listTo p (squaringsIn k cells)) where
+  abbrev Squared : List Step
+  Squared = squarings p (countsOf counts) (length counts)
 
-  powers-begin : Begins Powers (yao p q amounts k .steps)
+  abbrev start : List Step
+  start = squarings p (yaoSquarings p q amounts k) p
+
+  squared-is : Squared ≡ start
+  squared-is = squared-as p q amounts k cells measured counts is
+
+  counted : length (payslips (yaoSlip p q amounts k) start q .steps) ≡ yaoCount p q amounts k
   unfolding yao
-  powers-begin = paid-begins (yaoSlip p q k amounts) Powers (slip-begins p q k amounts) 0 q (omega arith)
+  counted = yao-count p q amounts k (asked .k-some)
 
-  module _ (counts old : List ℕ) (is : counts ≡ squaringsTo p q k amounts p) where
-    module _ (some : 1 ≤ k) (columns : p ≤ 16) (small : yaoCount p q amounts k ≤ 16000) (fits : 2 * yaoCount p q amounts k ≤ length old) where
-      whole : Room p old 0 (yao p q amounts k .steps)
-      whole =
-          record {
-            so-far = omega arith;
-            cells-hold = omega (arith, yao-count p q amounts k some);
-            numbers-fit = omega (arith, yao-count p q amounts k some);
-          }
+  module _ {old outputs : List ℕ} (fits : ChainRoom q (yaoCount p q amounts k) old outputs) where
+    pub squarings-room : StepsRoom p old 0 Squared
+    squarings-room = rw squared-is (begin-room (yaoSlip p q amounts k) (slip-begins p q amounts k) start q (asked .sheet .p-low) fits counted)
 
-      pub powers-room : Room p old 0 (squarings p (countsOf counts) (length counts))
-      powers-room =
-          let w = whole in
-          let longer = begins-length powers-begin in
-          rw (squared-as p q k amounts counts is)
-          (record { so-far = omega arith; cells-hold = omega (arith, w .cells-hold); numbers-fit = omega (arith, w .numbers-fit) })
+    pub after-squarings : {steps : List ℕ} {n : ℕ} → StepsStored old steps n Squared
+        → StepsRoom p steps n (payslips (yaoSlip p q amounts k) (stepsIn steps n) q .steps)
+    after-squarings st =
+        payslips-room (yaoSlip p q amounts k) (slip-begins p q amounts k) start q (asked .sheet .p-low) fits counted (rw squared-is at st)
 
-      pub payslips-room : {cells : List ℕ} {n : ℕ} → Stored old cells n (squarings p (countsOf counts) (length counts))
-          → Room p cells n (payslips (yaoSlip p q k amounts) (stepsIn cells n) q .steps)
-      unfolding yao
-      payslips-room st =
-          rw (stored-is st, squared-as p q k amounts counts is)
-          (stored-room whole (rw (squared-as p q k amounts counts is) at st) powers-begin (begins-own _))
-
-    -- the payslips' steps over the squarings, and their outputs, are the chain's
-    module _ (cells : List ℕ) (n : ℕ) (st : Stored old cells n (squarings p (countsOf counts) (length counts))) where
-      pub chain-steps : (cells′ : List ℕ) → cells′ ≡ over (flat (payslips (yaoSlip p q k amounts) (stepsIn cells n) q .steps)) cells
-          → cells′ ≡ over (flat (yao p q amounts k .steps)) old
-      unfolding yao
-      chain-steps cells′ e =
-          let before : stepsIn cells n ≡ Powers = stored-is st ∙ squared-as p q k amounts counts is in
-          let first : cells ≡ over (flat Powers) old = st .cells-are ∙ ap (λ (l : List Step). over (flat l) old) (squared-as p q k amounts counts is) in
-          e
-          ∙ ap₂ (λ (l : List Step) (c : List ℕ). over (flat (payslips (yaoSlip p q k amounts) l q .steps)) c) before first
-          ∙ over-over (flat Powers) (flat (yao p q amounts k .steps)) old
-          (omega (arith, length-flat Powers, length-flat (yao p q amounts k .steps), begins-length powers-begin))
-
-      pub chain-outputs : (outputs outputs′ : List ℕ) → outputs′ ≡ over (payslips (yaoSlip p q k amounts) (stepsIn cells n) q .outputs) outputs
-          → outputs′ ≡ over (yao p q amounts k .outputs) outputs
-      unfolding yao
-      chain-outputs outputs outputs′ e =
-          e ∙ ap (λ (l : List Step). over (payslips (yaoSlip p q k amounts) l q .outputs) outputs) (stored-is st ∙ squared-as p q k amounts counts is)
+  pub chain-made : {old steps outputs₀ steps′ outputs′ : List ℕ} {n : ℕ} → StepsStored old steps n Squared
+      → ChainStored steps outputs₀ steps′ outputs′ (payslips (yaoSlip p q amounts k) (stepsIn steps n) q)
+      → ChainStored old outputs₀ steps′ outputs′ (yao p q amounts k)
+  unfolding yao
+  chain-made st r = chain-stored (yaoSlip p q amounts k) (slip-begins p q amounts k) start q (rw squared-is at st) r

@@ -1,2 +1,2 @@
 pub mod Yao
-pub mod Emitted
+pub mod Inner

@@ -8,21 +8,9 @@ use Rattle.chain.specs.declared.Step.{Step}
 use Rattle.digits.specs.Digits.{digitCount, digit}
 use Rattle.digits.specs.Range.{sumTo, maxTo, sign}
 use Rattle.sheet.specs.Sheet.{amount}
-use Rattle.methods.specs.Product.{Made, made, times, payslips}
+use Rattle.products.specs.Product.{Made, made, times, payslips}
 use Rattle.methods.specs.Powers.{largestIn, squarings, powerOf}
-
--- "For each column, J digits in its largest amount (J = 0 if all are 0)"
-unfoldable pub yaoDigits : ℕ → ℕ → ℕ → List ℕ → ℕ → ℕ
-unfolding digitCount
-yaoDigits p q k amounts c = digitCount k (largestIn p q amounts c)
-
--- "the base's powers 2^(ki) for i below J by repeated squaring, (J−1)k steps, none if J = 0"
-abbrev pub yaoSquarings : ℕ → ℕ → ℕ → List ℕ → ℕ → ℕ
-yaoSquarings p q k amounts c = (yaoDigits p q k amounts c - 1) * k
-
--- the value number of power 2^(ki) of column c
-abbrev pub yaoPower : ℕ → ℕ → ℕ → List ℕ → ℕ → ℕ → ℕ
-yaoPower p q k amounts c i = powerOf p (yaoSquarings p q k amounts) c (k * i)
+use Rattle.methods.specs.Method.{Method}
 
 -- b times the power where the digit is d
 unfoldable pub gatherOne : ℕ → ℕ → ℕ → Made → ℕ → Made
@@ -35,31 +23,19 @@ gather p k power x d zero b = b
 gather p k power x d (suc n) b = gatherOne p (digit k x n) d (gather p k power x d n b) (power n)
 
 -- the steps so far with the products a and b
-pub record Running : Type 0 where
+pub record Sweep : Type 0 where
   pub steps : List Step
   pub a : ℕ
   pub b : ℕ
 
 -- "for d from 2^k − 1 down to 1, multiply b by each power whose digit is d, lowest i first, then a by b": the first n such d
-abbrev pub running : ℕ → ℕ → (ℕ → ℕ) → ℕ → ℕ → List Step → ℕ → Running
-running p k power J x before zero = record { steps = before; a = 0; b = 0 }
-running p k power J x before (suc n) =
-    let r = running p k power J x before n in
+abbrev pub sweep : ℕ → ℕ → (ℕ → ℕ) → ℕ → ℕ → List Step → ℕ → Sweep
+sweep p k power J x before zero = record { steps = before; a = 0; b = 0 }
+sweep p k power J x before (suc n) =
+    let r = sweep p k power J x before n in
     let b = gather p k power x (2 ^ k - suc n) J (made (r .steps) (r .b)) in
     let a = times p (made (b .steps) (r .a)) (b .value) in
     record { steps = a .steps; a = a .value; b = b .value }
-
--- "column by column": the first columns of payslip i. "Each nonzero column's a is multiplied, when made, into the payslip's product."
-abbrev pub yaoPayslip : ℕ → ℕ → ℕ → List ℕ → ℕ → List Step → ℕ → Made
-yaoPayslip p q k amounts i before zero = made before 0
-yaoPayslip p q k amounts i before (suc c) =
-    let m = yaoPayslip p q k amounts i before c in
-    let r = running p k (yaoPower p q k amounts c) (yaoDigits p q k amounts c) (amount p amounts i c) (m .steps) (2 ^ k - 1) in
-    times p (made (r .steps) (m .value)) (r .a)
-
-unfoldable pub yao : ℕ → ℕ → List ℕ → ℕ → Chain
-yao p q amounts k =
-    payslips (λ i before. yaoPayslip p q k amounts i before p) (squarings p (yaoSquarings p q k amounts) p) q
 
 -- "An amount with z nonzero digits, the largest h, costs z + h − 2." 0 costs nothing.
 abbrev pub amountCount : ℕ → ℕ → ℕ → ℕ
@@ -69,14 +45,44 @@ amountCount k J x = sumTo J (λ j. sign (digit k x j)) + maxTo J (λ j. digit k 
 abbrev pub joinCount : ℕ → List ℕ → ℕ → ℕ
 joinCount p amounts i = sumTo p (λ c. sign (amount p amounts i c)) - 1
 
--- "Count: squarings, those, and for each nonzero payslip its nonzero amounts less 1."
-unfoldable pub yaoCount : ℕ → ℕ → List ℕ → ℕ → ℕ
-yaoCount p q amounts k =
-    sumTo p (yaoSquarings p q k amounts)
-    + sumTo q (λ i. sumTo p (λ c. amountCount k (yaoDigits p q k amounts c) (amount p amounts i c)) + joinCount p amounts i)
+module _ (p q : ℕ) (amounts : List ℕ) (k : ℕ) where
+  -- "For each column, J digits in its largest amount (J = 0 if all are 0)"
+  unfoldable pub yaoDigits : ℕ → ℕ
+  unfolding digitCount
+  yaoDigits c = digitCount k (largestIn p q amounts c)
 
--- "Ceiling: the same with J + 2^k − 3 for each nonzero amount."
-unfoldable pub yaoCeiling : ℕ → ℕ → List ℕ → ℕ → ℕ
-yaoCeiling p q amounts k =
-    sumTo p (yaoSquarings p q k amounts)
-    + sumTo q (λ i. sumTo p (λ c. sign (amount p amounts i c) * (yaoDigits p q k amounts c + 2 ^ k - 3)) + joinCount p amounts i)
+  -- "the base's powers 2^(ki) for i below J by repeated squaring, (J−1)k steps, none if J = 0"
+  abbrev pub yaoSquarings : ℕ → ℕ
+  yaoSquarings c = (yaoDigits c - 1) * k
+
+  -- the value number of power 2^(ki) of column c
+  abbrev pub yaoPower : ℕ → ℕ → ℕ
+  yaoPower c i = powerOf p yaoSquarings c (k * i)
+
+  -- "column by column": the first columns of payslip i. "Each nonzero column's a is multiplied, when made, into the payslip's product."
+  abbrev pub yaoPayslip : ℕ → List Step → ℕ → Made
+  yaoPayslip i before zero = made before 0
+  yaoPayslip i before (suc c) =
+      let m = yaoPayslip i before c in
+      let r = sweep p k (yaoPower c) (yaoDigits c) (amount p amounts i c) (m .steps) (2 ^ k - 1) in
+      times p (made (r .steps) (m .value)) (r .a)
+
+  unfoldable pub yao : Chain
+  yao = payslips (λ i before. yaoPayslip i before p) (squarings p yaoSquarings p) q
+
+  -- the steps of payslip i: those of its amounts, and its products
+  abbrev pub payslipCount : ℕ → ℕ
+  payslipCount i = sumTo p (λ c. amountCount k (yaoDigits c) (amount p amounts i c)) + joinCount p amounts i
+
+  -- "Count: squarings, those, and for each nonzero payslip its nonzero amounts less 1."
+  unfoldable pub yaoCount : ℕ
+  yaoCount = sumTo p yaoSquarings + sumTo q payslipCount
+
+  -- "Ceiling: the same with J + 2^k − 3 for each nonzero amount."
+  unfoldable pub yaoCeiling : ℕ
+  yaoCeiling =
+      sumTo p yaoSquarings
+      + sumTo q (λ i. sumTo p (λ c. sign (amount p amounts i c) * (yaoDigits c + 2 ^ k - 3)) + joinCount p amounts i)
+
+  abbrev pub yaoMethod : Method
+  yaoMethod = record { chain = yao; count = yaoCount; ceiling = yaoCeiling }

@@ -2,20 +2,26 @@
 ghost use mathlib.Core.Path.{_≡_};
 ghost use Prim.Native.Nat.{_+_, _-_, _*_, _^_, _≤_, _<_};
 ghost use lib.ListN.{length};
-ghost use Rattle.chain.specs.Chain.{mostColumns, mostPayslips, mostSteps, flat};
+ghost use Rattle.chain.specs.Chain.{mostColumns};
 ghost use Rattle.chain.specs.Written.{over};
-ghost use Rattle.digits.specs.Range.{sumTo};
-ghost use Rattle.methods.specs.Product.{made, payslips};
-ghost use Rattle.methods.specs.Emitted.{stepsIn, Room, Emitted};
-ghost use Rattle.yao.specs.Yao.{yaoDigits, yaoSquarings, gatherOne, gather, running, yaoPayslip, yao, amountCount, yaoCount};
-ghost use Rattle.yao.specs.Emitted.{Reach, powerIn, Ran, Measured, squaringsTo, joined, yaoSlip, payslipCount};
-use methods::PartialProduct;
+ghost use Rattle.digits.specs.Range.{sumTo, listTo};
+ghost use Rattle.products.specs.Product.{made, payslips};
+ghost use Rattle.products.specs.Inner.{stepsIn, StepsRoom, Emitted};
+ghost use Rattle.methods.specs.Inner.{Asked, ChainRoom, ChainStored};
+ghost use Rattle.yao.specs.Yao.{yaoDigits, gatherOne, yaoPayslip, yao, amountCount, payslipCount, yaoCount};
+ghost use Rattle.yao.specs.Inner.{Reach, gatherIn, sweepIn, joined, SweepEmitted, DigitsFew, Measured, squaringsIn, yaoSlip};
+ghost use Rattle.yao.specs.Inner.{squaringsMost, amountMost, payslipMost};
+use products::PartialProduct;
 
-// The powers of a column: its place, the value after which they are made, and how many they are.
+// A column of a payslip: the sheet's columns p and the parameter k, its place c, the value after which its powers are made, how many they are, and its
+// amount x.
 pub struct Column {
+    pub p: usize,
+    pub k: usize,
     pub c: usize,
     pub first: usize,
     pub digits: usize,
+    pub x: u32,
 }
 
 // The two products of a column, and the number of steps so far.
@@ -34,59 +40,63 @@ fn gather_one(
     power: u32,
     steps: &mut [u32],
 ) -> PartialProduct
-    requires { ⌜ Room p (now steps) (b .n) (gatherOne p digit d (made (stepsIn (now steps) (b .n)) (b .value)) power .steps) ⌝ }
-    ensures { λ r. ⌜ Emitted (now (steps .entry)) (now (steps .exit)) (r .n) (r .value) (gatherOne p digit d (made (stepsIn (now (steps .entry)) (b .n)) (b .value)) power) ⌝ }
+    requires { ⌜ StepsRoom p (now steps) (b .n) (gatherOne p digit d (made (stepsIn (now steps) (b .n)) (b .value)) power .steps) ⌝ }
+    ensures { λ r. ⌜ Emitted (now (steps .entry)) (now (steps .exit)) (r .n) (r .value)
+        (gatherOne p digit d (made (stepsIn (now (steps .entry)) (b .n)) (b .value)) power) ⌝ }
 {
     if digit == d {
-        return methods::times(p, b, power, steps);
+        return products::times(p, b, power, steps);
     }
     b
 }
 
-// b times each power whose digit in x is d, lowest first.
-fn gather_powers(
-    p: usize,
-    k: usize,
-    column: Column,
-    x: u32,
-    d: u32,
-    b: PartialProduct,
-    steps: &mut [u32],
-) -> PartialProduct
-    requires { ⌜ Reach k (column .c) (column .first) (column .digits) ⌝ }
-    requires { ⌜ Room p (now steps) (b .n) (gather p k (powerIn k (column .c) (column .first)) x d (column .digits) (made (stepsIn (now steps) (b .n)) (b .value)) .steps) ⌝ }
-    ensures { λ r. ⌜ Emitted (now (steps .entry)) (now (steps .exit)) (r .n) (r .value) (gather p k (powerIn k (column .c) (column .first)) x d (column .digits) (made (stepsIn (now (steps .entry)) (b .n)) (b .value))) ⌝ }
+// b times each power whose digit is d, lowest first.
+fn gather_powers(column: Column, d: u32, b: PartialProduct, steps: &mut [u32]) -> PartialProduct
+    requires { ⌜ Reach column ⌝ }
+    requires { ⌜ StepsRoom (column .p) (now steps) (b .n) (gatherIn column d (column .digits) (made (stepsIn (now steps) (b .n)) (b .value)) .steps) ⌝ }
+    ensures { λ r. ⌜ Emitted (now (steps .entry)) (now (steps .exit)) (r .n) (r .value)
+        (gatherIn column d (column .digits) (made (stepsIn (now (steps .entry)) (b .n)) (b .value))) ⌝ }
 {
     let mut r = b;
     let mut i: usize = 0;
     while i < column.digits {
-        let power = methods::power_at(column.c, column.first, k * i);
-        r = gather_one(p, digits::digit(k, x, i), d, r, power, steps);
+        let power = methods::power_at(column.c, column.first, column.k * i);
+        r = gather_one(
+            column.p,
+            digits::digit(column.k, column.x, i),
+            d,
+            r,
+            power,
+            steps,
+        );
         i += 1;
     }
     r
 }
 
-// The products of a column for the amount x: for each digit from the largest down, b takes up its powers, then a takes up b.
-fn run_column(p: usize, k: usize, column: Column, x: u32, n: usize, steps: &mut [u32]) -> Pair
-    requires { ⌜ Reach k (column .c) (column .first) (column .digits) ⌝ }
-    requires { ⌜ Room p (now steps) n (running p k (powerIn k (column .c) (column .first)) (column .digits) x (stepsIn (now steps) n) (2 ^ k - 1) .steps) ⌝ }
-    ensures { λ r. ⌜ Ran (now (steps .entry)) (now (steps .exit)) (r .n) (r .a) (r .b) (running p k (powerIn k (column .c) (column .first)) (column .digits) x (stepsIn (now (steps .entry)) n) (2 ^ k - 1)) ⌝ }
+// The products of a column: for each digit from the largest down, b takes up its powers, then a takes up b.
+fn sweep_column(column: Column, n: usize, steps: &mut [u32]) -> Pair
+    requires { ⌜ Reach column ⌝ }
+    requires { ⌜ StepsRoom (column .p) (now steps) n (sweepIn column (stepsIn (now steps) n) (2 ^ column .k - 1) .steps) ⌝ }
+    ensures { λ r. ⌜ SweepEmitted (now (steps .entry)) (now (steps .exit)) (r .n) (r .a) (r .b)
+        (sweepIn column (stepsIn (now (steps .entry)) n) (2 ^ column .k - 1)) ⌝ }
 {
-    let top = digits::power(k);
+    let top = digits::power(column.k);
     let mut s = Pair { n: n, a: 0, b: 0 };
     let mut i: u32 = 0;
     while i + 1 < top {
         let b = gather_powers(
-            p,
-            k,
             column,
-            x,
             top - (i + 1),
             PartialProduct { n: s.n, value: s.b },
             steps,
         );
-        let a = methods::times(p, PartialProduct { n: b.n, value: s.a }, b.value, steps);
+        let a = products::times(
+            column.p,
+            PartialProduct { n: b.n, value: s.a },
+            b.value,
+            steps,
+        );
         s = Pair {
             n: a.n,
             a: a.value,
@@ -98,21 +108,21 @@ fn run_column(p: usize, k: usize, column: Column, x: u32, n: usize, steps: &mut 
 }
 
 // How many digits the largest amount of column c has.
-fn column_digits(p: usize, q: usize, k: usize, amounts: &[u32], c: usize) -> usize
+fn column_digits(p: usize, q: usize, amounts: &[u32], k: usize, c: usize) -> usize
     requires { ⌜ (c < p) × (length (now amounts) ≡ p * q) × (0 < k) × (k < 32) ⌝ }
-    ensures { λ r. ⌜ (r ≡ yaoDigits p q k (now (amounts .entry)) c) × (k * r ≤ 31 + k) ⌝ }
+    ensures { λ r. ⌜ (r ≡ yaoDigits p q (now (amounts .entry)) k c) × (k * r ≤ 31 + k) ⌝ }
 {
     digits::digit_count(k, methods::largest_in(p, q, amounts, c))
 }
 
-// How many digits each column has, found once for all payslips.
-fn measure_columns(p: usize, q: usize, k: usize, amounts: &[u32], columns: &mut [u32])
-    requires { ⌜ (p ≤ length (now columns)) × (length (now amounts) ≡ p * q) × (0 < k) × (k < 32) ⌝ }
-    ensures { λ r. ⌜ Measured p q k p (now (amounts .entry)) (now (columns .exit)) ⌝ }
+// How many digits each column has: the one pass over the amounts before the payslips.
+fn measure_columns(p: usize, q: usize, amounts: &[u32], k: usize, columns: &mut [u32])
+    requires { ⌜ Asked 8 p q (now amounts) k × (p ≤ length (now columns)) ⌝ }
+    ensures { λ r. ⌜ Measured p q (now (amounts .entry)) k p (now (columns .exit)) ⌝ }
 {
     let mut c: usize = 0;
     while c < p {
-        columns[c] = column_digits(p, q, k, amounts, c) as u32;
+        columns[c] = column_digits(p, q, amounts, k, c) as u32;
         c += 1;
     }
 }
@@ -120,7 +130,7 @@ fn measure_columns(p: usize, q: usize, k: usize, amounts: &[u32], columns: &mut 
 // How often a column of so many digits is squared.
 fn squarings_of(k: usize, digits: usize) -> usize
     requires { ⌜ k * digits ≤ 31 + k ⌝ }
-    ensures { λ r. ⌜ (r ≡ (digits - 1) * k) × (r ≤ 31) ⌝ }
+    ensures { λ r. ⌜ (r ≡ (digits - 1) * k) × (r ≤ squaringsMost) ⌝ }
 {
     if digits == 0 {
         return 0;
@@ -128,16 +138,15 @@ fn squarings_of(k: usize, digits: usize) -> usize
     (digits - 1) * k
 }
 
-// How often the columns are squared.
-fn squaring_count(p: usize, q: usize, k: usize, amounts: &[u32]) -> usize
-    requires { ⌜ (p ≤ mostColumns) × (length (now amounts) ≡ p * q) × (0 < k) × (k < 32) ⌝ }
-    ensures { λ r. ⌜ (r ≡ sumTo p (yaoSquarings p q k (now (amounts .entry)))) × (r ≤ 496) ⌝ }
+// How often the p columns measured are squared.
+fn squaring_count(p: usize, k: usize, columns: &[u32]) -> usize
+    requires { ⌜ (p ≤ mostColumns) × DigitsFew k p (now columns) ⌝ }
+    ensures { λ r. ⌜ (r ≡ sumTo p (squaringsIn k (now (columns .entry)))) × (r ≤ squaringsMost * mostColumns) ⌝ }
 {
     let mut n: usize = 0;
     let mut c: usize = 0;
     while c < p {
-        let digits = column_digits(p, q, k, amounts, c);
-        n += squarings_of(k, digits);
+        n += squarings_of(k, columns[c] as usize);
         c += 1;
     }
     n
@@ -146,7 +155,7 @@ fn squaring_count(p: usize, q: usize, k: usize, amounts: &[u32]) -> usize
 // The steps of an amount x in a column of so many digits.
 fn amount_count(k: usize, digits: usize, x: u32) -> usize
     requires { ⌜ (0 < k) × (k ≤ 8) × (k * digits ≤ 31 + k) ⌝ }
-    ensures { λ r. ⌜ (r ≡ amountCount k digits x) × (r ≤ 300) ⌝ }
+    ensures { λ r. ⌜ (r ≡ amountCount k digits x) × (r ≤ amountMost) ⌝ }
 {
     let mut z: usize = 0;
     let mut h: u32 = 0;
@@ -165,9 +174,9 @@ fn amount_count(k: usize, digits: usize, x: u32) -> usize
 }
 
 // The steps of payslip i.
-fn payslip_count(p: usize, q: usize, k: usize, amounts: &[u32], columns: &[u32], i: usize) -> usize
-    requires { ⌜ (p ≤ mostColumns) × (i < q) × (length (now amounts) ≡ p * q) × (0 < k) × (k ≤ 8) × (p ≤ length (now columns)) × Measured p q k p (now amounts) (now columns) ⌝ }
-    ensures { λ r. ⌜ (r ≡ payslipCount p q k (now (amounts .entry)) i) × (r ≤ 5000) ⌝ }
+fn payslip_count(p: usize, q: usize, amounts: &[u32], k: usize, columns: &[u32], i: usize) -> usize
+    requires { ⌜ Asked 8 p q (now amounts) k × (i < q) × Measured p q (now amounts) k p (now columns) ⌝ }
+    ensures { λ r. ⌜ (r ≡ payslipCount p q (now (amounts .entry)) k i) × (r ≤ payslipMost) ⌝ }
 {
     let mut n: usize = 0;
     let mut z: usize = 0;
@@ -187,13 +196,13 @@ fn payslip_count(p: usize, q: usize, k: usize, amounts: &[u32], columns: &[u32],
 
 // The squarings, and the steps of the payslips.
 fn chain_count(p: usize, q: usize, amounts: &[u32], k: usize, columns: &[u32]) -> usize
-    requires { ⌜ (p ≤ mostColumns) × (q ≤ mostPayslips) × (length (now amounts) ≡ p * q) × (1 ≤ k) × (k ≤ 8) × (p ≤ length (now columns)) × Measured p q k p (now amounts) (now columns) ⌝ }
+    requires { ⌜ Asked 8 p q (now amounts) k × Measured p q (now amounts) k p (now columns) ⌝ }
     ensures { λ r. ⌜ r ≡ yaoCount p q (now (amounts .entry)) k ⌝ }
 {
-    let mut n = squaring_count(p, q, k, amounts);
+    let mut n = squaring_count(p, k, columns);
     let mut i: usize = 0;
     while i < q {
-        n += payslip_count(p, q, k, amounts, columns, i);
+        n += payslip_count(p, q, amounts, k, columns, i);
         i += 1;
     }
     n
@@ -201,60 +210,54 @@ fn chain_count(p: usize, q: usize, amounts: &[u32], k: usize, columns: &[u32]) -
 
 // The number of steps of the chain.
 pub fn count(p: usize, q: usize, amounts: &[u32], k: usize) -> usize
-    requires { ⌜ (1 ≤ p) × (p ≤ mostColumns) × (q ≤ mostPayslips) × (length (now amounts) ≡ p * q) × (1 ≤ k) × (k ≤ 8) ⌝ }
+    requires { ⌜ Asked 8 p q (now amounts) k ⌝ }
     ensures { λ r. ⌜ r ≡ yaoCount p q (now (amounts .entry)) k ⌝ }
 {
-    let mut columns = [0u32; 16];
-    measure_columns(p, q, k, amounts, &mut columns);
+    let mut columns = [0u32; chain::MOST_COLUMNS];
+    measure_columns(p, q, amounts, k, &mut columns);
     chain_count(p, q, amounts, k, &columns)
 }
 
-// How often each column is squared, column by column.
-fn all_squarings(p: usize, q: usize, k: usize, amounts: &[u32], counts: &mut [u32])
-    requires { ⌜ (p ≤ length (now counts)) × (length (now amounts) ≡ p * q) × (0 < k) × (k < 32) ⌝ }
-    ensures { λ r. ⌜ now (counts .exit) ≡ over (squaringsTo p q k (now (amounts .entry)) p) (now (counts .entry)) ⌝ }
+// How often each of the p columns measured is squared.
+fn all_squarings(p: usize, k: usize, columns: &[u32], counts: &mut [u32])
+    requires { ⌜ DigitsFew k p (now columns) × (p ≤ length (now counts)) ⌝ }
+    ensures { λ r. ⌜ now (counts .exit) ≡ over (listTo p (squaringsIn k (now (columns .entry)))) (now (counts .entry)) ⌝ }
 {
     let mut c: usize = 0;
     while c < p {
-        let digits = column_digits(p, q, k, amounts, c);
-        counts[c] = squarings_of(k, digits) as u32;
+        counts[c] = squarings_of(k, columns[c] as usize) as u32;
         c += 1;
     }
 }
 
 // The product times the power x of a column's base.
-fn join_column(
-    p: usize,
-    k: usize,
-    column: Column,
-    x: u32,
-    m: PartialProduct,
-    steps: &mut [u32],
-) -> PartialProduct
-    requires { ⌜ Reach k (column .c) (column .first) (column .digits) ⌝ }
-    requires { ⌜ Room p (now steps) (m .n) (joined p k (powerIn k (column .c) (column .first)) (column .digits) x (made (stepsIn (now steps) (m .n)) (m .value)) .steps) ⌝ }
-    ensures { λ r. ⌜ Emitted (now (steps .entry)) (now (steps .exit)) (r .n) (r .value) (joined p k (powerIn k (column .c) (column .first)) (column .digits) x (made (stepsIn (now (steps .entry)) (m .n)) (m .value))) ⌝ }
+fn join_column(column: Column, m: PartialProduct, steps: &mut [u32]) -> PartialProduct
+    requires { ⌜ Reach column ⌝ }
+    requires { ⌜ StepsRoom (column .p) (now steps) (m .n) (joined column (made (stepsIn (now steps) (m .n)) (m .value)) .steps) ⌝ }
+    ensures { λ r. ⌜ Emitted (now (steps .entry)) (now (steps .exit)) (r .n) (r .value)
+        (joined column (made (stepsIn (now (steps .entry)) (m .n)) (m .value))) ⌝ }
 {
     let n = m.n;
     let v = m.value;
-    let s = run_column(p, k, column, x, n, steps);
-    methods::times(p, PartialProduct { n: s.n, value: v }, s.a, steps)
+    let s = sweep_column(column, n, steps);
+    products::times(column.p, PartialProduct { n: s.n, value: v }, s.a, steps)
 }
 
 // Payslip i after n steps, column by column.
 fn make_payslip(
     p: usize,
     q: usize,
-    k: usize,
     amounts: &[u32],
+    k: usize,
     columns: &[u32],
     i: usize,
     n: usize,
     steps: &mut [u32],
 ) -> PartialProduct
-    requires { ⌜ (p ≤ mostColumns) × (i < q) × (length (now amounts) ≡ p * q) × (0 < k) × (k < 32) × (p ≤ length (now columns)) × Measured p q k p (now amounts) (now columns) ⌝ }
-    requires { ⌜ Room p (now steps) n (yaoPayslip p q k (now amounts) i (stepsIn (now steps) n) p .steps) ⌝ }
-    ensures { λ r. ⌜ Emitted (now (steps .entry)) (now (steps .exit)) (r .n) (r .value) (yaoPayslip p q k (now (amounts .entry)) i (stepsIn (now (steps .entry)) n) p) ⌝ }
+    requires { ⌜ Asked 8 p q (now amounts) k × (i < q) × Measured p q (now amounts) k p (now columns) ⌝ }
+    requires { ⌜ StepsRoom p (now steps) n (yaoPayslip p q (now amounts) k i (stepsIn (now steps) n) p .steps) ⌝ }
+    ensures { λ r. ⌜ Emitted (now (steps .entry)) (now (steps .exit)) (r .n) (r .value)
+        (yaoPayslip p q (now (amounts .entry)) k i (stepsIn (now (steps .entry)) n) p) ⌝ }
 {
     let mut r = PartialProduct { n: n, value: 0 };
     let mut first = p;
@@ -262,11 +265,14 @@ fn make_payslip(
     while c < p {
         let digits = columns[c] as usize;
         let column = Column {
+            p: p,
+            k: k,
             c: c,
             first: first,
             digits: digits,
+            x: sheet::amount(p, amounts, i, c),
         };
-        r = join_column(p, k, column, sheet::amount(p, amounts, i, c), r, steps);
+        r = join_column(column, r, steps);
         first += squarings_of(k, digits);
         c += 1;
     }
@@ -277,22 +283,22 @@ fn make_payslip(
 fn make_payslips(
     p: usize,
     q: usize,
-    k: usize,
     amounts: &[u32],
+    k: usize,
     columns: &[u32],
     n: usize,
     steps: &mut [u32],
     outputs: &mut [u32],
 )
-    requires { ⌜ (p ≤ mostColumns) × (length (now amounts) ≡ p * q) × (0 < k) × (k < 32) × (q ≤ length (now outputs)) × (p ≤ length (now columns)) × Measured p q k p (now amounts) (now columns) ⌝ }
-    requires { ⌜ Room p (now steps) n (payslips (yaoSlip p q k (now amounts)) (stepsIn (now steps) n) q .steps) ⌝ }
-    ensures { λ r. ⌜ now (steps .exit) ≡ over (flat (payslips (yaoSlip p q k (now (amounts .entry))) (stepsIn (now (steps .entry)) n) q .steps)) (now (steps .entry)) ⌝ }
-    ensures { λ r. ⌜ now (outputs .exit) ≡ over (payslips (yaoSlip p q k (now (amounts .entry))) (stepsIn (now (steps .entry)) n) q .outputs) (now (outputs .entry)) ⌝ }
+    requires { ⌜ Asked 8 p q (now amounts) k × Measured p q (now amounts) k p (now columns) × (q ≤ length (now outputs)) ⌝ }
+    requires { ⌜ StepsRoom p (now steps) n (payslips (yaoSlip p q (now amounts) k) (stepsIn (now steps) n) q .steps) ⌝ }
+    ensures { λ r. ⌜ ChainStored (now (steps .entry)) (now (outputs .entry)) (now (steps .exit)) (now (outputs .exit))
+        (payslips (yaoSlip p q (now (amounts .entry)) k) (stepsIn (now (steps .entry)) n) q) ⌝ }
 {
     let mut s = n;
     let mut i: usize = 0;
     while i < q {
-        let r = make_payslip(p, q, k, amounts, columns, i, s, steps);
+        let r = make_payslip(p, q, amounts, k, columns, i, s, steps);
         s = r.n;
         outputs[i] = r.value;
         i += 1;
@@ -310,25 +316,23 @@ fn make_chain(
     steps: &mut [u32],
     outputs: &mut [u32],
 )
-    requires { ⌜ (p ≤ mostColumns) × (length (now amounts) ≡ p * q) × (1 ≤ k) × (k ≤ 8) × (now counts ≡ squaringsTo p q k (now amounts) p) × (p ≤ length (now columns)) × Measured p q k p (now amounts) (now columns) ⌝ }
-    requires { ⌜ (yaoCount p q (now amounts) k ≤ mostSteps) × (2 * yaoCount p q (now amounts) k ≤ length (now steps)) × (q ≤ length (now outputs)) ⌝ }
-    ensures { λ r. ⌜ now (steps .exit) ≡ over (flat (yao p q (now (amounts .entry)) k .steps)) (now (steps .entry)) ⌝ }
-    ensures { λ r. ⌜ now (outputs .exit) ≡ over (yao p q (now (amounts .entry)) k .outputs) (now (outputs .entry)) ⌝ }
+    requires { ⌜ Asked 8 p q (now amounts) k × Measured p q (now amounts) k p (now columns) × (now counts ≡ listTo p (squaringsIn k (now columns))) ⌝ }
+    requires { ⌜ ChainRoom q (yaoCount p q (now amounts) k) (now steps) (now outputs) ⌝ }
+    ensures { λ r. ⌜ ChainStored (now (steps .entry)) (now (outputs .entry)) (now (steps .exit)) (now (outputs .exit)) (yao p q (now (amounts .entry)) k) ⌝ }
 {
     let n = methods::square_columns(p, counts, steps);
-    make_payslips(p, q, k, amounts, columns, n, steps, outputs);
+    make_payslips(p, q, amounts, k, columns, n, steps, outputs);
 }
 
 // The chain: its steps, first and second in turn, and its outputs.
 pub fn emit(p: usize, q: usize, amounts: &[u32], k: usize, steps: &mut [u32], outputs: &mut [u32])
-    requires { ⌜ (1 ≤ p) × (p ≤ mostColumns) × (q ≤ mostPayslips) × (length (now amounts) ≡ p * q) × (1 ≤ k) × (k ≤ 8) ⌝ }
-    requires { ⌜ (yaoCount p q (now amounts) k ≤ mostSteps) × (2 * yaoCount p q (now amounts) k ≤ length (now steps)) × (q ≤ length (now outputs)) ⌝ }
-    ensures { λ r. ⌜ now (steps .exit) ≡ over (flat (yao p q (now (amounts .entry)) k .steps)) (now (steps .entry)) ⌝ }
-    ensures { λ r. ⌜ now (outputs .exit) ≡ over (yao p q (now (amounts .entry)) k .outputs) (now (outputs .entry)) ⌝ }
+    requires { ⌜ Asked 8 p q (now amounts) k ⌝ }
+    requires { ⌜ ChainRoom q (yaoCount p q (now amounts) k) (now steps) (now outputs) ⌝ }
+    ensures { λ r. ⌜ ChainStored (now (steps .entry)) (now (outputs .entry)) (now (steps .exit)) (now (outputs .exit)) (yao p q (now (amounts .entry)) k) ⌝ }
 {
-    let mut columns = [0u32; 16];
-    measure_columns(p, q, k, amounts, &mut columns);
-    let mut counts = [0u32; 16];
-    all_squarings(p, q, k, amounts, &mut counts);
+    let mut columns = [0u32; chain::MOST_COLUMNS];
+    measure_columns(p, q, amounts, k, &mut columns);
+    let mut counts = [0u32; chain::MOST_COLUMNS];
+    all_squarings(p, k, &columns, &mut counts);
     make_chain(p, q, amounts, k, &columns, &counts[..p], steps, outputs);
 }

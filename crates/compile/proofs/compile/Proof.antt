@@ -1,3 +1,4 @@
+-- A refusal is passed on with the slices as they were; two short slices are refused; else the chain is emitted and its steps counted.
 use borrow.Author.Needs.{needs}
 use mathlib.Core.Path.{sym}
 use mathlib.Core.List.{[]}
@@ -37,8 +38,7 @@ emit-requires c κs =
     let j = n .before .before in
     let counted = was-counted _ _ _ _ _ _ (j .judge-accepted .ensures) [] [] _ (n .n .given .1) in (
       sym (was-accepted _ _ _ _ _ _ (j .judge-accepted .ensures) [] [] _ (n .n .given .1)),
-      omega (arith, counted, e .before .if1 .left),
-      e .if2 .left,
+      (omega (arith, counted, e .before .if1 .left), e .if2 .left),
     )
 
 returns-3 : tie.Need-returns-3

@@ -1,35 +1,43 @@
+-- Each arm's method is the one that the number names, so its chain is the one asked for; what an arm asks was promised with acceptance.
 use borrow.Author.Needs.{needs}
+use mathlib.Core.Path.{_≡_}
 use native.Mathlib.Omega.{arith}
 use denote.Ref.{now}
+use Rattle.methods.specs.Method.{Method}
+use Rattle.methods.specs.Inner.{ChainRoom}
+use Rattle.compile.specs.Compile.{methodOf}
 use Rattle.compile.proofs.Fits.{Accepted, accepted, first-asks, other-asks}
-use Rattle.compile.proofs.ByMethod.{is-straus, is-yao, is-partition, emitted}
+use Rattle.compile.proofs.ByMethod.{is-straus, is-yao, is-partition, same-count, emitted}
 use Rattle.compile.proofs.emit.Statement.{statement}
 use Rattle.compile.proofs.emit.Tie as tie
 
--- what the caller promises
+-- what the caller promises: the sheet, the method and the parameter are accepted, and there is room for the method's chain
 given : (s : tie.Start) → Accepted (s .args .p) (s .args .q) (now (s .args .amounts)) (s .args .method) (s .args .k)
 given s = accepted _ _ _ _ _ (s .pre .0)
 
+room : (s : tie.Start) (m : Method) → methodOf (s .args .p) (s .args .q) (now (s .args .amounts)) (s .args .method) (s .args .k) ≡ m
+    → ChainRoom (s .args .q) (m .count) (now (s .args .steps)) (now (s .args .outputs))
+room s m is =
+    let counted = same-count is in
+    record { short = omega (arith, given s .short); steps-fit = omega (arith, s .pre .1); outputs-fit = s .pre .1 .1 }
+
 emit-requires : tie.Need-emit-requires
 emit-requires c κs =
-    let m = c .before .before in
-    let s = m .before .before .before .before in
-    let is = is-straus (s .args .p) (s .args .q) (now (s .args .amounts)) (s .args .method) (s .args .k) (omega arith) in
-    (first-asks (given s .fitting) (omega arith), (omega (arith, s .pre, is .counted), omega (arith, s .pre)))
+    let s = c .before .before .before .before .before .before in
+    (first-asks (given s .ranges) (omega arith), room s _ (is-straus _ _ _ _ _ (omega arith)))
 
 emit-requires-2 : tie.Need-emit-requires-2
 emit-requires-2 c κs =
-    let m = c .before .before in
-    let s = m .before .before .before .before in
-    let is = is-yao (s .args .p) (s .args .q) (now (s .args .amounts)) (s .args .method) (s .args .k) (omega arith) in
-    (other-asks (given s .fitting) (λ e. omega arith), (omega (arith, given s .short, is .counted), omega (arith, s .pre, is .counted), omega (arith, s .pre)))
+    let s = c .before .before .before .before .before .before in
+    (other-asks (given s .ranges) (λ e. omega arith), room s _ (is-yao _ _ _ _ _ (omega arith)))
 
 emit-requires-3 : tie.Need-emit-requires-3
 emit-requires-3 c κs =
-    let m = c .before .before in
-    let s = m .before .before .before .before in
-    let is = is-partition (s .args .p) (s .args .q) (now (s .args .amounts)) (s .args .method) (s .args .k) (λ e. omega arith) (λ e. omega arith) in
-    (other-asks (given s .fitting) (λ e. omega arith), (omega (arith, given s .short, is .counted), omega (arith, s .pre, is .counted), omega (arith, s .pre)))
+    let s = c .before .before .before .before .before .before in
+    let asked = other-asks (given s .ranges) (λ e. omega arith) in
+    let r = room s _ (is-partition _ _ _ _ _ (λ e. omega arith) (λ e. omega arith)) in
+    let sheet = asked .sheet in
+    ((sheet .p-some, sheet .p-low, sheet .q-low, sheet .amounts-are, asked .k-some, asked .k-low), (r .short, r .steps-fit, r .outputs-fit))
 
 same-length : tie.Need-same-length
 same-length c = search needs
@@ -38,7 +46,7 @@ same-length-2 : tie.Need-same-length-2
 same-length-2 c = search needs
 
 returns : tie.Need-returns
-returns c = emitted _ _ (is-straus _ _ _ _ _ (omega arith) .chain) _ _ _ _ (c .before .before .before .before .emit .ensures)
+returns c = emitted (is-straus _ _ _ _ _ (omega arith)) (c .before .before .before .before .emit .ensures)
 
 same-length-3 : tie.Need-same-length-3
 same-length-3 c = search needs
@@ -47,7 +55,7 @@ same-length-4 : tie.Need-same-length-4
 same-length-4 c = search needs
 
 returns-2 : tie.Need-returns-2
-returns-2 c = emitted _ _ (is-yao _ _ _ _ _ (omega arith) .chain) _ _ _ _ (c .before .before .before .before .emit2 .ensures)
+returns-2 c = emitted (is-yao _ _ _ _ _ (omega arith)) (c .before .before .before .before .emit2 .ensures)
 
 same-length-5 : tie.Need-same-length-5
 same-length-5 c = search needs
@@ -57,7 +65,8 @@ same-length-6 c = search needs
 
 returns-3 : tie.Need-returns-3
 returns-3 c =
-    emitted _ _ (is-partition _ _ _ _ _ (λ e. omega arith) (λ e. omega arith) .chain) _ _ _ _ (c .before .before .before .before .emit3 .ensures)
+    let e = c .before .before .before .before .emit3 .ensures in
+    emitted (is-partition _ _ _ _ _ (λ e. omega arith) (λ e. omega arith)) (record { steps-are = e .0; outputs-are = e .1 })
 
 pub emit-spec : {M : Type 1} → statement M
 emit-spec =

@@ -1,3 +1,4 @@
+-- Each return is a line of the rule: the sheet's refusal, the method's, the length's, or none.
 use borrow.Author.Needs.{needs}
 use mathlib.Core.Path.{sym}
 use Rattle.chain.proofs.Rules.{judging, answer-refused, then-fine, told-fine}

@@ -1,3 +1,4 @@
+-- Each return is an arm of the match, whose numbers choose the line of the rule.
 use native.Mathlib.Nat.{mul-le-mul-right}
 use native.Mathlib.Omega.{arith}
 use Rattle.compile.proofs.Method.{first-fits, first-low, first-high, first-wide, second-fits, second-low, second-high, below-all, above-all}

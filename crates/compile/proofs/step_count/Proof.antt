@@ -1,14 +1,15 @@
+-- Each arm counts by the method that the number names.
 use mathlib.Core.Path.{sym, _∙_}
 use native.Mathlib.Omega.{arith}
 use denote.Ref.{now}
-use Rattle.compile.proofs.Fits.{Fitting, fitting, first-asks, other-asks}
-use Rattle.compile.proofs.ByMethod.{is-straus, is-yao, is-partition}
+use Rattle.compile.proofs.Fits.{InRange, in-range, first-asks, other-asks}
+use Rattle.compile.proofs.ByMethod.{is-straus, is-yao, is-partition, same-count}
 use Rattle.compile.proofs.step_count.Statement.{statement}
 use Rattle.compile.proofs.step_count.Tie as tie
 
 -- what the caller promises
-given : (s : tie.Start) → Fitting (s .args .p) (s .args .q) (now (s .args .amounts)) (s .args .method) (s .args .k)
-given s = fitting _ _ _ _ _ (s .pre .0) (s .pre .1)
+given : (s : tie.Start) → InRange (s .args .p) (s .args .q) (now (s .args .amounts)) (s .args .method) (s .args .k)
+given s = in-range _ _ _ _ _ (s .pre .0) (s .pre .1)
 
 count-requires : tie.Need-count-requires
 count-requires c κs = first-asks (given (c .before .before)) (omega arith)
@@ -17,16 +18,19 @@ count-requires-2 : tie.Need-count-requires-2
 count-requires-2 c κs = other-asks (given (c .before .before)) (λ e. omega arith)
 
 count-requires-3 : tie.Need-count-requires-3
-count-requires-3 c κs = other-asks (given (c .before .before)) (λ e. omega arith)
+count-requires-3 c κs =
+    let asked = other-asks (given (c .before .before)) (λ e. omega arith) in
+    let sheet = asked .sheet in
+    (sheet .p-some, sheet .p-low, sheet .q-low, sheet .amounts-are, asked .k-some, asked .k-low)
 
 returns : tie.Need-returns
-returns c = c .count .ensures ∙ sym (is-straus _ _ _ _ _ (omega arith) .counted)
+returns c = c .count .ensures ∙ sym (same-count (is-straus _ _ _ _ _ (omega arith)))
 
 returns-2 : tie.Need-returns-2
-returns-2 c = c .count2 .ensures ∙ sym (is-yao _ _ _ _ _ (omega arith) .counted)
+returns-2 c = c .count2 .ensures ∙ sym (same-count (is-yao _ _ _ _ _ (omega arith)))
 
 returns-3 : tie.Need-returns-3
-returns-3 c = c .count3 .ensures ∙ sym (is-partition _ _ _ _ _ (λ e. omega arith) (λ e. omega arith) .counted)
+returns-3 c = c .count3 .ensures ∙ sym (same-count (is-partition _ _ _ _ _ (λ e. omega arith) (λ e. omega arith)))
 
 pub step-count-spec : {M : Type 1} → statement M
 step-count-spec =

@@ -1,3 +1,4 @@
+-- One payslip a turn: the invariant is the largest amount of the payslips so far.
 use borrow.Author.Needs.{needs}
 use mathlib.Core.Path.{_≡_}
 use Prim.Native.Nat.{_≤_, _-_}

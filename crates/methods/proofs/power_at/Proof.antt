@@ -1,3 +1,4 @@
+-- The two cases of the definition, one for each return.
 use borrow.Author.Needs.{needs}
 use Rattle.methods.proofs.Columns.{number-base, number-made}
 use Rattle.methods.proofs.power_at.Statement.{statement}

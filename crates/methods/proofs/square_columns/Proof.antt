@@ -1,16 +1,17 @@
+-- One column a turn: the invariant is the squarings of the columns so far, which the squarings of all begin with.
 use borrow.Author.Needs.{needs}
 use mathlib.Core.Path.{_≡_}
 use Prim.Native.Nat.{_≤_, _-_}
 use native.Mathlib.Omega.{arith}
 use lib.ListN.{length}
 use Rattle.methods.specs.Powers.{countsOf, squarings}
-use Rattle.methods.specs.Emitted.{Stored}
+use Rattle.products.specs.Inner.{StepsStored}
 use Rattle.methods.proofs.Columns.{squaring-columns}
 use Rattle.methods.proofs.square_columns.Statement.{statement}
 use Rattle.methods.proofs.square_columns.Tie as tie
 
 abbrev Inv-loop : tie.InvT-loop
-Inv-loop p counts steps₀ n₀ c₀ steps n c = (c ≤ length counts) × (length steps ≡ length steps₀) × Stored steps₀ steps n (squarings p (countsOf counts) c)
+Inv-loop p counts steps₀ n₀ c₀ steps n c = (c ≤ length counts) × (length steps ≡ length steps₀) × StepsStored steps₀ steps n (squarings p (countsOf counts) c)
 
 abbrev μ-loop : tie.MeasureT-loop
 μ-loop p counts steps₀ n₀ c₀ steps n c = length counts - c

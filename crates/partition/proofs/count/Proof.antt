@@ -1,38 +1,39 @@
+-- The count of the grouped sheet, whose columns, payslips and parameter are those given.
 use borrow.Author.Needs.{needs}
-use Rattle.partition.proofs.Whole.{measured-long, bits-are}
+use mathlib.Core.Path.{sym, _∙_}
+use Rattle.groups.proofs.Measured.{grouped-long}
+use Rattle.partition.proofs.Whole.{count-given}
 use Rattle.partition.proofs.count.Statement.{statement}
 use Rattle.partition.proofs.count.Tie as tie
 
-slice-aggregate-measure-columns : tie.Need-slice-aggregate-measure-columns
-slice-aggregate-measure-columns c = search needs
+slice-aggregate-group-sheet : tie.Need-slice-aggregate-group-sheet
+slice-aggregate-group-sheet c = search needs
 
-measure-columns-requires : tie.Need-measure-columns-requires
-measure-columns-requires c κs = search needs
+group-sheet-requires : tie.Need-group-sheet-requires
+group-sheet-requires c κs = search needs
 
 array-share-prefix-bits : tie.Need-array-share-prefix-bits
 array-share-prefix-bits c = search needs
 
 slice-aggregate-chain-count : tie.Need-slice-aggregate-chain-count
 slice-aggregate-chain-count c =
-    let told = c .before .before in
-    let s = told .before .before .before .args in
-    measured-long (s .p) (s .q) (s .amounts .now) _ _ 0 (told .measure-columns .ensures)
+    let told = c .before .before .group-sheet .ensures in
+    sym (grouped-long _ _ _ (told .grouped) ∙ told .same-p)
 
 chain-count-requires : tie.Need-chain-count-requires
-chain-count-requires c κs =
-    let told = c .before .before in
-    let s = told .before .before .before .args in
-    (search needs, search needs, search needs, search needs, search needs, bits-are (s .p) (s .q) (s .amounts .now) _ _ (told .measure-columns .ensures))
+chain-count-requires c κs = search needs
 
 returns : tie.Need-returns
-returns c = search needs
+returns c =
+    let a = c .before .before .before .before .before .before .args in
+    count-given (a .p) (a .q) (a .amounts .now) (a .c) _ _ (c .before .before .before .group-sheet .ensures) _ (c .chain-count .ensures)
 
 pub count-spec : {M : Type 1} → statement M
 count-spec =
     tie.close
     (tie.spec
-    slice-aggregate-measure-columns
-    measure-columns-requires
+    slice-aggregate-group-sheet
+    group-sheet-requires
     array-share-prefix-bits
     slice-aggregate-chain-count
     chain-count-requires

@@ -1,15 +1,16 @@
+-- The steps of the payslips so far are added to the table's; each payslip adds few, so the sum fits.
 use borrow.Author.Needs.{needs}
 use mathlib.Core.Path.{_≡_}
 use Prim.Native.Nat.{_+_, _*_, _≤_, _-_}
-use native.Mathlib.Nat.{mul-comm}
 use native.Mathlib.Omega.{arith}
 use Rattle.straus.proofs.Counting.{costsTo, columns-below, costs-on, count-all}
-use Rattle.sheet.proofs.Amounts.{payslip-within}
+use Rattle.straus.specs.Inner.{payslipMost}
+use Rattle.straus.proofs.Emitting.{payslip-asked}
 use Rattle.straus.proofs.count.Statement.{statement}
 use Rattle.straus.proofs.count.Tie as tie
 
 abbrev Inv-loop : tie.InvT-loop
-Inv-loop p q amounts k n₀ i₀ n i = (i ≤ q) × (n ≡ n₀ + costsTo p k amounts i) × (n ≤ n₀ + 62 * i)
+Inv-loop p q amounts k n₀ i₀ n i = (i ≤ q) × (n ≡ n₀ + costsTo p amounts k i) × (n ≤ n₀ + payslipMost * i)
 
 abbrev μ-loop : tie.MeasureT-loop
 μ-loop p q amounts k n₀ i₀ n i = q - i
@@ -33,7 +34,7 @@ loop-holds : tie.Need-loop-holds Inv-loop μ-loop
 loop-holds c = search needs
 
 payslip-count-requires : tie.Need-payslip-count-requires Inv-loop μ-loop
-payslip-count-requires c κs = (search payslip-within, search needs, search needs, omega (arith, mul-comm (c .before .before .before .before .args .p) (c .before .before .before .before .args .k)))
+payslip-count-requires c κs = search (needs, payslip-asked)
 
 add-n : tie.Need-add-n Inv-loop μ-loop
 add-n c = search needs

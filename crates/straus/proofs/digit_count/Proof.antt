@@ -1,3 +1,4 @@
+-- The amounts laid one over the other have the digits of the largest.
 use borrow.Author.Needs.{needs}
 use Rattle.straus.proofs.Counting.{digits-told, digits-fit}
 use Rattle.straus.proofs.digit_count.Statement.{statement}

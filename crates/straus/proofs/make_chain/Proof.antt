@@ -1,33 +1,23 @@
+-- The table, then the payslips over it: room for both comes from the room for the chain, and the two together are the chain.
 use borrow.Author.Needs.{needs}
-use native.Mathlib.Nat.{mul-comm}
-use native.Mathlib.Omega.{arith}
-use Rattle.straus.proofs.Whole.{table-size, table-numbers, table-room, payslips-room, chain-steps, chain-outputs}
-use Prim.Native.Nat.{ℕ, _^_, _<_}
-use lib.ListN.{getD}
+use Rattle.straus.proofs.Whole.{table-size, table-numbers, table-room, after-table, chain-made}
 use Rattle.straus.proofs.make_chain.Statement.{statement}
 use Rattle.straus.proofs.make_chain.Tie as tie
 
--- the amounts are of 32 bits
-low : (c : tie.After-shared-slice-known) (j : ℕ) → getD (c .before .args .amounts .now) j 0 < 2 ^ 32
-low c j = c .shared-slice-known .given j .fits
-
 make-table-requires : tie.Need-make-table-requires
 make-table-requires c κs =
-    let k = c .before .before .before .before in
-    let s = k .before .args in (
-      (search needs, search needs, search table-size, search table-numbers),
-      table-room (s .p) (s .q) (s .amounts .now) (s .k) (s .inputs .now) (s .steps .now) (search needs) (search needs) (search needs) (search needs) (search needs)
-          (low k) (search needs),
+    let s = c .before .before .before .before .before .pre in
+    let ask = s .0 in (
+      (search needs, search needs, table-size (ask .0) (ask .1) (ask .2), table-numbers (ask .0) (ask .1) (ask .2)),
+      table-room (ask .0) (ask .1) (ask .2) (s .1),
     )
 
 make-payslips-requires : tie.Need-make-payslips-requires
 make-payslips-requires c κs =
-    let k = c .before .before .before .before .before .before .before .before .before in
-    let s = k .before .args in (
-      (search needs, search needs, search needs, omega (arith, mul-comm (s .p) (s .k)), search needs, search needs),
-      payslips-room (s .p) (s .q) (s .amounts .now) (s .k) (s .inputs .now) (s .steps .now) (search needs) (search needs) (search needs) (search needs) (search needs)
-          (low k) (search needs) (c .before .before .before .before .make-table .ensures),
-    )
+    let made = c .before .before .before .before in
+    let s = made .before .before .before .before .before .before .pre in
+    let ask = s .0 in
+    (search needs, after-table (ask .0) (ask .1) (ask .2) (s .1) (made .make-table .ensures))
 
 same-length : tie.Need-same-length
 same-length c = search needs
@@ -36,7 +26,7 @@ same-length-2 : tie.Need-same-length-2
 same-length-2 c = search needs
 
 returns : tie.Need-returns
-returns c = (search chain-steps, search chain-outputs)
+returns c = search (needs, chain-made)
 
 pub make-chain-spec : {M : Type 1} → statement M
 make-chain-spec =

@@ -1,18 +1,22 @@
+-- One digit a turn, the top one first: the invariant is Horner's product of the digits so far.
 use borrow.Author.Needs.{needs}
 use mathlib.Core.Path.{_≡_}
 use Prim.Native.Nat.{_≤_, _-_}
 use lib.ListN.{length}
-use Rattle.methods.specs.Emitted.{stepsIn, Emitted}
-use Rattle.methods.proofs.Emitted.{emitted-own}
+use Rattle.products.specs.Inner.{stepsIn, Emitted}
+use Rattle.products.proofs.Emitted.{emitted-own}
 use Rattle.straus.proofs.Emitting.{digitsMade, digit-room, digit-on, digits-end, entry-place, entry-number, digit-fits}
 use Rattle.straus.proofs.make_payslip.Statement.{statement}
 use Rattle.straus.proofs.make_payslip.Tie as tie
 
 abbrev Inv-loop : tie.InvT-loop
-Inv-loop p k amounts inputs i n steps₀ digits r₀ d₀ steps r d = (d ≤ digits) × (length steps ≡ length steps₀) × Emitted steps₀ steps (r .n) (r .value) (digitsMade p k amounts i (stepsIn steps₀ n) d)
+Inv-loop p amounts k inputs i n steps₀ digits r₀ d₀ steps r d =
+    (d ≤ digits)
+    × (length steps ≡ length steps₀)
+    × Emitted steps₀ steps (r .n) (r .value) (digitsMade p amounts k i (stepsIn steps₀ n) d)
 
 abbrev μ-loop : tie.MeasureT-loop
-μ-loop p k amounts inputs i n steps₀ digits r₀ d₀ steps r d = digits - d
+μ-loop p amounts k inputs i n steps₀ digits r₀ d₀ steps r d = digits - d
 
 digit-count-requires : tie.Need-digit-count-requires Inv-loop μ-loop
 digit-count-requires c κs = search needs

@@ -1,28 +1,30 @@
+-- One payslip a turn: the invariant is the state of a loop over payslips, with Straus's payslip.
 use borrow.Author.Needs.{needs}
-use mathlib.Core.Path.{_≡_}
-use Prim.Native.Nat.{_≤_, _-_}
-use lib.ListN.{length, length-set}
-use Rattle.chain.specs.Written.{over}
-use Rattle.methods.specs.Product.{payslips}
-use Rattle.methods.specs.Emitted.{stepsIn, Stored}
+use Prim.Native.Nat.{_-_}
+use Rattle.products.specs.Inner.{stepsIn}
+use Rattle.methods.proofs.Paying.{Paying, paying-start, paying-room, paying-on, paying-end}
 use Rattle.straus.specs.Straus.{strausPayslip}
-use Rattle.sheet.proofs.Amounts.{payslip-within}
-use Rattle.straus.proofs.Emitting.{payslip-room, payslip-steps, payslip-output}
-use Rattle.methods.proofs.Paying.{paid-none, over-none, paid-steps, paid-outputs}
+use Rattle.straus.proofs.Emitting.{payslip-begins, payslip-asked}
 use Rattle.straus.proofs.make_payslips.Statement.{statement}
 use Rattle.straus.proofs.make_payslips.Tie as tie
 
 abbrev Inv-loop : tie.InvT-loop
-Inv-loop p q k amounts inputs n steps₀ outputs₀ s₀ i₀ steps outputs s i = (i ≤ q) × (length steps ≡ length steps₀) × (length outputs ≡ length outputs₀) × (q ≤ length outputs) × Stored steps₀ steps s (payslips (strausPayslip p k amounts) (stepsIn steps₀ n) i .steps) × (outputs ≡ over (payslips (strausPayslip p k amounts) (stepsIn steps₀ n) i .outputs) outputs₀)
+Inv-loop p q amounts k inputs n steps₀ outputs₀ s₀ i₀ steps outputs s i =
+    Paying q (strausPayslip p amounts k) (stepsIn steps₀ n) steps₀ outputs₀ i steps outputs s
 
 abbrev μ-loop : tie.MeasureT-loop
-μ-loop p q k amounts inputs n steps₀ outputs₀ s₀ i₀ steps outputs s i = q - i
+μ-loop p q amounts k inputs n steps₀ outputs₀ s₀ i₀ steps outputs s i = q - i
 
 loop-holds : tie.Need-loop-holds Inv-loop μ-loop
-loop-holds c = (search needs, search needs, search needs, search needs, search paid-none, search over-none)
+loop-holds c = search (needs, paying-start)
 
 make-payslip-requires : tie.Need-make-payslip-requires Inv-loop μ-loop
-make-payslip-requires c κs = ((search payslip-within, search needs, search needs, search needs, search needs), search payslip-room)
+make-payslip-requires c κs =
+    let at = c .before .before in
+    let s = at .before .before .before .before .before in (
+      (payslip-asked (s .pre .0 .0) (s .pre .0 .1) (search needs), search needs),
+      paying-room (strausPayslip _ _ _) (payslip-begins _ _ _) (at .loop .inv) (s .pre .1) (search needs),
+    )
 
 mul-outputs : tie.Need-mul-outputs Inv-loop μ-loop
 mul-outputs c = search needs
@@ -37,7 +39,11 @@ loop-less : tie.Need-loop-less Inv-loop μ-loop
 loop-less c = search needs
 
 loop-again : tie.Need-loop-again Inv-loop μ-loop
-loop-again c = (search needs, search needs, simp length-set (search needs), simp length-set (search needs), search payslip-steps, search payslip-output)
+loop-again c =
+    let made = c .before .before in
+    let at = made .before .before .before in
+    let s = at .before .before .before .before .before in
+    paying-on (strausPayslip _ _ _) (payslip-begins _ _ _) (at .loop .inv) (s .pre .1) (search needs) (made .make-payslip .ensures)
 
 same-length : tie.Need-same-length Inv-loop μ-loop
 same-length c = search needs
@@ -46,7 +52,7 @@ same-length-2 : tie.Need-same-length-2 Inv-loop μ-loop
 same-length-2 c = search needs
 
 returns : tie.Need-returns Inv-loop μ-loop
-returns c = (search paid-steps, search paid-outputs)
+returns c = search paying-end
 
 pub make-payslips-spec : {M : Type 1} → statement M
 make-payslips-spec =

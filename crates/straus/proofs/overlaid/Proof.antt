@@ -1,3 +1,4 @@
+-- One column a turn: the invariant is the overlay of the columns so far.
 use borrow.Author.Needs.{needs}
 use mathlib.Core.Path.{_≡_}
 use Prim.Native.Nat.{_≤_, _-_}

@@ -1,3 +1,4 @@
+-- One lower digit a turn: the invariant is the squarings and the nonzero digits so far; each turn adds at most 1, so the sum fits.
 use borrow.Author.Needs.{needs, fits-under}
 use mathlib.Core.Path.{_≡_}
 use Prim.Native.Nat.{_+_, _*_, _≤_, _-_}
@@ -6,10 +7,10 @@ use Rattle.straus.proofs.payslip_count.Statement.{statement}
 use Rattle.straus.proofs.payslip_count.Tie as tie
 
 abbrev Inv-loop : tie.InvT-loop
-Inv-loop p k amounts i all digits lower n₀ j₀ n j = (j ≤ lower) × (n ≡ lower * k + signsTo p k amounts i j)
+Inv-loop p amounts k i all digits lower n₀ j₀ n j = (j ≤ lower) × (n ≡ lower * k + signsTo p amounts k i j)
 
 abbrev μ-loop : tie.MeasureT-loop
-μ-loop p k amounts i all digits lower n₀ j₀ n j = lower - j
+μ-loop p amounts k i all digits lower n₀ j₀ n j = lower - j
 
 overlaid-requires : tie.Need-overlaid-requires Inv-loop μ-loop
 overlaid-requires c κs = search needs

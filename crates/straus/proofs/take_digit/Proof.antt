@@ -1,3 +1,4 @@
+-- Two emitters one after the other: the squarings, then the product.
 use borrow.Author.Needs.{needs}
 use Rattle.straus.proofs.Emitting.{taking}
 use Rattle.straus.proofs.take_digit.Statement.{statement}

@@ -1,3 +1,4 @@
+-- One column a turn: the invariant is the weighted sum of the digits so far, which is below the table's size.
 use borrow.Author.Needs.{needs, fits-under}
 use mathlib.Core.Path.{_≡_}
 use Prim.Native.Nat.{_≤_, _-_}
@@ -6,10 +7,10 @@ use Rattle.straus.proofs.vector.Statement.{statement}
 use Rattle.straus.proofs.vector.Tie as tie
 
 abbrev Inv-loop : tie.InvT-loop
-Inv-loop p k amounts i j v₀ c₀ v c = (c ≤ p) × (v ≡ vectorTo p k amounts i j c)
+Inv-loop p amounts k i j v₀ c₀ v c = (c ≤ p) × (v ≡ vectorTo p amounts k i j c)
 
 abbrev μ-loop : tie.MeasureT-loop
-μ-loop p k amounts i j v₀ c₀ v c = p - c
+μ-loop p amounts k i j v₀ c₀ v c = p - c
 
 loop-holds : tie.Need-loop-holds Inv-loop μ-loop
 loop-holds c = search needs

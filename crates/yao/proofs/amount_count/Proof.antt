@@ -1,3 +1,4 @@
+-- One digit a turn: the invariant is how many digits so far are not 0, and the largest; few digits, each below 256, keep the sum low.
 use borrow.Author.Needs.{needs, fits-under}
 use mathlib.Core.Path.{_≡_}
 use Prim.Native.Nat.{_≤_, _-_}

@@ -1,12 +1,16 @@
+-- One payslip a turn: the invariant is the squarings and the steps of the payslips so far, each of which adds few.
 use borrow.Author.Needs.{needs}
-use mathlib.Core.Path.{_≡_}
+use mathlib.Core.Path.{_≡_, _∙_}
+use denote.Ref.{now}
 use Prim.Native.Nat.{_+_, _*_, _≤_, _-_}
+use Rattle.yao.specs.Inner.{payslipMost}
+use Rattle.yao.proofs.Measuring.{squarings-sum}
 use Rattle.yao.proofs.Counting.{costsTo, costs-on, count-all}
 use Rattle.yao.proofs.chain_count.Statement.{statement}
 use Rattle.yao.proofs.chain_count.Tie as tie
 
 abbrev Inv-loop : tie.InvT-loop
-Inv-loop p q amounts k columns n₀ i₀ n i = (i ≤ q) × (n ≡ n₀ + costsTo p q k amounts i) × (n ≤ n₀ + 5000 * i)
+Inv-loop p q amounts k columns n₀ i₀ n i = (i ≤ q) × (n ≡ n₀ + costsTo p q amounts k i) × (n ≤ n₀ + payslipMost * i)
 
 abbrev μ-loop : tie.MeasureT-loop
 μ-loop p q amounts k columns n₀ i₀ n i = q - i
@@ -33,7 +37,13 @@ loop-again : tie.Need-loop-again Inv-loop μ-loop
 loop-again c = (search needs, search costs-on, search needs)
 
 returns : tie.Need-returns Inv-loop μ-loop
-returns c = search count-all
+returns c =
+    let at = c .before in
+    let counted = at .before in
+    let s = counted .before .before .before in
+    count-all (s .args .p) (s .args .q) (now (s .args .amounts)) (s .args .k) _ _ _
+    (counted .squaring-count .ensures .0 ∙ squarings-sum (s .args .p) (s .args .q) (now (s .args .amounts)) (s .args .k) _ (s .pre .1))
+    (at .loop .inv .0) (search needs) (at .loop .inv .1)
 
 pub chain-count-spec : {M : Type 1} → statement M
 chain-count-spec =

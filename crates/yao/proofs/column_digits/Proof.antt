@@ -1,3 +1,4 @@
+-- The digits of the largest amount, which is a number of 32 bits.
 use borrow.Author.Needs.{needs}
 use Rattle.yao.proofs.Counting.{digits-are, digits-few}
 use Rattle.yao.proofs.column_digits.Statement.{statement}

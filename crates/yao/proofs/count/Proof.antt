@@ -1,3 +1,4 @@
+-- The columns are measured, then everything is counted from what was measured.
 use borrow.Author.Needs.{needs}
 use Rattle.yao.proofs.count.Statement.{statement}
 use Rattle.yao.proofs.count.Tie as tie

@@ -1,5 +1,6 @@
+-- The columns are measured once; the squarings come from what was measured, and their first p cells are the chain's counts.
 use borrow.Author.Needs.{needs}
-use Rattle.yao.proofs.Squarings.{all-front, all-counted}
+use Rattle.methods.proofs.Filling.{filled-front, filled-length}
 use Rattle.yao.proofs.emit.Statement.{statement}
 use Rattle.yao.proofs.emit.Tie as tie
 
@@ -12,6 +13,9 @@ measure-columns-requires c κs = search needs
 slice-aggregate-all-squarings : tie.Need-slice-aggregate-all-squarings
 slice-aggregate-all-squarings c = search needs
 
+slice-aggregate-all-squarings-2 : tie.Need-slice-aggregate-all-squarings-2
+slice-aggregate-all-squarings-2 c = search needs
+
 all-squarings-requires : tie.Need-all-squarings-requires
 all-squarings-requires c κs = search needs
 
@@ -22,18 +26,13 @@ array-share-prefix-counts : tie.Need-array-share-prefix-counts
 array-share-prefix-counts c = search needs
 
 slice-aggregate-make-chain-2 : tie.Need-slice-aggregate-make-chain-2
-slice-aggregate-make-chain-2 c =
-    let stored = c .before .before .before in
-    let s = stored .before .before .before .before .before .before .before .before .args in
-    all-counted (s .p) (s .q) (s .k) (s .amounts .now) _ _ (stored .all-squarings .ensures)
+slice-aggregate-make-chain-2 c = filled-length _ _ _ _ (c .before .before .before .all-squarings .ensures)
 
 make-chain-requires : tie.Need-make-chain-requires
 make-chain-requires c κs =
-    let stored = c .before .before .before .before .before in
-    let s = stored .before .before .before .before .before .before .before .before .args in (
-      (search needs, search needs, search needs, search needs, all-front (s .p) (s .q) (s .k) (s .amounts .now) _ _ (stored .all-squarings .ensures), search needs, search needs),
-      search needs,
-    )
+    let squared = c .before .before .before .before .before in
+    let s = squared .before .before .before .before .before .before .before .before .before in
+    ((search needs, search needs, filled-front _ _ (s .args .p) _ (squared .all-squarings .ensures)), search needs)
 
 same-length : tie.Need-same-length
 same-length c = search needs
@@ -51,6 +50,7 @@ emit-spec =
     slice-aggregate-measure-columns
     measure-columns-requires
     slice-aggregate-all-squarings
+    slice-aggregate-all-squarings-2
     all-squarings-requires
     slice-aggregate-make-chain
     array-share-prefix-counts

@@ -1,3 +1,4 @@
+-- The two cases of the definition: a product where the digit is d, else nothing.
 use borrow.Author.Needs.{needs}
 use Rattle.yao.proofs.Emitting.{gathering-one}
 use Rattle.yao.proofs.gather_one.Statement.{statement}

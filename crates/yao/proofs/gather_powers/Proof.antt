@@ -1,26 +1,32 @@
-use borrow.Author.Needs.{needs}
+-- One power a turn: the invariant is b with the powers so far taken up.
+use borrow.Author.Needs.{needs, fits-under}
 use mathlib.Core.Path.{_≡_}
 use Prim.Native.Nat.{_≤_, _-_}
 use lib.ListN.{length}
-use Rattle.methods.specs.Product.{made}
-use Rattle.methods.specs.Emitted.{stepsIn, Emitted}
-use Rattle.yao.specs.Yao.{gather}
-use Rattle.yao.specs.Emitted.{powerIn}
-use Rattle.yao.proofs.Emitting.{power-product, power-place, digit-reach, powers-on, gathering}
+use Rattle.products.specs.Product.{made}
+use Rattle.products.specs.Inner.{stepsIn, Emitted}
+use Rattle.yao.specs.Inner.{gatherIn}
+use Rattle.yao.proofs.Emitting.{power-place, digit-reach, powers-on, gathering}
 use Rattle.yao.proofs.gather_powers.Statement.{statement}
 use Rattle.yao.proofs.gather_powers.Tie as tie
 
 abbrev Inv-loop : tie.InvT-loop
-Inv-loop p k column x d steps₀ r₀ i₀ steps r i = (i ≤ column .digits) × (length steps ≡ length steps₀) × Emitted steps₀ steps (r .n) (r .value) (gather p k (powerIn k (column .c) (column .first)) x d i (made (stepsIn steps₀ (r₀ .n)) (r₀ .value)))
+Inv-loop column d steps₀ r₀ i₀ steps r i =
+    (i ≤ column .digits)
+    × (length steps ≡ length steps₀)
+    × Emitted steps₀ steps (r .n) (r .value) (gatherIn column d i (made (stepsIn steps₀ (r₀ .n)) (r₀ .value)))
 
 abbrev μ-loop : tie.MeasureT-loop
-μ-loop p k column x d steps₀ r₀ i₀ steps r i = column .digits - i
+μ-loop column d steps₀ r₀ i₀ steps r i = column .digits - i
 
 loop-holds : tie.Need-loop-holds Inv-loop μ-loop
 loop-holds c = search (needs, gathering)
 
 mul-power-at : tie.Need-mul-power-at Inv-loop μ-loop
-mul-power-at c = search (needs, power-product)
+mul-power-at c =
+    let at = c .before .before .before in
+    let s = at .before .before in
+    fits-under _ _ 32 (digit-reach (s .args .column) (at .loop .i) (s .pre .0) (search needs)) tt
 
 power-at-requires : tie.Need-power-at-requires Inv-loop μ-loop
 power-at-requires c κs = search (needs, power-place)
@@ -42,10 +48,11 @@ loop-again c =
     let gathered = c .before .before in
     let taken = gathered .before .before in
     let powered = taken .before in
-    let start = powered .before .before .before in (
+    let at = powered .before .before .before .before in
+    let s = at .before .before in (
       search needs,
       search needs,
-      powers-on _ _ _ _ _ _ _ _ _ _ _ _ (start .loop .inv .2) _ _ (taken .digit .ensures) (powered .power-at .ensures) _ _ _ (gathered .gather-one .ensures),
+      powers-on (s .args .column) _ _ _ _ _ _ _ (at .loop .inv .2) _ _ (taken .digit .ensures) (powered .power-at .ensures) _ _ _ (gathered .gather-one .ensures),
     )
 
 same-length : tie.Need-same-length Inv-loop μ-loop

@@ -1,20 +1,21 @@
+-- Two emitters one after the other: the column's sweep, then the product times its a.
 use borrow.Author.Needs.{needs}
-use Rattle.yao.proofs.Paying.{run-room, join-room, join-on}
+use Rattle.yao.proofs.Paying.{sweep-room, join-room, join-on}
 use Rattle.yao.proofs.join_column.Statement.{statement}
 use Rattle.yao.proofs.join_column.Tie as tie
 
-run-column-requires : tie.Need-run-column-requires
-run-column-requires c κs =
+sweep-column-requires : tie.Need-sweep-column-requires
+sweep-column-requires c κs =
     let start = c .before .before in
     let s = start .args in
-    (start .pre .0, run-room (s .p) (s .k) (s .column .c) (s .column .first) (s .column .digits) (s .x) (s .steps .now) (s .m .n) (s .m .value) (start .pre .1))
+    (start .pre .0, sweep-room (s .column) (s .steps .now) (s .m .n) (s .m .value) (start .pre .1))
 
 times-requires : tie.Need-times-requires
 times-requires c κs =
-    let ran = c .before .before .before in
-    let start = ran .before .before .before in
+    let swept = c .before .before .before in
+    let start = swept .before .before .before in
     let s = start .args in
-    join-room (s .p) (s .k) (s .column .c) (s .column .first) (s .column .digits) (s .x) (s .steps .now) (s .m .n) (s .m .value) (start .pre .1) _ _ _ _ (ran .run-column .ensures)
+    join-room (s .column) (s .steps .now) (s .m .n) (s .m .value) (start .pre .1) _ _ _ _ (swept .sweep-column .ensures)
 
 same-length : tie.Need-same-length
 same-length c = search needs
@@ -22,10 +23,10 @@ same-length c = search needs
 returns : tie.Need-returns
 returns c =
     let timed = c .before .before in
-    let ran = timed .before .before .before .before in
-    let start = ran .before .before .before in
+    let swept = timed .before .before .before .before in
+    let start = swept .before .before .before in
     let s = start .args in
-    join-on (s .p) (s .k) (s .column .c) (s .column .first) (s .column .digits) (s .x) (s .steps .now) (s .m .n) (s .m .value) (start .pre .1) _ _ _ _ (ran .run-column .ensures) _ _ _ (timed .times .ensures)
+    join-on (s .column) (s .steps .now) (s .m .n) (s .m .value) (start .pre .1) _ _ _ _ (swept .sweep-column .ensures) _ _ _ (timed .times .ensures)
 
 pub join-column-spec : {M : Type 1} → statement M
-join-column-spec = tie.close (tie.spec run-column-requires times-requires same-length returns)
+join-column-spec = tie.close (tie.spec sweep-column-requires times-requires same-length returns)

@@ -1,20 +1,22 @@
+-- The squarings, then the payslips over them: room for both comes from the room for the chain, and the two together are the chain.
 use borrow.Author.Needs.{needs}
-use Rattle.yao.proofs.Squarings.{counts-few}
-use Rattle.yao.proofs.Whole.{powers-room, payslips-room, chain-steps, chain-outputs}
+use Rattle.yao.proofs.Measuring.{counts-few}
+use Rattle.yao.proofs.Whole.{squarings-room, after-squarings, chain-made}
 use Rattle.yao.proofs.make_chain.Statement.{statement}
 use Rattle.yao.proofs.make_chain.Tie as tie
 
 square-columns-requires : tie.Need-square-columns-requires
-square-columns-requires c κs = (search counts-few, search powers-room)
+square-columns-requires c κs =
+    let s = c .before .before .before .before .before .before .pre in
+    let ask = s .0 in
+    (counts-few _ _ _ _ _ (ask .1) _ (ask .2) (ask .0 .sheet .p-low), squarings-room (ask .0) (ask .1) (ask .2) (s .1))
 
 make-payslips-requires : tie.Need-make-payslips-requires
 make-payslips-requires c κs =
     let squared = c .before .before .before .before in
-    let s = squared .before .before .before .before .before .before .before .args in (
-      search needs,
-      payslips-room (s .p) (s .q) (s .amounts .now) (s .k) (s .counts .now) (s .steps .now) (search needs) (search needs) (search needs) (search needs)
-          (search needs) (squared .square-columns .ensures),
-    )
+    let s = squared .before .before .before .before .before .before .before .pre in
+    let ask = s .0 in
+    (search needs, after-squarings (ask .0) (ask .1) (ask .2) (s .1) (squared .square-columns .ensures))
 
 same-length : tie.Need-same-length
 same-length c = search needs
@@ -23,7 +25,7 @@ same-length-2 : tie.Need-same-length-2
 same-length-2 c = search needs
 
 returns : tie.Need-returns
-returns c = (search chain-steps, search chain-outputs)
+returns c = search (needs, chain-made)
 
 pub make-chain-spec : {M : Type 1} → statement M
 make-chain-spec =

@@ -1,3 +1,4 @@
+-- One column a turn: the invariant is the payslip's product of the columns so far, and the value after which the next column's powers are made.
 use borrow.Author.Needs.{needs}
 use mathlib.Core.Path.{_≡_}
 use Prim.Native.Nat.{_+_, _*_, _≤_, _-_}
@@ -6,18 +7,24 @@ use Rattle.digits.specs.Range.{sumTo}
 use native.Mathlib.Omega.{arith}
 use Rattle.yao.proofs.Measuring.{column-is, column-few}
 use Rattle.sheet.proofs.Amounts.{amount-there}
-use Rattle.methods.specs.Emitted.{stepsIn, Emitted}
-use Rattle.methods.proofs.Emitted.{emitted-own}
+use Rattle.products.specs.Inner.{stepsIn, Emitted}
+use Rattle.products.proofs.Emitted.{emitted-own}
 use Rattle.yao.specs.Yao.{yaoSquarings, yaoPayslip}
+use Rattle.yao.specs.Inner.{squaringsMost}
 use Rattle.yao.proofs.Paying.{first-on, reaches, column-room, column-on, columns-end}
 use Rattle.yao.proofs.make_payslip.Statement.{statement}
 use Rattle.yao.proofs.make_payslip.Tie as tie
 
 abbrev Inv-loop : tie.InvT-loop
-Inv-loop p q k amounts columns i n steps₀ r₀ first₀ c₀ steps r first c = (c ≤ p) × (first ≡ p + sumTo c (yaoSquarings p q k amounts)) × (first ≤ p + 31 * c) × (length steps ≡ length steps₀) × Emitted steps₀ steps (r .n) (r .value) (yaoPayslip p q k amounts i (stepsIn steps₀ n) c)
+Inv-loop p q amounts k columns i n steps₀ r₀ first₀ c₀ steps r first c =
+    (c ≤ p)
+    × (first ≡ p + sumTo c (yaoSquarings p q amounts k))
+    × (first ≤ p + squaringsMost * c)
+    × (length steps ≡ length steps₀)
+    × Emitted steps₀ steps (r .n) (r .value) (yaoPayslip p q amounts k i (stepsIn steps₀ n) c)
 
 abbrev μ-loop : tie.MeasureT-loop
-μ-loop p q k amounts columns i n steps₀ r₀ first₀ c₀ steps r first c = p - c
+μ-loop p q amounts k columns i n steps₀ r₀ first₀ c₀ steps r first c = p - c
 
 loop-holds : tie.Need-loop-holds Inv-loop μ-loop
 loop-holds c = (search needs, search needs, search needs, search needs, search emitted-own)
@@ -40,9 +47,10 @@ join-column-requires c κs =
     let at = amounted .before .before .before in
     let start = at .before .before .before .before in
     let s = start .args in
-    let is = column-is (s .p) (s .q) (s .k) (s .amounts .now) (s .columns .now) (at .loop .c) (start .pre .0 .6) (search needs) in (
-      search (reaches, column-few),
-      column-room (s .p) (s .q) (s .k) (s .amounts .now) (s .i) (stepsIn (s .steps .now) (s .n)) (s .steps .now) _ _ _ (at .loop .c) (at .loop .first) _ (amounted .amount .result) (at .loop .inv .4) (at .loop .inv .1) is (amounted .amount .ensures) _ (start .pre .1) (search needs),
+    let is = column-is (s .p) (s .q) (s .amounts .now) (s .k) (s .columns .now) (start .pre .0 .2) (at .loop .c) (search needs) in (
+      reaches _ (start .pre .0 .0) (column-few _ _ _ _ (start .pre .0 .2 .narrow) (search needs)) (search needs) (at .loop .inv .2),
+      column-room (s .p) (s .q) (s .amounts .now) (s .k) (s .i) (stepsIn (s .steps .now) (s .n)) (s .steps .now) _ _ _ (at .loop .c) (at .loop .first) _
+          (amounted .amount .result) (at .loop .inv .4) (at .loop .inv .1) is (amounted .amount .ensures) _ (start .pre .1) (search needs),
     )
 
 squarings-of-requires : tie.Need-squarings-of-requires Inv-loop μ-loop
@@ -64,12 +72,13 @@ loop-again c =
     let at = amounted .before .before .before in
     let start = at .before .before .before .before in
     let s = start .args in
-    let is = column-is (s .p) (s .q) (s .k) (s .amounts .now) (s .columns .now) (at .loop .c) (start .pre .0 .6) (search needs) in (
+    let is = column-is (s .p) (s .q) (s .amounts .now) (s .k) (s .columns .now) (start .pre .0 .2) (at .loop .c) (search needs) in (
       search needs,
-      search (first-on, column-is),
+      search first-on,
       search needs,
       search needs,
-      column-on (s .p) (s .q) (s .k) (s .amounts .now) (s .i) (stepsIn (s .steps .now) (s .n)) (s .steps .now) _ _ _ (at .loop .c) (at .loop .first) _ (amounted .amount .result) (at .loop .inv .4) (at .loop .inv .1) is (amounted .amount .ensures) _ _ _ (joined .join-column .ensures),
+      column-on (s .p) (s .q) (s .amounts .now) (s .k) (s .i) (stepsIn (s .steps .now) (s .n)) (s .steps .now) _ _ _ (at .loop .c) (at .loop .first) _
+          (amounted .amount .result) (at .loop .inv .4) (at .loop .inv .1) is (amounted .amount .ensures) _ _ _ (joined .join-column .ensures),
     )
 
 same-length : tie.Need-same-length Inv-loop μ-loop
@@ -79,7 +88,8 @@ returns : tie.Need-returns Inv-loop μ-loop
 returns c =
     let at = c .before in
     let s = at .before .before .before .before .args in
-    columns-end (s .p) (s .q) (s .k) (s .amounts .now) (s .i) (stepsIn (s .steps .now) (s .n)) (s .steps .now) _ _ _ (at .loop .c) (at .loop .inv .0) (search needs) (at .loop .inv .4)
+    columns-end (s .p) (s .q) (s .amounts .now) (s .k) (s .i) (stepsIn (s .steps .now) (s .n)) (s .steps .now) _ _ _ (at .loop .c)
+    (at .loop .inv .0) (search needs) (at .loop .inv .4)
 
 pub make-payslip-spec : {M : Type 1} → statement M
 make-payslip-spec =

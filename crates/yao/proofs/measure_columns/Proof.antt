@@ -1,17 +1,18 @@
+-- One column a turn: the cells so far hold the digits of their columns.
 use borrow.Author.Needs.{needs, fits-under}
 use mathlib.Core.Path.{_≡_}
 use Prim.Native.Nat.{_≤_, _-_}
 use lib.ListN.{length, length-set}
-use Rattle.yao.specs.Emitted.{Measured}
+use Rattle.yao.specs.Inner.{Measured}
 use Rattle.yao.proofs.Measuring.{digits-word, measured-none, measured-on, measured-end}
 use Rattle.yao.proofs.measure_columns.Statement.{statement}
 use Rattle.yao.proofs.measure_columns.Tie as tie
 
 abbrev Inv-loop : tie.InvT-loop
-Inv-loop p q k amounts columns₀ c₀ columns c = (c ≤ p) × (length columns ≡ length columns₀) × Measured p q k c amounts columns
+Inv-loop p q amounts k columns₀ c₀ columns c = (c ≤ p) × (length columns ≡ length columns₀) × Measured p q amounts k c columns
 
 abbrev μ-loop : tie.MeasureT-loop
-μ-loop p q k amounts columns₀ c₀ columns c = p - c
+μ-loop p q amounts k columns₀ c₀ columns c = p - c
 
 loop-holds : tie.Need-loop-holds Inv-loop μ-loop
 loop-holds c = (search needs, search needs, search measured-none)
@@ -35,7 +36,9 @@ loop-less : tie.Need-loop-less Inv-loop μ-loop
 loop-less c = search needs
 
 loop-again : tie.Need-loop-again Inv-loop μ-loop
-loop-again c = (search needs, simp length-set (search needs), measured-on _ _ _ _ _ _ _ (c .before .before .loop .inv .2) (search needs) (c .column-digits .ensures .0) (c .column-digits .ensures .1))
+loop-again c =
+    let told = c .column-digits .ensures in
+    (search needs, simp length-set (search needs), measured-on _ _ _ _ _ _ _ (c .before .before .loop .inv .2) (search needs) (told .0) (told .1))
 
 same-length : tie.Need-same-length Inv-loop μ-loop
 same-length c = search needs

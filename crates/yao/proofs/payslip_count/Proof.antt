@@ -1,18 +1,20 @@
+-- One column a turn: the invariant is the steps of the amounts so far, and how many of these are not 0.
 use borrow.Author.Needs.{needs, fits-under}
 use mathlib.Core.Path.{_≡_}
 use Prim.Native.Nat.{_*_, _≤_, _-_}
 use native.Mathlib.Omega.{arith}
 use Rattle.yao.proofs.Measuring.{column-is, column-few}
 use Rattle.sheet.proofs.Amounts.{amount-there}
+use Rattle.yao.specs.Inner.{amountMost}
 use Rattle.yao.proofs.Counting.{amountsTo, nonzeroTo, amounts-on, nonzero-on, nonzero-few, nonzero-fits, payslip-none, payslip-some}
 use Rattle.yao.proofs.payslip_count.Statement.{statement}
 use Rattle.yao.proofs.payslip_count.Tie as tie
 
 abbrev Inv-loop : tie.InvT-loop
-Inv-loop p q k amounts columns i n₀ z₀ c₀ n z c = (c ≤ p) × (n ≡ amountsTo p q k amounts i c) × (z ≡ nonzeroTo p amounts i c) × (n ≤ 300 * c) × (z ≤ c)
+Inv-loop p q amounts k columns i n₀ z₀ c₀ n z c = (c ≤ p) × (n ≡ amountsTo p q amounts k i c) × (z ≡ nonzeroTo p amounts i c) × (n ≤ amountMost * c) × (z ≤ c)
 
 abbrev μ-loop : tie.MeasureT-loop
-μ-loop p q k amounts columns i n₀ z₀ c₀ n z c = p - c
+μ-loop p q amounts k columns i n₀ z₀ c₀ n z c = p - c
 
 loop-holds : tie.Need-loop-holds Inv-loop μ-loop
 loop-holds c = search needs

@@ -1,3 +1,4 @@
+-- The two cases of the definition; the digits begin within 32 bits, so the squarings are few.
 use borrow.Author.Needs.{needs, fits-under}
 use native.Mathlib.Omega.{arith}
 use Rattle.yao.proofs.Counting.{squarings-none, squarings-few}

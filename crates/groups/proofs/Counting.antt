@@ -1,0 +1,91 @@
+-- Groups and tables counted: division rounds up to no more groups than inputs, each begins inside the inputs, and a full group's table is the longest.
+use mathlib.Core.Path.{_≡_, ap, _∙_}
+use mathlib.Core.List.{List}
+use Prim.Native.Nat.{ℕ, zero, suc, _+_, _-_, _*_, _^_, _≤_, _<_}
+use native.Mathlib.Decide.{decLe}
+use native.Mathlib.Nat.{mul-comm, mul-le-mul-right, mul-le-mul-left, div-add-mod', div-lt-iff-lt-mul, suc-mul, le-refl, pow-suc}
+use native.Mathlib.Omega.{arith}
+use lib.ListN.{length, getD}
+use lib.Pow.{pow-mono}
+use Rattle.digits.specs.Digits.{bitLength, digitCount}
+use Rattle.digits.specs.Range.{sumTo}
+use Rattle.digits.proofs.Range.{sum-on, sum-low}
+use Rattle.digits.proofs.Count.{low-bits}
+use Rattle.methods.specs.Powers.{largestIn}
+use Rattle.groups.specs.Groups.{columnBits, groupCeiling, groupCount, groupSize, mostInputs, mostMembers, tablesCount}
+use Rattle.groups.specs.Inner.{bitsLess}
+use Rattle.groups.proofs.Groups.{inputs-below}
+
+-- a column's bits, x being its largest amount
+module _ (p q : ℕ) (amounts : List ℕ) (col x b : ℕ) (is : x ≡ largestIn p q amounts col) (e : b ≡ digitCount 1 x) where
+  pub bits-told : b ≡ columnBits p q amounts col
+  unfolding columnBits bitLength
+  bits-told = e ∙ ap (digitCount 1) is
+
+  pub bits-narrow : x < 2 ^ 32 → b ≤ 32
+  unfolding bitLength
+  bits-narrow low = let few : bitLength x ≤ 32 = low-bits x 32 low in omega arith
+
+-- the bits of the first n columns of a slice, less some each
+abbrev pub lessTo : List ℕ → ℕ → ℕ → ℕ
+lessTo bits less n = sumTo n (bitsLess bits less)
+
+module _ (bits : List ℕ) (less col s : ℕ) (e : s ≡ lessTo bits less col) where
+  pub less-on : (r : ℕ) → r ≡ getD bits col 0 - less → s + r ≡ lessTo bits less (col + 1)
+  less-on r is = sum-on (bitsLess bits less) col s r is e
+
+  pub less-end : col ≤ length bits → length bits ≤ col → s ≡ lessTo bits less (length bits)
+  less-end h g = let last : length bits ≡ col = omega arith in rw last e
+
+-- there are no more groups than inputs
+pub groups-low : (c w : ℕ) → 1 ≤ c → groupCount c w ≤ w
+groups-low c w some =
+    let wide : w * 1 ≤ w * c = mul-le-mul-left w some in
+    let few : groupCount c w < suc w = div-lt-iff-lt-mul some .1 (omega (arith, suc-mul w c)) in
+    omega arith
+
+pub groups-few : (c w : ℕ) → 1 ≤ c → w ≤ mostInputs → groupCount c w ≤ mostInputs
+groups-few c w some few = omega (arith, groups-low c w some)
+
+-- each one's first input is one
+pub group-inside : (c w g G : ℕ) → 1 ≤ c → G ≡ groupCount c w → g < G → g * c ≤ w
+group-inside c w g G some e h =
+    let d = div-add-mod' (w + c - 1) c in
+    let le : suc g ≤ groupCount c w = omega arith in
+    let wide : suc g * c ≤ groupCount c w * c = mul-le-mul-right c le in
+    omega (arith, suc-mul g c, mul-comm c (groupCount c w))
+
+-- the steps of a table, x being 2^n
+module _ (n x : ℕ) (e : x ≡ 2 ^ n) where
+  pub table-some : n + 1 ≤ x
+  table-some = omega (arith, inputs-below n)
+
+  pub table-told : x - n - 1 ≡ 2 ^ n - n - 1
+  table-told = ap (λ (m : ℕ). m - n - 1) e
+
+  pub table-few : n ≤ mostMembers → x - n - 1 ≤ 2 ^ mostMembers
+  table-few h = let most : 2 ^ n ≤ 2 ^ mostMembers = pow-mono {j = mostMembers} h in omega arith
+
+pub size-few : (c w g r : ℕ) → c ≤ mostMembers → r ≡ groupSize c w g → r ≤ mostMembers
+size-few c w g r few e = omega arith
+
+-- one group's table more
+pub tables-on : (c w n g s r : ℕ) → s ≡ groupSize c w g → r ≡ 2 ^ s - s - 1 → n ≡ tablesCount c w g → n + r ≡ tablesCount c w (g + 1)
+tables-on c w n g s r size is e =
+    sum-on (λ k. 2 ^ groupSize c w k - groupSize c w k - 1) g n r (is ∙ ap (λ (m : ℕ). 2 ^ m - m - 1) size) e
+
+pub tables-all : (c w G g n : ℕ) → g ≤ G → G ≤ g → n ≡ tablesCount c w g → n ≡ tablesCount c w G
+tables-all c w G g n h k e = let last : G ≡ g = omega arith in rw last e
+
+-- a table of more inputs has no fewer steps
+table-more : (g c : ℕ) → g ≤ c → 2 ^ g - g - 1 ≤ 2 ^ c - c - 1
+table-more g zero h = let e : g ≡ 0 = omega arith in rw e (le-refl _)
+table-more g (suc c) h = by-size (table-more g c) (decLe g c)
+  where
+    by-size : (g ≤ c → 2 ^ g - g - 1 ≤ 2 ^ c - c - 1) → Dec (g ≤ c) → 2 ^ g - g - 1 ≤ 2 ^ suc c - suc c - 1
+    by-size ih (yes le) = rw (pow-suc 2 c) (omega (arith, ih le, inputs-below c))
+    by-size ih (no gt) = let e : g ≡ suc c = omega arith in rw e (le-refl _)
+
+pub tables-ceiling : (c w : ℕ) → tablesCount c w (groupCount c w) ≤ groupCeiling c w
+tables-ceiling c w =
+    sum-low (groupCount c w) (λ g. 2 ^ groupSize c w g - groupSize c w g - 1) (2 ^ c - c - 1) (λ g h. table-more (groupSize c w g) c (omega arith))

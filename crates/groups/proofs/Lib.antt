@@ -1,0 +1,12 @@
+pub mod Inputs
+pub mod Groups
+pub mod Tables
+pub mod Members
+pub mod Parts
+pub mod Prepared
+pub mod Counting
+pub mod Numbering
+pub mod Rows
+pub mod Measured
+pub mod Tabling
+pub mod Making

@@ -1,0 +1,145 @@
+-- Inner vocabulary: what the functions of this crate ask and leave; nobody has to believe it to believe an entry point's promise.
+use mathlib.Core.Path.{_≡_}
+use mathlib.Core.List.{List}
+use Prim.Native.Nat.{ℕ, _+_, _-_, _*_, _/_, _^_, _≤_, _<_}
+use lib.ListN.{length, getD}
+use Rattle.chain.specs.Chain.{mostColumns, mostSteps}
+use Rattle.chain.specs.Written.{over, laid}
+use Rattle.digits.specs.Digits.{digit}
+use Rattle.digits.specs.Range.{sumTo, listTo}
+use Rattle.products.specs.Inner.{stepsIn, StepsRoom, StepsStored}
+use Rattle.methods.specs.Inner.{SheetSized}
+use Rattle.methods.specs.Powers.{countsOf, squarings, powerOf}
+use Rattle.groups.specs.declared.Grouping.{Grouping}
+use Rattle.groups.specs.declared.Row.{Row}
+use Rattle.chain.specs.declared.Step.{Step}
+use Rattle.groups.specs.Groups.{columnBits, group, groupCount, groupTables, inputCount, mostInputs, mostMembers, overInputs, selection, squaringCount, weigh}
+
+-- r is x, and x is not large
+pub record Bounded (r x most : ℕ) : Type 0 where
+  pub is : r ≡ x
+  pub low : r ≤ most
+
+-- the bits of columns less some each, as far as they go
+abbrev pub bitsLess : List ℕ → ℕ → ℕ → ℕ
+bitsLess bits less col = countsOf bits col - less
+
+-- what columns of these bits are squared, and the inputs that makes
+abbrev pub bitSquarings : List ℕ → List Step
+bitSquarings bits = squarings (length bits) (bitsLess bits 1) (length bits)
+
+abbrev pub bitInputs : List ℕ → ℕ → List ℕ
+bitInputs bits n = overInputs (countsOf bits) (powerOf (length bits) (bitsLess bits 1)) n
+
+-- bits of few columns, each of an amount
+pub record Narrow (bits : List ℕ) : Type 0 where
+  pub columns : length bits ≤ mostColumns
+  pub each : (col : ℕ) → getD bits col 0 ≤ 32
+
+-- the numbers of a grouping go together
+pub record Cuts (s : Grouping) : Type 0 where
+  pub columns : s .p ≤ mostColumns
+  pub some : 1 ≤ s .c
+  pub few : s .c ≤ mostMembers
+  pub groups-are : s .groups ≡ groupCount (s .c) (s .inputs)
+  pub inputs-few : s .inputs ≤ mostInputs
+  pub groups-few : s .groups ≤ mostInputs
+  pub squarings-few : s .squarings ≤ mostInputs
+
+-- they are those of a sheet, whose columns have these bits
+pub record Grouped (s : Grouping) (amounts bits : List ℕ) : Type 0 where
+  pub cuts : Cuts s
+  pub sheet : SheetSized (s .p) (s .q) amounts
+  pub bits-are : bits ≡ listTo (s .p) (columnBits (s .p) (s .q) amounts)
+  pub inputs-are : s .inputs ≡ inputCount (s .p) (s .q) amounts
+  pub squarings-are : s .squarings ≡ squaringCount (s .p) (s .q) amounts
+
+-- the grouping of a sheet with this parameter
+pub record GroupedFor (p q : ℕ) (amounts : List ℕ) (c : ℕ) (bits : List ℕ) (s : Grouping) : Type 0 where
+  pub grouped : Grouped s amounts bits
+  pub same-p : s .p ≡ p
+  pub same-q : s .q ≡ q
+  pub same-c : s .c ≡ c
+
+-- the number of n bits of a list from place s on, the first with weight 1
+abbrev pub numberAt : List ℕ → ℕ → ℕ → ℕ
+numberAt l s n = sumTo n (λ j. getD l (s + j) 0 * 2 ^ (1 * j))
+
+-- parts of c bits are cut off the front of a row, which is left shorter, and laid from its next part's cell on
+pub record Cut (c : ℕ) (row left : Row) (old cells : List ℕ) : Type 0 where
+  pub onward : row .g ≤ left .g
+  pub held-less : left .held + (left .g - row .g) * c ≡ row .held
+  pub rest : left .bits ≡ row .bits / 2 ^ (c * (left .g - row .g))
+  pub parts-are : cells ≡ laid (row .g) (listTo (left .g - row .g) (digit c (row .bits))) old
+
+-- as many parts as there are
+pub record CutUp (c : ℕ) (row left : Row) (old cells : List ℕ) : Type 0 where
+  pub short : left .held < c
+  pub cut : Cut c row left old cells
+
+-- the numbers of the first n parts that a list of bits is cut into
+abbrev pub numbersOf : ℕ → ℕ → List ℕ → List ℕ
+numbersOf c n l = listTo n (λ g. weigh (group c g l))
+
+-- those of payslip i
+abbrev pub partNumbers : Grouping → List ℕ → ℕ → List ℕ
+partNumbers s amounts i = numbersOf (s .c) (s .groups) (selection (s .p) (s .q) amounts i)
+
+-- the bits of the first n columns of payslip i are entered: the whole parts are laid, and the others are left in the row
+pub record Entered (s : Grouping) (amounts : List ℕ) (i n : ℕ) (row : Row) (old cells : List ℕ) : Type 0 where
+  pub place : row .held + row .g * s .c ≡ sumTo n (columnBits (s .p) (s .q) amounts)
+  pub short : row .held < s .c
+  pub waiting : row .bits ≡ numberAt (selection (s .p) (s .q) amounts i) (row .g * s .c) (row .held)
+  pub parts-are : cells ≡ over (numbersOf (s .c) (row .g) (selection (s .p) (s .q) amounts i)) old
+
+-- a payslip of a grouped sheet, and a cell for each of its parts
+pub record PartsRoom (s : Grouping) (amounts bits : List ℕ) (i : ℕ) (cells : List ℕ) : Type 0 where
+  pub grouped : Grouped s amounts bits
+  pub inside : i < s .q
+  pub room : mostInputs ≤ length cells
+
+-- a cell for each input of these columns
+pub record InputsRoom (bits cells : List ℕ) : Type 0 where
+  pub columns : length bits ≤ mostColumns
+  pub few : sumTo (length bits) (countsOf bits) ≤ mostInputs
+  pub room : mostInputs ≤ length cells
+
+-- the tables of the groups of these inputs
+abbrev pub tablesAfter : Grouping → List ℕ → List Step → List Step
+tablesAfter s members start = groupTables (s .p) (s .c) members start (s .groups)
+
+-- room for them after n steps
+pub record TablesRoom (s : Grouping) (members steps : List ℕ) (n : ℕ) : Type 0 where
+  pub cuts : Cuts s
+  pub long : length members ≡ s .inputs
+  pub few : length (tablesAfter s members (stepsIn steps n)) ≤ mostSteps
+  pub room : StepsRoom (s .p) steps n (tablesAfter s members (stepsIn steps n))
+
+-- the squarings and the tables, for columns of these bits
+abbrev pub bitTables : Grouping → List ℕ → List Step
+bitTables s bits = tablesAfter s (bitInputs bits (length bits)) (bitSquarings bits)
+
+-- room for them, and a cell for each input
+pub record GroupsRoom (s : Grouping) (bits members steps : List ℕ) : Type 0 where
+  pub cuts : Cuts s
+  pub bits-long : length bits ≡ s .p
+  pub bits-sum : sumTo (length bits) (countsOf bits) ≡ s .inputs
+  pub members-room : mostInputs ≤ length members
+  pub few : length (bitTables s bits) ≤ mostSteps
+  pub steps-room : StepsRoom (s .p) steps 0 (bitTables s bits)
+
+-- the inputs' value numbers and those steps are stored
+pub record GroupsMade (s : Grouping) (bits members₀ steps₀ members steps : List ℕ) (n : ℕ) : Type 0 where
+  pub members-are : members ≡ over (bitInputs bits (length bits)) members₀
+  pub stored : StepsStored steps₀ steps n (bitTables s bits)
+
+-- the value number of the first step of group g's table: the groups before it are full
+abbrev pub tableAt : Grouping → ℕ → ℕ
+tableAt s g = s .p + s .squarings + g * (2 ^ s .c - s .c - 1) + 1
+
+-- t is a part of group g
+pub record PartOf (s : Grouping) (members : List ℕ) (g t : ℕ) : Type 0 where
+  pub cuts : Cuts s
+  pub long : length members ≡ s .inputs
+  pub inside : g < s .groups
+  pub part : t < 2 ^ (1 * length (group (s .c) g members))

@@ -1,0 +1,39 @@
+-- Cells are filled one after the other with a function's values: what stands in them is always the list of the values so far, over what was there.
+use mathlib.Core.Path.{_≡_, sym, ap, _∙_}
+use mathlib.Core.List.{List, [], _∷_, _++_}
+use Prim.Native.Nat.{ℕ, _+_, _≤_, _<_}
+use native.Mathlib.Numerals.{add-one}
+use native.Mathlib.Omega.{arith}
+use lib.ListN.{length, take, set}
+use Rattle.chain.specs.Written.{over}
+use Rattle.chain.proofs.Written.{take-over, over-next}
+use Rattle.digits.specs.Range.{listTo}
+use Rattle.digits.proofs.Listed.{length-list}
+use Rattle.methods.proofs.Paying.{over-none}
+
+module _ (f : ℕ → ℕ) (old : List ℕ) where
+  pub fill-none : old ≡ over (listTo 0 f) old
+  fill-none = over-none old
+
+  pub fill-on : (n c x : ℕ) (cells : List ℕ) → c < n → n ≤ length old → x ≡ f c → cells ≡ over (listTo c f) old
+      → set cells c x ≡ over (listTo (c + 1) f) old
+  fill-on n c x cells h room is e =
+      rw (add-one c)
+      (ap (λ (l : List ℕ). set l c x) e
+      ∙ over-next (listTo c f) old x c (length-list c f) (omega arith)
+      ∙ ap (λ (y : ℕ). over (listTo c f ++ y ∷ []) old) is)
+
+  pub fill-end : (n c : ℕ) (cells : List ℕ) → c ≤ n → n ≤ c → cells ≡ over (listTo c f) old → cells ≡ over (listTo n f) old
+  fill-end n c cells h g e =
+      let last : c ≡ n = omega arith in
+      e ∙ ap (λ (m : ℕ). over (listTo m f) old) last
+
+  -- read back from the front
+  module _ (n : ℕ) (cells : List ℕ) (e : cells ≡ over (listTo n f) old) where
+    pub filled-front : take n cells ≡ listTo n f
+    filled-front = ap (take n) e ∙ take-over n (listTo n f) old (length-list n f)
+
+    pub filled-length : n ≡ length (take n cells)
+    filled-length = sym (ap length filled-front ∙ length-list n f)
+
+pub ruleset filling = (fill-none, fill-on, fill-end)

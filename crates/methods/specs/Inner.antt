@@ -1,0 +1,31 @@
+-- Inner vocabulary: what the functions of every method ask and leave; nobody has to believe it to believe an entry point's promise.
+use mathlib.Core.Path.{_≡_}
+use mathlib.Core.List.{List}
+use Prim.Native.Nat.{ℕ, _*_, _≤_}
+use lib.ListN.{length}
+use Rattle.chain.specs.Chain.{Chain, mostColumns, mostPayslips, mostSteps, flat}
+use Rattle.chain.specs.Written.{over}
+
+-- a sheet whose sizes keep to their ranges
+pub record SheetSized (p q : ℕ) (amounts : List ℕ) : Type 0 where
+  pub p-some : 1 ≤ p
+  pub p-low : p ≤ mostColumns
+  pub q-low : q ≤ mostPayslips
+  pub amounts-are : length amounts ≡ p * q
+
+-- what a method is asked for: a chain for such a sheet, with a parameter from 1 to the most that it takes
+pub record Asked (most p q : ℕ) (amounts : List ℕ) (k : ℕ) : Type 0 where
+  pub sheet : SheetSized p q amounts
+  pub k-some : 1 ≤ k
+  pub k-low : k ≤ most
+
+-- room for a chain of so many steps with q outputs, which is not too long
+pub record ChainRoom (q count : ℕ) (steps outputs : List ℕ) : Type 0 where
+  pub short : count ≤ mostSteps
+  pub steps-fit : 2 * count ≤ length steps
+  pub outputs-fit : q ≤ length outputs
+
+-- two slices hold a chain, its steps in turn and its outputs, over the front of what they held before
+pub record ChainStored (steps₀ outputs₀ steps outputs : List ℕ) (c : Chain) : Type 0 where
+  pub steps-are : steps ≡ over (flat (c .steps)) steps₀
+  pub outputs-are : outputs ≡ over (c .outputs) outputs₀

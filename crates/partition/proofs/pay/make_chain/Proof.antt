@@ -1,0 +1,64 @@
+-- The squarings and tables are stored, then the payslips after them, and make the chain.
+use borrow.Author.Needs.{needs}
+use Rattle.groups.proofs.Measured.{sheet-inputs, sheet-long}
+use Rattle.partition.proofs.Whole.{begin-fits, chain-whole, slips-room}
+use Rattle.partition.proofs.pay.make_chain.Statement.{statement}
+use Rattle.partition.proofs.pay.make_chain.Tie as tie
+
+make-groups-requires : tie.Need-make-groups-requires
+make-groups-requires c κs =
+    let s = c .before .before .before .before .before .before .before .before in
+    let a = s .args in
+    begin-fits (a .s) (a .amounts .now) (a .bits .now) (s .pre .0 .0) (a .steps .now) (a .outputs .now) (s .pre .1) _ (s .pre .0 .1)
+
+slice-reshare-prefix-make-payslips : tie.Need-slice-reshare-prefix-make-payslips
+slice-reshare-prefix-make-payslips c = search needs
+
+slice-aggregate-make-payslips : tie.Need-slice-aggregate-make-payslips
+slice-aggregate-make-payslips c =
+    let grouped = c .before .before .before .before .before in
+    let s = grouped .before .before .before .before .before .before .before .before .before in
+    let a = s .args in
+    sheet-long (a .s) (a .amounts .now) (a .bits .now) (s .pre .0 .0) _ _ _ _ _ (grouped .make-groups .ensures)
+
+make-payslips-requires : tie.Need-make-payslips-requires
+make-payslips-requires c κs =
+    let grouped = c .before .before .before .before .before .before .before .before in
+    let s = grouped .before .before .before .before .before .before .before .before .before in
+    let a = s .args in
+    let are = sheet-inputs (a .s) (a .amounts .now) (a .bits .now) (s .pre .0 .0) _ _ _ _ _ (grouped .make-groups .ensures) in
+    let room = slips-room (a .s) (a .amounts .now) (a .bits .now) (s .pre .0 .0) (a .steps .now) (a .outputs .now) (s .pre .1) _ _ _ _ (grouped .make-groups .ensures) in
+    ((record { grouped = s .pre .0 .0; members-are = are; room = s .pre .0 .2 }, s .pre .1 .outputs-fit), room)
+
+same-length : tie.Need-same-length
+same-length c = search needs
+
+same-length-2 : tie.Need-same-length-2
+same-length-2 c = search needs
+
+same-length-3 : tie.Need-same-length-3
+same-length-3 c = search needs
+
+same-length-4 : tie.Need-same-length-4
+same-length-4 c = search needs
+
+returns : tie.Need-returns
+returns c =
+    let grouped = c .before .before .before .before .before .before .before .before .before .before .before .before .before .before .before in
+    let s = grouped .before .before .before .before .before .before .before .before .before in
+    let a = s .args in
+    chain-whole (a .s) (a .amounts .now) (a .bits .now) (s .pre .0 .0) (a .steps .now) (a .outputs .now) (s .pre .1) _ _ _ _ (grouped .make-groups .ensures) _ _ (c .before .before .before .before .before .before .make-payslips .ensures)
+
+pub make-chain-spec : {M : Type 1} → statement M
+make-chain-spec =
+    tie.close
+    (tie.spec
+    make-groups-requires
+    slice-reshare-prefix-make-payslips
+    slice-aggregate-make-payslips
+    make-payslips-requires
+    same-length
+    same-length-2
+    same-length-3
+    same-length-4
+    returns)

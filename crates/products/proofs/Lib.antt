@@ -1,0 +1,4 @@
+pub mod Sound
+pub mod Product
+pub mod Emitted
+pub mod Emitters

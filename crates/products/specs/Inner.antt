@@ -1,0 +1,30 @@
+-- Inner vocabulary: what the functions that put steps into a lent flat slice, first and second in turn, ask and leave;
+-- nobody has to believe it to believe an entry point's promise.
+use mathlib.Core.Path.{_≡_}
+use mathlib.Core.List.{List}
+use Prim.Native.Nat.{ℕ, _+_, _*_, _^_, _≤_, _<_}
+use lib.ListN.{length, take}
+use Rattle.chain.specs.Chain.{pairs, flat}
+use Rattle.chain.specs.Written.{over}
+use Rattle.chain.specs.declared.Step.{Step}
+use Rattle.products.specs.Product.{Made}
+
+-- the first n steps of a slice
+abbrev pub stepsIn : List ℕ → ℕ → List Step
+stepsIn cells n = pairs (take (2 * n) cells)
+
+-- room for all the steps in a slice that holds n of them, and numbers below 2^32 for all their values
+pub record StepsRoom (p : ℕ) (cells : List ℕ) (n : ℕ) (steps : List Step) : Type 0 where
+  pub so-far : 2 * n ≤ length cells
+  pub cells-hold : 2 * length steps ≤ length cells
+  pub numbers-fit : p + length steps < 2 ^ 32
+
+-- the slice holds the steps over the front of what it held before, and n is their number
+pub record StepsStored (before cells : List ℕ) (n : ℕ) (steps : List Step) : Type 0 where
+  pub cells-are : cells ≡ over (flat steps) before
+  pub count : n ≡ length steps
+
+-- it holds the steps of a product in the making, and v is the product's value
+pub record Emitted (before cells : List ℕ) (n v : ℕ) (m : Made) : Type 0 where
+  pub stored : StepsStored before cells n (m .steps)
+  pub value : v ≡ m .value

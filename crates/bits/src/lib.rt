@@ -130,7 +130,8 @@ impl<'a> BitReader<'a> {
     // The field of width bits at the reader's position, and a reader of the same bytes past it.
     pub fn take(self, width: usize) -> ReadField<'a>
         requires { ⌜ FieldRoom (now (self .bytes)) (self .cursor .at) width ⌝ }
-        ensures { λ r. ⌜ FieldTaken (now (self .entry .bytes)) (self .entry .cursor .at) width (r .value) (r .next .cursor .at) × (r .next .bytes ≡ self .entry .bytes) ⌝ }
+        ensures { λ r. ⌜ FieldTaken (now (self .entry .bytes)) (self .entry .cursor .at) width (r .value)
+            (r .next .cursor .at) × (r .next .bytes ≡ self .entry .bytes) ⌝ }
     {
         let field = self.cursor.take(self.bytes, width);
         ReadField {

@@ -6,3 +6,4 @@ pub mod Readable
 pub mod ReadingBack
 pub mod OneFile
 pub mod Lent
+pub mod Legal

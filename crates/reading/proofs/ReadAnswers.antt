@@ -11,7 +11,8 @@ use Rattle.chain.specs.Written.{over}
 use Rattle.chain.specs.Chain.{pairs, flat, lengthRule, stepsRule, outputsRule, chainRule}
 use Rattle.chain.specs.declared.Judgement.{Judgement}
 use Rattle.chain.specs.declared.Judgement.the-variants as judged
-use Rattle.chain.proofs.Rules.{stop, pass, then-fine, then-assoc, refuseIf-fine, neither, not-lt, not-ne, told-fine, told-refused, answer-refused, answer-done, kept, renewed}
+use Rattle.chain.proofs.Rules.{stop, pass, then-fine, then-assoc, refuseIf-fine, neither, not-lt, not-ne, told-fine, told-refused, answer-refused}
+use Rattle.chain.proofs.Rules.{answer-done, kept, renewed}
 use Rattle.chain.proofs.Pairs.{length-pairs, flat-pairs}
 use Rattle.chain.proofs.Sizes.{length-fits}
 use Rattle.bits.specs.Bits.{bytesFor, fieldAt, fieldsAt}

@@ -171,7 +171,8 @@ fn take_lists(
     outputs: &mut [u32],
 )
     requires { ⌜ FieldsRoom (now bytes) at w (2 * n) (now steps) × FieldsRoom (now bytes) (at + 2 * n * w) w q (now outputs) ⌝ }
-    ensures { λ _. ⌜ ListsTaken (now (bytes .entry)) at w n q (now (steps .entry)) (now (outputs .entry)) (now (steps .exit)) (now (outputs .exit)) ⌝ }
+    ensures { λ _. ⌜ ListsTaken (now (bytes .entry)) at w n q (now (steps .entry)) (now (outputs .entry)) (now (steps .exit))
+        (now (outputs .exit)) ⌝ }
 {
     let start = BitReader {
         bytes: bytes,
@@ -184,7 +185,8 @@ fn take_lists(
 // Reads the chain that stands in bytes by an extent. Everything is judged before anything is stored.
 fn read_body(x: Extent, bytes: &[u8], steps: &mut [u32], outputs: &mut [u32]) -> Reading
     requires { ⌜ Proper x ⌝ }
-    ensures { λ r. ⌜ BodyRead (now (bytes .entry)) x (now (steps .entry)) (now (outputs .entry)) (readOf r) (now (steps .exit)) (now (outputs .exit)) ⌝ }
+    ensures { λ r. ⌜ BodyRead (now (bytes .entry)) x (now (steps .entry)) (now (outputs .entry)) (readOf r)
+        (now (steps .exit)) (now (outputs .exit)) ⌝ }
 {
     match judge_body(bytes, x, steps.len() / 2, outputs.len()) {
         Judgement::Refused(number, place) => Reading::Refused(number, place),
@@ -202,7 +204,8 @@ fn read_body(x: Extent, bytes: &[u8], steps: &mut [u32], outputs: &mut [u32]) ->
 // The header is decoded once, and all else is read by the extent that it gives.
 fn read_as(layout: Layout, bytes: &[u8], steps: &mut [u32], outputs: &mut [u32]) -> Reading
     requires { ⌜ Sound layout ⌝ }
-    ensures { λ r. ⌜ FileRead layout (now (bytes .entry)) (now (steps .entry)) (now (outputs .entry)) (readOf r) (now (steps .exit)) (now (outputs .exit)) ⌝ }
+    ensures { λ r. ⌜ FileRead layout (now (bytes .entry)) (now (steps .entry)) (now (outputs .entry)) (readOf r)
+        (now (steps .exit)) (now (outputs .exit)) ⌝ }
 {
     match judge_header(layout, bytes) {
         Heading::Refused(number, place) => Reading::Refused(number, place),

@@ -13,11 +13,11 @@ ghost use Rattle.tell.specs.Told.{choiceAnswer};
 ghost use Rattle.tell.specs.Inner.{WordsWritten, ToldAs};
 use choose::Chosen;
 use compile::Compiled;
-use reading::Reading;
-use writing::Written;
 use path::Figured;
+use reading::Reading;
 use run::Ran;
 use verify::Verified;
+use writing::Written;
 
 // The number returned, and the four words.
 fn tell(number: u32, a: usize, b: usize, c: usize, answer: &mut [u64; 4]) -> u32

@@ -6,4 +6,3 @@ pub mod Readable
 pub mod ReadingBack
 pub mod OneFile
 pub mod Lent
-pub mod Legal

@@ -1,17 +1,38 @@
--- Demand 2 of the legal chains: edition 1 holds them all and no others, so each law of the file holds of them as it stands.
+-- Demand 2 of the legal chains: edition 1 holds them all and no others, as its limit is the chain's, so each law of the file holds of them as it stands.
 use mathlib.Core.Path.{_≡_}
 use mathlib.Core.List.{List}
 use Prim.Native.Nat.{ℕ, _≤_}
+use native.Mathlib.Omega.{arith}
 use lib.ListN.{length}
 use Rattle.chain.specs.Verdict.{fine, refused}
-use Rattle.chain.specs.Chain.{Legal}
+use Rattle.chain.specs.Chain.{mostSteps, Legal}
 use Rattle.chain.specs.declared.Step.{Step}
+use Rattle.chain.proofs.Legal.{legal-parts, parts-legal}
 use Rattle.bits.proofs.Pack.{Bytes}
 use Rattle.layout.specs.Layout.{edition1}
-use Rattle.layout.specs.File.{fileOf, byteCount, longestFile, columnsOf, stepsOf, outputsOf, readRule}
-use Rattle.layout.proofs.Editions.{edition1-sound, legal-held, held-legal}
+use Rattle.layout.specs.File.{fileOf, byteCount, longestFile, columnsOf, stepsOf, outputsOf, Held, readRule}
+use Rattle.layout.proofs.Editions.{edition1-sound}
+use Rattle.layout.proofs.Held.{held-parts, parts-held}
 use Rattle.layout.proofs.ReadingBack.{ReadBack, Same, reading-gives, reading-back, file-low, one-chain}
 use Rattle.layout.proofs.OneFile.{reading-is-a-file, others-refused}
+
+-- the two limits: the one place where they are held against each other
+chain-within : mostSteps ≤ edition1 .limit
+chain-within = omega arith
+
+edition-within : edition1 .limit ≤ mostSteps
+edition-within = omega arith
+
+module _ (p : ℕ) (steps : List Step) (outputs : List ℕ) where
+  pub legal-held : Legal p steps outputs → Held edition1 p steps outputs
+  legal-held ok =
+      let l = legal-parts p steps outputs ok in
+      parts-held edition1 p steps outputs (record { sizes = l .sizes; few = omega (arith, l .few, chain-within); chain = l .chain })
+
+  pub held-legal : Held edition1 p steps outputs → Legal p steps outputs
+  held-legal ok =
+      let h = held-parts edition1 p steps outputs ok in
+      parts-legal p steps outputs (record { sizes = h .sizes; few = omega (arith, h .few, edition-within); chain = h .chain })
 
 -- "Each legal chain has just one file": no other chain has it
 pub legal-one-chain : (p p′ : ℕ) (steps steps′ : List Step) (outputs outputs′ : List ℕ) → Legal p steps outputs → Legal p′ steps′ outputs′

@@ -7,18 +7,21 @@ use native.Mathlib.Omega.{arith}
 use Rattle.chain.specs.Tests.{_<?_, _or_}
 use Rattle.chain.specs.Verdict.{fine, refused, refuseIf}
 use Rattle.chain.proofs.Rules.{refuse-yes, refuse-no, lt-yes, lt-no, or-left, or-right, or-none, eq-yes, eq-no}
+use Rattle.straus.specs.Straus.{strausMost, strausMostBits}
+use Rattle.yao.specs.Yao.{yaoMost}
 use Rattle.compile.specs.Compile.{outside, methodRule}
 
 module _ (p method k : ℕ) where
-  pub is-one : method ≡ 1 → methodRule p method k ≡ refuseIf (outside 1 5 k or 10 <? p * k) 3 0
+  pub is-one : method ≡ 1 → methodRule p method k ≡ refuseIf (outside 1 strausMost k or strausMostBits <? p * k) 3 0
   unfolding methodRule
   is-one e = rw (eq-yes method 1 e)
 
-  pub is-more : 2 ≤ method → method ≤ 3 → methodRule p method k ≡ refuseIf (outside 1 8 k) 3 0
+  -- methods 2 and 3 have one range
+  pub is-more : 2 ≤ method → method ≤ 3 → methodRule p method k ≡ refuseIf (outside 1 yaoMost k) 3 0
   unfolding methodRule
   is-more h g = by-number (ℕ-discrete method 2)
     where
-      by-number : Dec (method ≡ 2) → methodRule p method k ≡ refuseIf (outside 1 8 k) 3 0
+      by-number : Dec (method ≡ 2) → methodRule p method k ≡ refuseIf (outside 1 yaoMost k) 3 0
       by-number (yes e) = rw (eq-no method 1 (omega arith), eq-yes method 2 e)
       by-number (no e) = let three : method ≡ 3 = omega arith in rw (eq-no method 1 (omega arith), eq-no method 2 e, eq-yes method 3 three)
 
@@ -27,27 +30,27 @@ module _ (p method k : ℕ) where
   is-none a b c = rw (eq-no method 1 a, eq-no method 2 b, eq-no method 3 c)
 
   -- what each return of the code says, from the arm that it stands in
-  pub first-fits : method ≡ 1 → 1 ≤ k → k ≤ 5 → p * k ≤ 10 → fine ≡ methodRule p method k
+  pub first-fits : method ≡ 1 → 1 ≤ k → k ≤ strausMost → p * k ≤ strausMostBits → fine ≡ methodRule p method k
   first-fits e low high few =
-      refuse-no _ 3 0 (or-none _ _ (or-none _ _ (lt-no k 1 low) (lt-no 5 k high)) (lt-no 10 (p * k) few)) ∙ sym (is-one e)
+      refuse-no _ 3 0 (or-none _ _ (or-none _ _ (lt-no k 1 low) (lt-no strausMost k high)) (lt-no strausMostBits (p * k) few)) ∙ sym (is-one e)
 
   pub first-low : method ≡ 1 → k < 1 → refused 3 0 ≡ methodRule p method k
   first-low e low = refuse-yes _ 3 0 (or-left _ _ (or-left _ _ (lt-yes k 1 low))) ∙ sym (is-one e)
 
-  pub first-high : method ≡ 1 → 5 < k → refused 3 0 ≡ methodRule p method k
-  first-high e high = refuse-yes _ 3 0 (or-left _ _ (or-right _ _ (lt-yes 5 k high))) ∙ sym (is-one e)
+  pub first-high : method ≡ 1 → strausMost < k → refused 3 0 ≡ methodRule p method k
+  first-high e high = refuse-yes _ 3 0 (or-left _ _ (or-right _ _ (lt-yes strausMost k high))) ∙ sym (is-one e)
 
-  pub first-wide : method ≡ 1 → 10 < p * k → refused 3 0 ≡ methodRule p method k
-  first-wide e wide = refuse-yes _ 3 0 (or-right _ _ (lt-yes 10 (p * k) wide)) ∙ sym (is-one e)
+  pub first-wide : method ≡ 1 → strausMostBits < p * k → refused 3 0 ≡ methodRule p method k
+  first-wide e wide = refuse-yes _ 3 0 (or-right _ _ (lt-yes strausMostBits (p * k) wide)) ∙ sym (is-one e)
 
-  pub second-fits : 2 ≤ method → method ≤ 3 → 1 ≤ k → k ≤ 8 → fine ≡ methodRule p method k
-  second-fits h g low high = refuse-no _ 3 0 (or-none _ _ (lt-no k 1 low) (lt-no 8 k high)) ∙ sym (is-more h g)
+  pub second-fits : 2 ≤ method → method ≤ 3 → 1 ≤ k → k ≤ yaoMost → fine ≡ methodRule p method k
+  second-fits h g low high = refuse-no _ 3 0 (or-none _ _ (lt-no k 1 low) (lt-no yaoMost k high)) ∙ sym (is-more h g)
 
   pub second-low : 2 ≤ method → method ≤ 3 → k < 1 → refused 3 0 ≡ methodRule p method k
   second-low h g low = refuse-yes _ 3 0 (or-left _ _ (lt-yes k 1 low)) ∙ sym (is-more h g)
 
-  pub second-high : 2 ≤ method → method ≤ 3 → 8 < k → refused 3 0 ≡ methodRule p method k
-  second-high h g high = refuse-yes _ 3 0 (or-right _ _ (lt-yes 8 k high)) ∙ sym (is-more h g)
+  pub second-high : 2 ≤ method → method ≤ 3 → yaoMost < k → refused 3 0 ≡ methodRule p method k
+  second-high h g high = refuse-yes _ 3 0 (or-right _ _ (lt-yes yaoMost k high)) ∙ sym (is-more h g)
 
   pub below-all : method < 2 → (method ≡ 1 → ⊥) → refused 3 0 ≡ methodRule p method k
   below-all h a = refuse-yes _ 3 0 refl ∙ sym (is-none a (λ e. omega arith) (λ e. omega arith))

@@ -9,8 +9,9 @@ use Rattle.chain.specs.Written.{over}
 use Rattle.chain.specs.Chain.{Chain, mostSteps, flat, lengthRule}
 use Rattle.sheet.specs.Sheet.{sheetRule}
 use Rattle.methods.specs.Method.{Method}
-use Rattle.straus.specs.Straus.{strausMethod}
-use Rattle.yao.specs.Yao.{yaoMethod}
+use Rattle.straus.specs.Straus.{strausMost, strausMostBits, strausMethod}
+use Rattle.yao.specs.Yao.{yaoMost, yaoMethod}
+use Rattle.groups.specs.Groups.{mostMembers}
 use Rattle.partition.specs.Method.{partitionMethod}
 
 -- the parameter is outside lowest .. highest
@@ -21,9 +22,9 @@ outside lowest highest k = k <? lowest or highest <? k
 unfoldable pub methodRule : ℕ → ℕ → ℕ → Verdict
 methodRule p method k =
     refuseIf
-    (cond (method =? 1) (outside 1 5 k or 10 <? p * k)
-    (cond (method =? 2) (outside 1 8 k)
-    (cond (method =? 3) (outside 1 8 k)
+    (cond (method =? 1) (outside 1 strausMost k or strausMostBits <? p * k)
+    (cond (method =? 2) (outside 1 yaoMost k)
+    (cond (method =? 3) (outside 1 mostMembers k)
     true)))
     3 0
 

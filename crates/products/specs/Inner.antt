@@ -7,11 +7,16 @@ use lib.ListN.{length, take}
 use Rattle.chain.specs.Chain.{pairs, flat}
 use Rattle.chain.specs.Written.{over}
 use Rattle.chain.specs.declared.Step.{Step}
-use Rattle.products.specs.Product.{Made}
+use Rattle.products.specs.Product.{Made, made}
+use Rattle.products.specs.declared.PartialProduct.{PartialProduct}
 
 -- the first n steps of a slice
 abbrev pub stepsIn : List ℕ → ℕ → List Step
 stepsIn cells n = pairs (take (2 * n) cells)
+
+-- the product in the making m after the steps of a slice
+abbrev pub productIn : List ℕ → PartialProduct → Made
+productIn cells m = made (stepsIn cells (m .n)) (m .value)
 
 -- room for all the steps in a slice that holds n of them, and numbers below 2^32 for all their values
 pub record StepsRoom (p : ℕ) (cells : List ℕ) (n : ℕ) (steps : List Step) : Type 0 where

@@ -2,8 +2,8 @@
 ghost use mathlib.Core.List.{[], _∷_, _++_};
 ghost use Prim.Native.Nat.{_+_, _*_, _≤_};
 ghost use lib.ListN.{length};
-ghost use Rattle.products.specs.Product.{made, ordered, times, squared};
-ghost use Rattle.products.specs.Inner.{stepsIn, StepsRoom, StepsStored, Emitted};
+ghost use Rattle.products.specs.Product.{ordered, times, squared};
+ghost use Rattle.products.specs.Inner.{stepsIn, productIn, StepsRoom, StepsStored, Emitted};
 
 // A product in the making: the number of steps so far, and that of its value; 0 is the empty product.
 pub struct PartialProduct {
@@ -27,8 +27,8 @@ pub fn put(n: usize, a: u32, b: u32, steps: &mut [u32])
 
 // The product times value y, for p columns.
 pub fn times(p: usize, m: PartialProduct, y: u32, steps: &mut [u32]) -> PartialProduct
-    requires { ⌜ StepsRoom p (now steps) (m .n) (times p (made (stepsIn (now steps) (m .n)) (m .value)) y .steps) ⌝ }
-    ensures { λ r. ⌜ Emitted (now (steps .entry)) (now (steps .exit)) (r .n) (r .value) (times p (made (stepsIn (now (steps .entry)) (m .n)) (m .value)) y) ⌝ }
+    requires { ⌜ StepsRoom p (now steps) (m .n) (times p (productIn (now steps) m) y .steps) ⌝ }
+    ensures { λ r. ⌜ Emitted (now (steps .entry)) (now (steps .exit)) (r .n) (r .value) (times p (productIn (now (steps .entry)) m) y) ⌝ }
 {
     let n = m.n;
     let v = m.value;
@@ -47,8 +47,8 @@ pub fn times(p: usize, m: PartialProduct, y: u32, steps: &mut [u32]) -> PartialP
 
 // The product squared k times.
 pub fn squared(p: usize, k: usize, m: PartialProduct, steps: &mut [u32]) -> PartialProduct
-    requires { ⌜ StepsRoom p (now steps) (m .n) (squared p k (made (stepsIn (now steps) (m .n)) (m .value)) .steps) ⌝ }
-    ensures { λ r. ⌜ Emitted (now (steps .entry)) (now (steps .exit)) (r .n) (r .value) (squared p k (made (stepsIn (now (steps .entry)) (m .n)) (m .value))) ⌝ }
+    requires { ⌜ StepsRoom p (now steps) (m .n) (squared p k (productIn (now steps) m) .steps) ⌝ }
+    ensures { λ r. ⌜ Emitted (now (steps .entry)) (now (steps .exit)) (r .n) (r .value) (squared p k (productIn (now (steps .entry)) m)) ⌝ }
 {
     let mut r = m;
     let mut i: usize = 0;

@@ -17,7 +17,7 @@ use Rattle.products.proofs.Emitted.{emitted-own, emits-room, emits-on}
 use Rattle.methods.specs.Inner.{Asked}
 use Rattle.sheet.proofs.Amounts.{payslip-within}
 use Rattle.straus.specs.Inner.{PayslipAsked}
-use Rattle.straus.specs.Straus.{bases, strausDigits, digitVector, horner, strausPayslip}
+use Rattle.straus.specs.Straus.{bases, strausDigits, digitVector, horner, strausPayslip, strausMost, strausMostBits}
 use Rattle.straus.proofs.Bases.{length-bases}
 use Rattle.straus.proofs.Payslip.{in-table}
 
@@ -105,7 +105,7 @@ digit-fits k d digits room h =
     omega (arith, mul-le-mul-left k le)
 
 -- what a payslip's functions ask, from what the chain's do
-pub payslip-asked : {p q : ℕ} {amounts : List ℕ} {k i : ℕ} → Asked 5 p q amounts k → p * k ≤ 10 → i < q → PayslipAsked p amounts k i
+pub payslip-asked : {p q : ℕ} {amounts : List ℕ} {k i : ℕ} → Asked strausMost p q amounts k → p * k ≤ strausMostBits → i < q → PayslipAsked p amounts k i
 payslip-asked {p} {q} {amounts} {k} {i} asked small less =
     record {
       there = payslip-within p q i (length amounts) (asked .sheet .amounts-are) less;

@@ -12,7 +12,7 @@ use Rattle.digits.proofs.Range.{sum-le, signs-low}
 use Rattle.sheet.specs.Sheet.{amount}
 use Rattle.methods.proofs.Payslips.{Pays, payslips-make, payslips-count}
 use Rattle.methods.proofs.Right.{Right, pays-right}
-use Rattle.straus.specs.Straus.{strausTable, strausDigits, digitVector, strausPayslip, straus, strausCount, strausCeiling, strausMethod}
+use Rattle.straus.specs.Straus.{strausTable, strausDigits, digitVector, strausPayslip, straus, strausCount, strausCeiling, strausMethod, strausMost}
 use Rattle.straus.proofs.Bases.{straus-table-count, straus-table-sound}
 use Rattle.straus.proofs.Payslip.{payslip-count, payslip-makes}
 
@@ -33,7 +33,7 @@ module _ (p q : ℕ) (amounts : List ℕ) (k : ℕ) (some : 1 ≤ k) where
       payslips-count (strausPayslip p amounts k) (strausTable p k) _ q (λ i h before. payslip-count p amounts k some i before)
       ∙ ap₂ _+_ (straus-table-count p k some) refl
 
-  module _ (few : k ≤ 5) (low : (j : ℕ) → getD amounts j 0 ≤ mostAmount) where
+  module _ (few : k ≤ strausMost) (low : (j : ℕ) → getD amounts j 0 ≤ mostAmount) where
     pays : Pays p mostAmount (strausTable p k) (amount p amounts) q (straus p q amounts k)
     unfolding straus
     pays =

@@ -12,13 +12,13 @@ use Rattle.products.specs.Inner.{stepsIn, StepsRoom, StepsStored}
 use Rattle.tables.specs.Table.{table}
 use Rattle.methods.specs.Inner.{Asked, ChainRoom, ChainStored}
 use Rattle.methods.proofs.Paying.{begin-room, payslips-room, chain-stored}
-use Rattle.straus.specs.Straus.{bases, strausTable, strausPayslip, straus, strausCount}
+use Rattle.straus.specs.Straus.{bases, strausTable, strausPayslip, straus, strausCount, strausMost, strausMostBits}
 use Rattle.straus.proofs.Bases.{length-bases}
 use Rattle.straus.proofs.Emitting.{payslip-begins}
 use Rattle.straus.proofs.Straus.{straus-count}
 
-module _ {p q : ℕ} {amounts : List ℕ} {k : ℕ} (asked : Asked 5 p q amounts k) (small : p * k ≤ 10) {inputs : List ℕ} (is : inputs ≡ bases p) where
-  size-low : k * length inputs ≤ 10
+module _ {p q : ℕ} {amounts : List ℕ} {k : ℕ} (asked : Asked strausMost p q amounts k) (small : p * k ≤ strausMostBits) {inputs : List ℕ} (is : inputs ≡ bases p) where
+  size-low : k * length inputs ≤ strausMostBits
   size-low = omega (arith, ap (λ (l : List ℕ). k * length l) is, ap (λ (n : ℕ). k * n) (length-bases p), mul-comm k p)
 
   pub table-size : k * length inputs < 32
@@ -26,7 +26,7 @@ module _ {p q : ℕ} {amounts : List ℕ} {k : ℕ} (asked : Asked 5 p q amounts
 
   pub table-numbers : p + 0 + 2 ^ (k * length inputs) < 2 ^ 32
   table-numbers =
-      let most : 2 ^ (k * length inputs) ≤ 2 ^ 10 = pow-mono {j = 10} size-low in
+      let most : 2 ^ (k * length inputs) ≤ 2 ^ strausMostBits = pow-mono {j = strausMostBits} size-low in
       omega (arith, asked .sheet .p-low)
 
   -- the table as it is emitted, before any other step

@@ -10,6 +10,13 @@ use Rattle.products.specs.Product.{Made, made, times, squared, payslips}
 use Rattle.tables.specs.Table.{entry, table}
 use Rattle.methods.specs.Method.{Method}
 
+-- "parameter k, 1 to 5, with p times k at most 10"
+abbrev pub strausMost : ℕ
+strausMost = 5
+
+abbrev pub strausMostBits : ℕ
+strausMostBits = 10
+
 -- the bases: values 1 to p
 abbrev pub bases : ℕ → List ℕ
 bases p = listTo p (λ c. c + 1)

@@ -6,10 +6,10 @@ ghost use Rattle.chain.specs.Chain.{mostColumns};
 ghost use Rattle.chain.specs.Written.{over};
 ghost use Rattle.digits.specs.Range.{orTo};
 ghost use Rattle.sheet.specs.Sheet.{amount};
-ghost use Rattle.products.specs.Product.{made, times, squared, payslips};
-ghost use Rattle.products.specs.Inner.{stepsIn, StepsRoom, Emitted};
+ghost use Rattle.products.specs.Product.{times, squared, payslips};
+ghost use Rattle.products.specs.Inner.{stepsIn, productIn, StepsRoom, Emitted};
 ghost use Rattle.methods.specs.Inner.{Asked, ChainRoom, ChainStored};
-ghost use Rattle.straus.specs.Straus.{bases, strausDigits, digitVector, strausPayslip, payslipCount, straus, strausCount};
+ghost use Rattle.straus.specs.Straus.{bases, strausDigits, digitVector, strausPayslip, payslipCount, straus, strausCount, strausMost, strausMostBits};
 ghost use Rattle.straus.specs.Inner.{PayslipAsked, payslipMost};
 use products::PartialProduct;
 
@@ -72,7 +72,7 @@ fn payslip_count(p: usize, amounts: &[u32], k: usize, i: usize) -> usize
 
 // The number of steps of the chain.
 pub fn count(p: usize, q: usize, amounts: &[u32], k: usize) -> usize
-    requires { ⌜ Asked 5 p q (now amounts) k × (p * k ≤ 10) ⌝ }
+    requires { ⌜ Asked strausMost p q (now amounts) k × (p * k ≤ strausMostBits) ⌝ }
     ensures { λ r. ⌜ r ≡ strausCount p q (now (amounts .entry)) k ⌝ }
 {
     let mut n = digits::power(p * k) as usize - p - 1;
@@ -86,8 +86,8 @@ pub fn count(p: usize, q: usize, amounts: &[u32], k: usize) -> usize
 
 // One digit more of a product: squared k times, then times value y.
 fn take_digit(p: usize, k: usize, m: PartialProduct, y: u32, steps: &mut [u32]) -> PartialProduct
-    requires { ⌜ StepsRoom p (now steps) (m .n) (times p (squared p k (made (stepsIn (now steps) (m .n)) (m .value))) y .steps) ⌝ }
-    ensures { λ r. ⌜ Emitted (now (steps .entry)) (now (steps .exit)) (r .n) (r .value) (times p (squared p k (made (stepsIn (now (steps .entry)) (m .n)) (m .value))) y) ⌝ }
+    requires { ⌜ StepsRoom p (now steps) (m .n) (times p (squared p k (productIn (now steps) m)) y .steps) ⌝ }
+    ensures { λ r. ⌜ Emitted (now (steps .entry)) (now (steps .exit)) (r .n) (r .value) (times p (squared p k (productIn (now (steps .entry)) m)) y) ⌝ }
 {
     let s = products::squared(p, k, m, steps);
     products::times(p, s, y, steps)
@@ -131,7 +131,7 @@ fn make_payslips(
     steps: &mut [u32],
     outputs: &mut [u32],
 )
-    requires { ⌜ Asked 5 p q (now amounts) k × (p * k ≤ 10) × (now inputs ≡ bases p) × (q ≤ length (now outputs)) ⌝ }
+    requires { ⌜ Asked strausMost p q (now amounts) k × (p * k ≤ strausMostBits) × (now inputs ≡ bases p) × (q ≤ length (now outputs)) ⌝ }
     requires { ⌜ StepsRoom p (now steps) n (payslips (strausPayslip p (now amounts) k) (stepsIn (now steps) n) q .steps) ⌝ }
     ensures { λ r. ⌜ ChainStored (now (steps .entry)) (now (outputs .entry)) (now (steps .exit)) (now (outputs .exit))
         (payslips (strausPayslip p (now (amounts .entry)) k) (stepsIn (now (steps .entry)) n) q) ⌝ }
@@ -156,7 +156,7 @@ fn make_chain(
     steps: &mut [u32],
     outputs: &mut [u32],
 )
-    requires { ⌜ Asked 5 p q (now amounts) k × (p * k ≤ 10) × (now inputs ≡ bases p) ⌝ }
+    requires { ⌜ Asked strausMost p q (now amounts) k × (p * k ≤ strausMostBits) × (now inputs ≡ bases p) ⌝ }
     requires { ⌜ ChainRoom q (strausCount p q (now amounts) k) (now steps) (now outputs) ⌝ }
     ensures { λ r. ⌜ ChainStored (now (steps .entry)) (now (outputs .entry)) (now (steps .exit)) (now (outputs .exit)) (straus p q (now (amounts .entry)) k) ⌝ }
 {
@@ -178,7 +178,7 @@ fn fill_bases(p: usize, cells: &mut [u32])
 
 // The chain: its steps, first and second in turn, and its outputs.
 pub fn emit(p: usize, q: usize, amounts: &[u32], k: usize, steps: &mut [u32], outputs: &mut [u32])
-    requires { ⌜ Asked 5 p q (now amounts) k × (p * k ≤ 10) ⌝ }
+    requires { ⌜ Asked strausMost p q (now amounts) k × (p * k ≤ strausMostBits) ⌝ }
     requires { ⌜ ChainRoom q (strausCount p q (now amounts) k) (now steps) (now outputs) ⌝ }
     ensures { λ r. ⌜ ChainStored (now (steps .entry)) (now (outputs .entry)) (now (steps .exit)) (now (outputs .exit)) (straus p q (now (amounts .entry)) k) ⌝ }
 {

@@ -15,7 +15,7 @@ use Rattle.digits.proofs.Range.{sum-on, max-on, sign-low, signs-low, max-low}
 use Rattle.digits.proofs.Vector.{digit-low}
 use Rattle.sheet.specs.Sheet.{amount}
 use Rattle.methods.specs.Powers.{largestIn}
-use Rattle.yao.specs.Yao.{yaoDigits, yaoSquarings, amountCount, payslipCount, yaoCount}
+use Rattle.yao.specs.Yao.{yaoDigits, yaoSquarings, amountCount, payslipCount, yaoCount, yaoMost}
 use Rattle.yao.specs.Inner.{squaringsMost, amountMost}
 
 -- the digits of a column
@@ -61,21 +61,21 @@ module _ (k x : ℕ) where
   pub most-on : (h j d r : ℕ) → d ≡ digit k x j → r ≡ max h d → h ≡ mostTo k x j → r ≡ mostTo k x (j + 1)
   most-on h j d r e f g = f ∙ max-on (λ i. digit k x i) j h d e g
 
-  few : (digits : ℕ) → 0 < k → k * digits ≤ 31 + k → k ≤ 8 → digits ≤ 40
+  few : (digits : ℕ) → 0 < k → k * digits ≤ 31 + k → k ≤ yaoMost → digits ≤ 40
   few digits some room small = omega (arith, mul-le-mul-right digits some, one-mul digits)
 
-  signs-fit : (digits j : ℕ) → 0 < k → k ≤ 8 → k * digits ≤ 31 + k → j ≤ digits → signsTo k x j ≤ 40
+  signs-fit : (digits j : ℕ) → 0 < k → k ≤ yaoMost → k * digits ≤ 31 + k → j ≤ digits → signsTo k x j ≤ 40
   signs-fit digits j some small room h = omega (arith, few digits some room small, signs-low j (λ i. digit k x i))
 
-  most-fits : (j : ℕ) → k ≤ 8 → mostTo k x j ≤ 255
+  most-fits : (j : ℕ) → k ≤ yaoMost → mostTo k x j ≤ 255
   most-fits j small =
-      let base : 2 ^ k ≤ 2 ^ 8 = pow-mono {j = 8} small in
+      let base : 2 ^ k ≤ 2 ^ yaoMost = pow-mono {j = yaoMost} small in
       max-low j (λ i. digit k x i) 255 (λ i g. omega (arith, digit-low k x i))
 
-  pub most-low : (j m : ℕ) → k ≤ 8 → m ≡ mostTo k x j → m < 256
+  pub most-low : (j m : ℕ) → k ≤ yaoMost → m ≡ mostTo k x j → m < 256
   most-low j m small e = omega (arith, most-fits j small)
 
-  module _ (digits j z : ℕ) (some : 0 < k) (small : k ≤ 8) (room : k * digits ≤ 31 + k) (h : j ≤ digits) (e : z ≡ signsTo k x j) where
+  module _ (digits j z : ℕ) (some : 0 < k) (small : k ≤ yaoMost) (room : k * digits ≤ 31 + k) (h : j ≤ digits) (e : z ≡ signsTo k x j) where
     pub next-fits : (d r : ℕ) → r ≡ sign d → z + r < 64
     next-fits d r f = omega (arith, signs-fit digits j some small room h, sign-low d)
 

@@ -14,7 +14,7 @@ use Rattle.products.proofs.Sound.{Begins, begins-own, begins-on, begins-rise}
 use Rattle.products.proofs.Product.{times-begins}
 use Rattle.products.proofs.Emitted.{stored-own, stored-room, emits-room, emits-on}
 use Rattle.methods.specs.Inner.{Asked}
-use Rattle.yao.specs.Yao.{yaoDigits, yaoSquarings, Sweep, yaoPayslip}
+use Rattle.yao.specs.Yao.{yaoDigits, yaoSquarings, Sweep, yaoPayslip, yaoMost}
 use Rattle.yao.specs.Inner.{Reach, sweepIn, joined, SweepEmitted, yaoSlip, squaringsMost}
 use Rattle.yao.specs.declared.Column.{Column}
 use Rattle.yao.proofs.Emitting.{sweep-begin}
@@ -100,7 +100,7 @@ first-on p q amounts k first c d r e f g =
     let n : ℕ = sumTo c (yaoSquarings p q amounts k) in
     omega (arith, sum-on (yaoSquarings p q amounts k) c n r (f ∙ ap (λ (y : ℕ). (y - 1) * k) e) refl)
 
-pub reaches : (col : Column) {q : ℕ} {amounts : List ℕ} → Asked 8 (col .p) q amounts (col .k) → col .k * col .digits ≤ 31 + col .k → col .c < col .p
+pub reaches : (col : Column) {q : ℕ} {amounts : List ℕ} → Asked yaoMost (col .p) q amounts (col .k) → col .k * col .digits ≤ 31 + col .k → col .c < col .p
     → col .first ≤ col .p + squaringsMost * col .c → Reach col
 reaches col asked few less low =
     let columns = asked .sheet .p-low in

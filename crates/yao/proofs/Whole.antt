@@ -10,13 +10,13 @@ use Rattle.products.specs.Inner.{stepsIn, StepsRoom, StepsStored}
 use Rattle.methods.specs.Powers.{countsOf, squarings}
 use Rattle.methods.specs.Inner.{Asked, ChainRoom, ChainStored}
 use Rattle.methods.proofs.Paying.{begin-room, payslips-room, chain-stored}
-use Rattle.yao.specs.Yao.{yaoSquarings, yao, yaoCount}
+use Rattle.yao.specs.Yao.{yaoSquarings, yao, yaoCount, yaoMost}
 use Rattle.yao.specs.Inner.{Measured, squaringsIn, yaoSlip}
 use Rattle.yao.proofs.Measuring.{squared-as}
 use Rattle.yao.proofs.Paying.{slip-begins}
 use Rattle.yao.proofs.Yao.{yao-count}
 
-module _ {p q : ℕ} {amounts : List ℕ} {k : ℕ} (asked : Asked 8 p q amounts k) {cells : List ℕ} (measured : Measured p q amounts k p cells) {counts : List ℕ}
+module _ {p q : ℕ} {amounts : List ℕ} {k : ℕ} (asked : Asked yaoMost p q amounts k) {cells : List ℕ} (measured : Measured p q amounts k p cells) {counts : List ℕ}
     (is : counts ≡ listTo p (squaringsIn k cells)) where
   abbrev Squared : List Step
   Squared = squarings p (countsOf counts) (length counts)

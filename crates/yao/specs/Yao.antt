@@ -12,6 +12,10 @@ use Rattle.products.specs.Product.{Made, made, times, payslips}
 use Rattle.methods.specs.Powers.{largestIn, squarings, powerOf}
 use Rattle.methods.specs.Method.{Method}
 
+-- "parameter k, 1 to 8"
+abbrev pub yaoMost : ℕ
+yaoMost = 8
+
 -- b times the power where the digit is d
 unfoldable pub gatherOne : ℕ → ℕ → ℕ → Made → ℕ → Made
 unfolding times

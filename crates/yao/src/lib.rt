@@ -5,10 +5,10 @@ ghost use lib.ListN.{length};
 ghost use Rattle.chain.specs.Chain.{mostColumns};
 ghost use Rattle.chain.specs.Written.{over};
 ghost use Rattle.digits.specs.Range.{sumTo, listTo};
-ghost use Rattle.products.specs.Product.{made, payslips};
-ghost use Rattle.products.specs.Inner.{stepsIn, StepsRoom, Emitted};
+ghost use Rattle.products.specs.Product.{payslips};
+ghost use Rattle.products.specs.Inner.{stepsIn, productIn, StepsRoom, Emitted};
 ghost use Rattle.methods.specs.Inner.{Asked, ChainRoom, ChainStored};
-ghost use Rattle.yao.specs.Yao.{yaoDigits, gatherOne, yaoPayslip, yao, amountCount, payslipCount, yaoCount};
+ghost use Rattle.yao.specs.Yao.{yaoDigits, gatherOne, yaoPayslip, yao, amountCount, payslipCount, yaoCount, yaoMost};
 ghost use Rattle.yao.specs.Inner.{Reach, gatherIn, sweepIn, joined, SweepEmitted, DigitsFew, Measured, squaringsIn, yaoSlip};
 ghost use Rattle.yao.specs.Inner.{squaringsMost, amountMost, payslipMost};
 use products::PartialProduct;
@@ -40,9 +40,9 @@ fn gather_one(
     power: u32,
     steps: &mut [u32],
 ) -> PartialProduct
-    requires { ⌜ StepsRoom p (now steps) (b .n) (gatherOne p digit d (made (stepsIn (now steps) (b .n)) (b .value)) power .steps) ⌝ }
+    requires { ⌜ StepsRoom p (now steps) (b .n) (gatherOne p digit d (productIn (now steps) b) power .steps) ⌝ }
     ensures { λ r. ⌜ Emitted (now (steps .entry)) (now (steps .exit)) (r .n) (r .value)
-        (gatherOne p digit d (made (stepsIn (now (steps .entry)) (b .n)) (b .value)) power) ⌝ }
+        (gatherOne p digit d (productIn (now (steps .entry)) b) power) ⌝ }
 {
     if digit == d {
         return products::times(p, b, power, steps);
@@ -53,9 +53,9 @@ fn gather_one(
 // b times each power whose digit is d, lowest first.
 fn gather_powers(column: Column, d: u32, b: PartialProduct, steps: &mut [u32]) -> PartialProduct
     requires { ⌜ Reach column ⌝ }
-    requires { ⌜ StepsRoom (column .p) (now steps) (b .n) (gatherIn column d (column .digits) (made (stepsIn (now steps) (b .n)) (b .value)) .steps) ⌝ }
+    requires { ⌜ StepsRoom (column .p) (now steps) (b .n) (gatherIn column d (column .digits) (productIn (now steps) b) .steps) ⌝ }
     ensures { λ r. ⌜ Emitted (now (steps .entry)) (now (steps .exit)) (r .n) (r .value)
-        (gatherIn column d (column .digits) (made (stepsIn (now (steps .entry)) (b .n)) (b .value))) ⌝ }
+        (gatherIn column d (column .digits) (productIn (now (steps .entry)) b)) ⌝ }
 {
     let mut r = b;
     let mut i: usize = 0;
@@ -117,7 +117,7 @@ fn column_digits(p: usize, q: usize, amounts: &[u32], k: usize, c: usize) -> usi
 
 // How many digits each column has: the one pass over the amounts before the payslips.
 fn measure_columns(p: usize, q: usize, amounts: &[u32], k: usize, columns: &mut [u32])
-    requires { ⌜ Asked 8 p q (now amounts) k × (p ≤ length (now columns)) ⌝ }
+    requires { ⌜ Asked yaoMost p q (now amounts) k × (p ≤ length (now columns)) ⌝ }
     ensures { λ r. ⌜ Measured p q (now (amounts .entry)) k p (now (columns .exit)) ⌝ }
 {
     let mut c: usize = 0;
@@ -154,7 +154,7 @@ fn squaring_count(p: usize, k: usize, columns: &[u32]) -> usize
 
 // The steps of an amount x in a column of so many digits.
 fn amount_count(k: usize, digits: usize, x: u32) -> usize
-    requires { ⌜ (0 < k) × (k ≤ 8) × (k * digits ≤ 31 + k) ⌝ }
+    requires { ⌜ (0 < k) × (k ≤ yaoMost) × (k * digits ≤ 31 + k) ⌝ }
     ensures { λ r. ⌜ (r ≡ amountCount k digits x) × (r ≤ amountMost) ⌝ }
 {
     let mut z: usize = 0;
@@ -175,7 +175,7 @@ fn amount_count(k: usize, digits: usize, x: u32) -> usize
 
 // The steps of payslip i.
 fn payslip_count(p: usize, q: usize, amounts: &[u32], k: usize, columns: &[u32], i: usize) -> usize
-    requires { ⌜ Asked 8 p q (now amounts) k × (i < q) × Measured p q (now amounts) k p (now columns) ⌝ }
+    requires { ⌜ Asked yaoMost p q (now amounts) k × (i < q) × Measured p q (now amounts) k p (now columns) ⌝ }
     ensures { λ r. ⌜ (r ≡ payslipCount p q (now (amounts .entry)) k i) × (r ≤ payslipMost) ⌝ }
 {
     let mut n: usize = 0;
@@ -196,7 +196,7 @@ fn payslip_count(p: usize, q: usize, amounts: &[u32], k: usize, columns: &[u32],
 
 // The squarings, and the steps of the payslips.
 fn chain_count(p: usize, q: usize, amounts: &[u32], k: usize, columns: &[u32]) -> usize
-    requires { ⌜ Asked 8 p q (now amounts) k × Measured p q (now amounts) k p (now columns) ⌝ }
+    requires { ⌜ Asked yaoMost p q (now amounts) k × Measured p q (now amounts) k p (now columns) ⌝ }
     ensures { λ r. ⌜ r ≡ yaoCount p q (now (amounts .entry)) k ⌝ }
 {
     let mut n = squaring_count(p, k, columns);
@@ -210,7 +210,7 @@ fn chain_count(p: usize, q: usize, amounts: &[u32], k: usize, columns: &[u32]) -
 
 // The number of steps of the chain.
 pub fn count(p: usize, q: usize, amounts: &[u32], k: usize) -> usize
-    requires { ⌜ Asked 8 p q (now amounts) k ⌝ }
+    requires { ⌜ Asked yaoMost p q (now amounts) k ⌝ }
     ensures { λ r. ⌜ r ≡ yaoCount p q (now (amounts .entry)) k ⌝ }
 {
     let mut columns = [0u32; chain::MOST_COLUMNS];
@@ -233,9 +233,9 @@ fn all_squarings(p: usize, k: usize, columns: &[u32], counts: &mut [u32])
 // The product times the power x of a column's base.
 fn join_column(column: Column, m: PartialProduct, steps: &mut [u32]) -> PartialProduct
     requires { ⌜ Reach column ⌝ }
-    requires { ⌜ StepsRoom (column .p) (now steps) (m .n) (joined column (made (stepsIn (now steps) (m .n)) (m .value)) .steps) ⌝ }
+    requires { ⌜ StepsRoom (column .p) (now steps) (m .n) (joined column (productIn (now steps) m) .steps) ⌝ }
     ensures { λ r. ⌜ Emitted (now (steps .entry)) (now (steps .exit)) (r .n) (r .value)
-        (joined column (made (stepsIn (now (steps .entry)) (m .n)) (m .value))) ⌝ }
+        (joined column (productIn (now (steps .entry)) m)) ⌝ }
 {
     let n = m.n;
     let v = m.value;
@@ -254,7 +254,7 @@ fn make_payslip(
     n: usize,
     steps: &mut [u32],
 ) -> PartialProduct
-    requires { ⌜ Asked 8 p q (now amounts) k × (i < q) × Measured p q (now amounts) k p (now columns) ⌝ }
+    requires { ⌜ Asked yaoMost p q (now amounts) k × (i < q) × Measured p q (now amounts) k p (now columns) ⌝ }
     requires { ⌜ StepsRoom p (now steps) n (yaoPayslip p q (now amounts) k i (stepsIn (now steps) n) p .steps) ⌝ }
     ensures { λ r. ⌜ Emitted (now (steps .entry)) (now (steps .exit)) (r .n) (r .value)
         (yaoPayslip p q (now (amounts .entry)) k i (stepsIn (now (steps .entry)) n) p) ⌝ }
@@ -290,7 +290,7 @@ fn make_payslips(
     steps: &mut [u32],
     outputs: &mut [u32],
 )
-    requires { ⌜ Asked 8 p q (now amounts) k × Measured p q (now amounts) k p (now columns) × (q ≤ length (now outputs)) ⌝ }
+    requires { ⌜ Asked yaoMost p q (now amounts) k × Measured p q (now amounts) k p (now columns) × (q ≤ length (now outputs)) ⌝ }
     requires { ⌜ StepsRoom p (now steps) n (payslips (yaoSlip p q (now amounts) k) (stepsIn (now steps) n) q .steps) ⌝ }
     ensures { λ r. ⌜ ChainStored (now (steps .entry)) (now (outputs .entry)) (now (steps .exit)) (now (outputs .exit))
         (payslips (yaoSlip p q (now (amounts .entry)) k) (stepsIn (now (steps .entry)) n) q) ⌝ }
@@ -316,7 +316,7 @@ fn make_chain(
     steps: &mut [u32],
     outputs: &mut [u32],
 )
-    requires { ⌜ Asked 8 p q (now amounts) k × Measured p q (now amounts) k p (now columns) × (now counts ≡ listTo p (squaringsIn k (now columns))) ⌝ }
+    requires { ⌜ Asked yaoMost p q (now amounts) k × Measured p q (now amounts) k p (now columns) × (now counts ≡ listTo p (squaringsIn k (now columns))) ⌝ }
     requires { ⌜ ChainRoom q (yaoCount p q (now amounts) k) (now steps) (now outputs) ⌝ }
     ensures { λ r. ⌜ ChainStored (now (steps .entry)) (now (outputs .entry)) (now (steps .exit)) (now (outputs .exit)) (yao p q (now (amounts .entry)) k) ⌝ }
 {
@@ -326,7 +326,7 @@ fn make_chain(
 
 // The chain: its steps, first and second in turn, and its outputs.
 pub fn emit(p: usize, q: usize, amounts: &[u32], k: usize, steps: &mut [u32], outputs: &mut [u32])
-    requires { ⌜ Asked 8 p q (now amounts) k ⌝ }
+    requires { ⌜ Asked yaoMost p q (now amounts) k ⌝ }
     requires { ⌜ ChainRoom q (yaoCount p q (now amounts) k) (now steps) (now outputs) ⌝ }
     ensures { λ r. ⌜ ChainStored (now (steps .entry)) (now (outputs .entry)) (now (steps .exit)) (now (outputs .exit)) (yao p q (now (amounts .entry)) k) ⌝ }
 {

@@ -34,10 +34,7 @@ emit-requires-2 c κs =
 emit-requires-3 : tie.Need-emit-requires-3
 emit-requires-3 c κs =
     let s = c .before .before .before .before .before .before in
-    let asked = other-asks (given s .ranges) (λ e. omega arith) in
-    let r = room s _ (is-partition _ _ _ _ _ (λ e. omega arith) (λ e. omega arith)) in
-    let sheet = asked .sheet in
-    ((sheet .p-some, sheet .p-low, sheet .q-low, sheet .amounts-are, asked .k-some, asked .k-low), (r .short, r .steps-fit, r .outputs-fit))
+    (other-asks (given s .ranges) (λ e. omega arith), room s _ (is-partition _ _ _ _ _ (λ e. omega arith) (λ e. omega arith)))
 
 same-length : tie.Need-same-length
 same-length c = search needs
@@ -65,8 +62,7 @@ same-length-6 c = search needs
 
 returns-3 : tie.Need-returns-3
 returns-3 c =
-    let e = c .before .before .before .before .emit3 .ensures in
-    emitted (is-partition _ _ _ _ _ (λ e. omega arith) (λ e. omega arith)) (record { steps-are = e .0; outputs-are = e .1 })
+    emitted (is-partition _ _ _ _ _ (λ e. omega arith) (λ e. omega arith)) (c .before .before .before .before .emit3 .ensures)
 
 pub emit-spec : {M : Type 1} → statement M
 emit-spec =

@@ -18,10 +18,7 @@ count-requires-2 : tie.Need-count-requires-2
 count-requires-2 c κs = other-asks (given (c .before .before)) (λ e. omega arith)
 
 count-requires-3 : tie.Need-count-requires-3
-count-requires-3 c κs =
-    let asked = other-asks (given (c .before .before)) (λ e. omega arith) in
-    let sheet = asked .sheet in
-    (sheet .p-some, sheet .p-low, sheet .q-low, sheet .amounts-are, asked .k-some, asked .k-low)
+count-requires-3 c κs = other-asks (given (c .before .before)) (λ e. omega arith)
 
 returns : tie.Need-returns
 returns c = c .count .ensures ∙ sym (same-count (is-straus _ _ _ _ _ (omega arith)))

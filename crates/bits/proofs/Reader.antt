@@ -1,6 +1,6 @@
 -- A call of `BitReader::take` as one step of a walk by hand: what the bytes own goes in with the reader and comes back, and the machine value is that of the field read.
 --     reader-own, reader-bytes     what the bytes own is what a reader of them owns, at any position, and back
---     takes          the call, as a step: the machine value handed back is that of the field and of the reader past it, and the lifetime's token and what the bytes own are still there
+--     takes          the call, as a step: the machine value is that of the field and of the reader past it; the lifetime's token and what the bytes own are still there
 use mathlib.Core.Path.{_≡_, refl, sym, ap, ap₂, subst, _∙_}
 use mathlib.Core.List.{List, [], _∷_}
 use Prim.Native.Nat.{ℕ, _+_, _<_, _^_}

@@ -6,7 +6,6 @@ use native.Mathlib.Omega.{arith}
 use lib.ListN.{length, getD}
 use Rattle.chain.specs.Verdict.{fine}
 use Rattle.chain.specs.Chain.{Chain, mostAmount, mostSteps, Legal, pick}
-use Rattle.chain.specs.declared.Step.{Step}
 use Rattle.chain.proofs.Rules.{pass, refuse-no, or-none, lt-no}
 use Rattle.chain.proofs.Sizes.{Sizes}
 use Rattle.chain.proofs.Outputs.{outputs-low}

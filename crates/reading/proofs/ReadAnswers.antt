@@ -1,14 +1,14 @@
 -- The read rule is the header's rules and then the body's, by the extent that the header gives; each judge's verdict decides its half, and the lists read are the chain's.
 use mathlib.Core.Path.{_≡_, refl, sym, ap, _∙_, subst}
 use mathlib.Core.List.{List, [], _∷_}
-use Prim.Native.Nat.{ℕ, _+_, _-_, _*_, _/_, _^_, _≤_, _<_}
+use Prim.Native.Nat.{ℕ, _+_, _-_, _*_, _/_, _≤_, _<_}
 use native.Mathlib.Omega.{arith}
 use lib.ListN.{length}
 use Rattle.chain.specs.Tests.{_<?_, _≠?_, _or_}
 use Rattle.chain.specs.Verdict.{Verdict, fine, refused, _then_, refuseIf, Answer, done, refusal, answer, onFine}
 use Rattle.chain.specs.Judgement.{verdictOf}
 use Rattle.chain.specs.Written.{over}
-use Rattle.chain.specs.Chain.{pairs, flat, lengthRule, stepsRule, outputsRule, chainRule}
+use Rattle.chain.specs.Chain.{flat, lengthRule, stepsRule, outputsRule, chainRule}
 use Rattle.chain.specs.declared.Judgement.{Judgement}
 use Rattle.chain.specs.declared.Judgement.the-variants as judged
 use Rattle.chain.proofs.Rules.{stop, pass, then-fine, then-assoc, refuseIf-fine, neither, not-lt, not-ne, told-fine, told-refused, answer-refused}

@@ -1,7 +1,7 @@
 -- The write rule is two rules in a row, the shape's and the rest's, each judged by one call; whichever refuses first is the answer, and else the file is over the bytes.
 use mathlib.Core.Path.{_≡_, refl, sym, ap, _∙_}
 use mathlib.Core.List.{List, [], _∷_}
-use Prim.Native.Nat.{ℕ, _/_, _≤_}
+use Prim.Native.Nat.{ℕ, _/_}
 use lib.ListN.{length}
 use Rattle.chain.specs.Tests.{_<?_}
 use Rattle.chain.specs.Verdict.{Verdict, fine, refused, _then_, refuseIf, done, refusal}

@@ -1,5 +1,6 @@
 -- A walk by hand, with a loop: i steps are passed and stand over the front of the cells; both borrows are opened before the loop and closed after it.
---     At i         what is held at the loop's head: i steps are passed.        more, ends      a turn that passes one step, and the turn that leaves the loop, with the rest of the body
+--     At i         what is held at the loop's head: i steps are passed
+--     more, ends   a turn that passes one step, and the turn that leaves the loop, with the rest of the body
 use borrow.Author.Tests.{ltb-true, ltb-false}
 use mathlib.Core.Path.{_≡_, refl, sym, ap, _∙_, subst}
 use mathlib.Core.Bool.{Bool, true, false}
@@ -162,7 +163,8 @@ module _ {M : Type 1} (𝓤 : URA M) (H : Heap 𝓤) (A : Atoms 𝓤) (W : Given
       Λ = 𝓣 .Λ
 
       abbrev En : Env 𝓤 H
-      En = (word, l₀) ∷ (slice₁, l₁) ∷ (slice₂, l₂) ∷ (word, l₃) ∷ (word, l₄) ∷ (word, l₅) ∷ (T′.mir, l₆) ∷ (word, l₇) ∷ (word, l₈) ∷ (tyBool, l₉) ∷ (word, l₁₀) ∷ (tyPtr, l₁₁) ∷ (T′.mir, l₁₂) ∷ (tyPtr, l₁₃) ∷ (tyPtr, l₁₄) ∷ []
+      En = (word, l₀) ∷ (slice₁, l₁) ∷ (slice₂, l₂) ∷ (word, l₃) ∷ (word, l₄) ∷ (word, l₅) ∷ (T′.mir, l₆) ∷ (word, l₇) ∷ (word, l₈)
+          ∷ (tyBool, l₉) ∷ (word, l₁₀) ∷ (tyPtr, l₁₁) ∷ (T′.mir, l₁₂) ∷ (tyPtr, l₁₃) ∷ (tyPtr, l₁₄) ∷ []
 
       -- 0 cells's elements; 1 steps's; 2 i; 3 at; 4 s; 5 to 10 the turn's temporaries; 11 steps; 12 cells; 13 n; 14 the result; 15 and 16 the temporaries of the call;
       -- 17 to 20 steps's open borrow and what it owns; 21 to 23 cells's open borrow; and that each local dies
@@ -176,7 +178,8 @@ module _ {M : Type 1} (𝓤 : URA M) (H : Heap 𝓤) (A : Atoms 𝓤) (W : Given
           (λ s. arr-parts (shares R) (length ys) .part s ys b o)) ∷ ‵ (fres γ (codedHoleys R .code (heres R ys))) ∷ ‵ (at-slice R (x .0) (at .0))
           ∷ ‵ (fobor κ₂ q₂ (Held u32 (length zs) b₂ o₂ γ₂)) ∷ ‵ (fobs γ₂ (codedHoleys u32 .code (heres u32 zs))) ∷ ‵ (fauth γ₂
           (codedHoleys u32 .code (heres u32 zs)))
-          ∷ ‵ (fdies word l₀) ∷ ‵ (fdies slice₁ l₁) ∷ ‵ (fdies slice₂ l₂) ∷ ‵ (fdies word l₃) ∷ ‵ (fdies word l₄) ∷ ‵ (fdies word l₅) ∷ ‵ (fdies T′.mir l₆) ∷ ‵ (fdies word l₇) ∷ ‵ (fdies word l₈)
+          ∷ ‵ (fdies word l₀) ∷ ‵ (fdies slice₁ l₁) ∷ ‵ (fdies slice₂ l₂) ∷ ‵ (fdies word l₃) ∷ ‵ (fdies word l₄) ∷ ‵ (fdies word l₅)
+          ∷ ‵ (fdies T′.mir l₆) ∷ ‵ (fdies word l₇) ∷ ‵ (fdies word l₈)
           ∷ ‵ (fdies tyBool l₉) ∷ ‵ (fdies word l₁₀) ∷ ‵ (fdies tyPtr l₁₁) ∷ ‵ (fdies T′.mir l₁₂) ∷ ‵ (fdies tyPtr l₁₃) ∷ ‵ (fdies tyPtr l₁₄) ∷ []
 
       -- a turn ends nearer to k, or the loop is left and the rest of the body runs
@@ -357,7 +360,8 @@ module _ {M : Type 1} (𝓤 : URA M) (H : Heap 𝓤) (A : Atoms 𝓤) (W : Given
       move ! (9 ∷ 5 ∷ []) $ looks-slice ! tt R (Is R) (shows 𝓤 H A R) (LL.vals T.the-type T′.the-laws) (LL.tells T.the-type T′.the-laws)
       (LL.copy T.the-type T′.the-copy 𝓤 H A W) ys b o (λ q′.
       rewrite ! 3 (λ (l : List ℕ). ‵ (row u32 fullShare l b₂ o₂)) (flattened-none ys zs) refl $
-      keep ! (3 ∷ 0 ∷ 32 ∷ 30 ∷ 28 ∷ 20 ∷ 22 ∷ 18 ∷ 16 ∷ 14 ∷ 12 ∷ 38 ∷ 36 ∷ 34 ∷ 40 ∷ 26 ∷ 24 ∷ 1 ∷ 2 ∷ 10 ∷ 11 ∷ 4 ∷ 5 ∷ 6 ∷ 41 ∷ 39 ∷ 37 ∷ 35 ∷ 33 ∷ 31 ∷ 29 ∷ 27 ∷ 25 ∷ 23 ∷ 21 ∷ 19 ∷ 17 ∷ 15 ∷ 13 ∷ []) $
+      keep ! (3 ∷ 0 ∷ 32 ∷ 30 ∷ 28 ∷ 20 ∷ 22 ∷ 18 ∷ 16 ∷ 14 ∷ 12 ∷ 38 ∷ 36 ∷ 34 ∷ 40 ∷ 26 ∷ 24 ∷ 1 ∷ 2 ∷ 10 ∷ 11 ∷ 4 ∷ 5 ∷ 6 ∷
+      41 ∷ 39 ∷ 37 ∷ 35 ∷ 33 ∷ 31 ∷ 29 ∷ 27 ∷ 25 ∷ 23 ∷ 21 ∷ 19 ∷ 17 ∷ 15 ∷ 13 ∷ []) $
       first ! $ blocks ! $ loops ! 𝓣 (Nearer k (is .1) count) (Nearer-wf k (is .1) count)
       (At k (is .1) count 𝓣 q′ l₀ l₁ l₂ l₃ l₄ l₅ l₆ l₇ l₈ l₉ l₁₀ l₁₁ l₁₂ l₁₃ l₁₄)
       (turns k (is .1) count 𝓣 q′ l₀ l₁ l₂ l₃ l₄ l₅ l₆ l₇ l₈ l₉ l₁₀ l₁₁ l₁₂ l₁₃ l₁₄) (0, zero-le)))))))))))))))))))))

@@ -1,5 +1,5 @@
 -- A walk by hand: a local array is lent to `flatten_some` and then to `run_front`, and what the front answers is what the whole would answer (`TooLong`).
--- What `outputs`, `m`, `bases`, `values` and `figures` own is passed on to `run_front` as it came, and not needed after. All that the proof knows of the two callees is their contracts.
+-- What the other parameters own is passed on to `run_front` as it came. All that the proof knows of the two callees is their contracts.
 use mathlib.Core.Path.{_≡_, refl, sym, ap, _∙_}
 use mathlib.Core.List.{List, [], _∷_}
 use Prim.Native.Nat.{ℕ, _*_, _≤_, _<_, _^_}
@@ -214,7 +214,7 @@ module _ {M : Type 1} (𝓤 : URA M) (H : Heap 𝓤) (A : Atoms 𝓤) (W : Given
         move ! (2 ∷ []) $ split ! $ move ! (1 ∷ []) $ peeks ! usize (Is usize) (shows 𝓤 H A usize) n (w ∷ []) (λ is.
         land ! (from ! (stop !)) (init ! 21 refl (uint-lawful 𝓤 H A W w64 .typed n _ is .0)) $
         rewrite ! 21 (λ (u : Val). ‵ (fat fullShare (tyInt w64) l₉ 0 u)) (ap only (is .0)) refl $ dropᴷ ! $
-        -- [the tokens; the last list; true; the lender's part; _17; …]: the lifetime is ended, and the array is lent as a `&` slice for another, at the list that `flatten_some` left
+        -- [the tokens; the last list; true; the lender's part; _17; …]: the lifetime is ended, and the array is lent as a `&` slice for another
         split ! $ move ! (1 ∷ []) $ split ! $ lft-end ! tt $ lft-new ! tt (λ ν₂. move ! (1 ∷ 6 ∷ 4 ∷ []) $
         use3 W (later (some (λ (δ₂ : GName). ‵ (ShrSlice (named 0) (ν₂ ∷ []) u32 .own (arraySlice l₈ δ₂ (ws .1 .0))
         (sliceOf l₈ (ws .1 .0))) ⊛ ‵ (flent (ν₂ ∷ []) (Elements l₈ (ws .1 .0))))))
@@ -245,7 +245,8 @@ module _ {M : Type 1} (𝓤 : URA M) (H : Heap 𝓤) (A : Atoms 𝓤) (W : Given
         (and-then ! (load ! (from ! (stop !)) (look ! 9 refl)) (and-then ! (load ! (from ! (stop !)) (look ! 5 refl)) (no-more !))))))))) (λ w₂.
         use1 W (later (some (λ (r : Ran). ((‵ (flft (ν₂ ∷ []) fullShare) ⊛ Tokens) ⊛ ‵ (E.the-row .own r (w₂ ∷ []))) ⊛ raw (ensured 𝓤 H A front.ended
         (front.clauses 𝓤 H A at-mem run) (ν₂ ∷ [], (κ₁, (κ₂, (κ₃, (κ₄, tt))))) (given-front l₈ n (ws .1 .0) ν₂ δ₂) tt r)))) (id⊢ 𝓤 _) $ await ! tt $ pick ! (λ r.
-        split ! $ move ! (1 ∷ []) $ use1 W (some (λ (us : Unit {0} × (Unit {0} × (Unit {0} × (Unit {0} × (Unit {0} × (Unit {0} × (List ℕ × (List ℕ × Unit {0})))))))). ‵ (lasts front.ended (ν₂ ∷ [], (κ₁, (κ₂, (κ₃, (κ₄, tt))))) (given-front l₈ n (ws .1 .0) ν₂ δ₂) us)
+        split ! $ move ! (1 ∷ []) $ use1 W (some (λ (us : Unit {0} × (Unit {0} × (Unit {0} × (Unit {0} × (Unit {0} × (Unit {0} × (List ℕ × (List ℕ × Unit {0})))))))).
+        ‵ (lasts front.ended (ν₂ ∷ [], (κ₁, (κ₂, (κ₃, (κ₄, tt))))) (given-front l₈ n (ws .1 .0) ν₂ δ₂) us)
         ⊛ raw (fact 𝓤 (Answered (pairs (take (2 * n) (ws .1 .0))) r)) ⊛ raw (fact 𝓤
         (Valued (pairs (take (2 * n) (ws .1 .0))) (us .1 .1 .1 .1 .1 .1 .0))) ⊛ raw (fact 𝓤
         (Figured (pairs (take (2 * n) (ws .1 .0))) (us .1 .1 .1 .1 .1 .1 .1 .0))))) (id⊢ 𝓤 _) $ pick ! (λ us.

@@ -201,7 +201,7 @@ module _ {M : Type 1} (𝓤 : URA M) (H : Heap 𝓤) (A : Atoms 𝓤) (W : Given
         move ! (2 ∷ []) $ split ! $ move ! (1 ∷ []) $ peeks ! usize (Is usize) (shows 𝓤 H A usize) n (w ∷ []) (λ is.
         land ! (from ! (stop !)) (init ! 17 refl (uint-lawful 𝓤 H A W w64 .typed n _ is .0)) $
         rewrite ! 17 (λ (u : Val). ‵ (fat fullShare (tyInt w64) l₇ 0 u)) (ap only (is .0)) refl $ dropᴷ ! $
-        -- [the tokens; the last list; true; the lender's part; _13; …]: the lifetime is ended, and the array is lent as a `&` slice for another, at the list that `flatten_some` left
+        -- [the tokens; the last list; true; the lender's part; _13; …]: the lifetime is ended, and the array is lent as a `&` slice for another
         split ! $ move ! (1 ∷ []) $ split ! $ lft-end ! tt $ lft-new ! tt (λ ν₂. move ! (1 ∷ 6 ∷ 4 ∷ []) $
         use3 W (later (some (λ (δ₂ : GName). ‵ (ShrSlice (named 0) (ν₂ ∷ []) u32 .own (arraySlice l₆ δ₂ (ws .1 .0))
         (sliceOf l₆ (ws .1 .0))) ⊛ ‵ (flent (ν₂ ∷ []) (Elements l₆ (ws .1 .0))))))
@@ -227,7 +227,8 @@ module _ {M : Type 1} (𝓤 : URA M) (H : Heap 𝓤) (A : Atoms 𝓤) (W : Given
         use1 W (later (some (λ (r : Verified). ((‵ (flft (ν₂ ∷ []) fullShare) ⊛ Tokens) ⊛ ‵ (E.the-row .own r
         (w₂ ∷ []))) ⊛ raw (ensured 𝓤 H A front.ended (front.clauses 𝓤 H A at-mem run) (ν₂ ∷ [], (κ₁, (κ₂, (κ₃, tt))))
         (given-front l₆ n (ws .1 .0) ν₂ δ₂) tt r)))) (id⊢ 𝓤 _) $ await ! tt $ pick ! (λ r.
-        split ! $ move ! (1 ∷ []) $ use1 W (some (λ (us : Unit {0} × (Unit {0} × (Unit {0} × (Unit {0} × (Unit {0} × (List ℕ × Unit {0})))))). ‵ (lasts front.ended (ν₂ ∷ [], (κ₁, (κ₂, (κ₃, tt)))) (given-front l₆ n (ws .1 .0) ν₂ δ₂) us)
+        split ! $ move ! (1 ∷ []) $ use1 W (some (λ (us : Unit {0} × (Unit {0} × (Unit {0} × (Unit {0} × (Unit {0} × (List ℕ × Unit {0})))))).
+        ‵ (lasts front.ended (ν₂ ∷ [], (κ₁, (κ₂, (κ₃, tt)))) (given-front l₆ n (ws .1 .0) ν₂ δ₂) us)
         ⊛ raw (fact 𝓤 (Answered (pairs (take (2 * n) (ws .1 .0))) r)) ⊛ raw (fact 𝓤
         (Scratched (pairs (take (2 * n) (ws .1 .0))) (us .1 .1 .1 .1 .1 .0))))) (id⊢ 𝓤 _) $ pick ! (λ us.
         split ! $ move ! (1 ∷ []) $ split ! $ heard ! (Answered (pairs (take (2 * n) (ws .1 .0))) r)

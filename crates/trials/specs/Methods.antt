@@ -3,8 +3,8 @@
 use mathlib.Core.List.{List, [], _∷_, _++_}
 use Prim.Native.Nat.{ℕ, zero, suc, _-_, _<_}
 use lib.ListN.{length, getD, drop}
-use Rattle.chain.specs.Chain.{Chain, flat, stepsRule}
-use Rattle.run.specs.Run.{residues, pick}
+use Rattle.chain.specs.Chain.{Chain, flat, pick, stepsRule}
+use Rattle.run.specs.Run.{residues}
 use Rattle.straus.specs.Straus.{strausTable}
 use Rattle.compile.specs.Compile.{chainOf, count, ceiling, acceptedRule}
 use Rattle.trials.specs.Rows.{Row, _gives_, Holds, rows-hold, verdict, definitions}

@@ -9,22 +9,24 @@ use native.Mathlib.Nat.{not-suc-le-zero, le-of-suc-le-suc}
 use Rattle.chain.specs.Tests.{_<?_, _≤?_, _=?_, _≠?_, _or_}
 use Rattle.chain.specs.Verdict.{Verdict, fine, refused, _then_, refuseIf, refuseAt, Answer, done, refusal, answer, onFine}
 use Rattle.chain.specs.Written.{over}
-use Rattle.chain.specs.Chain.{sizesRule, lengthRule, stepRule, chainRule, legalRule, exponents}
+use Rattle.chain.specs.Chain.{sizesRule, lengthRule, shapeRule, stepRule, chainRule, legalRule, exponents}
 use Rattle.sheet.specs.Sheet.{amountsRule, sheetRule}
 use Rattle.digits.specs.Digits.{digitCount, bitLength}
 use Rattle.residue.specs.Residue.{figure}
 use Rattle.verify.specs.Verify.{overOr, otherOr, exponentsRule, payslipsRule, fittingRule, verifyRule, verifyAnswer, verifyScratch}
 use Rattle.run.specs.Run.{residues, runRule, runAnswer, runValues, runFigures}
 use Rattle.bits.specs.Bits.{bits, fields, value, bytesBits, front, pack, fieldsAt}
-use Rattle.layout.specs.File.{fileBits, fileOf, writeRule, writeAnswer, writeBytes, stepsOf, outputsOf, readRule, readAnswer, readSteps, readOutputs}
+use Rattle.layout.specs.File.{fileBits, fileOf, heldRule, writeRule, writeAnswer, writeBytes, stepsOf, outputsOf, readRule, readAnswer, readSteps, readOutputs}
 use Rattle.products.specs.Product.{times}
 use Rattle.tables.specs.Table.{entry, tableNext}
 use Rattle.straus.specs.Straus.{strausDigits, straus, strausCount, strausCeiling}
 use Rattle.yao.specs.Yao.{yaoDigits, gatherOne, yao, yaoCount, yaoCeiling}
-use Rattle.partition.specs.Partition.{columnBits, inputs, selection, partition, partitionCount, partitionCeiling}
+use Rattle.groups.specs.Groups.{columnBits, inputs, selection}
+use Rattle.partition.specs.Partition.{partition, partitionCount, partitionCeiling}
 use Rattle.compile.specs.Compile.{methodRule, methodOf, acceptedRule, compileRule, compileAnswer, compileSteps, compileOutputs}
 use Rattle.choose.specs.Choose.{Choice, first, second, neither, fileRule, better, unless, chooseRule, choice}
-use Rattle.listing.specs.Listing.{decimal, lineOf, listingRule, chainText, refusedText, textFor, listing}
+use Rattle.decimal.specs.Decimal.{decimal}
+use Rattle.listing.specs.Listing.{lineOf, listingRule, chainText, refusedText, textFor, listing}
 
 pub record Row : Type 0 where
   pub got : List ℕ

@@ -4,8 +4,8 @@ use mathlib.Core.Path.{sym}
 use native.Mathlib.Omega.{arith}
 use lib.Seq.{length-take-le}
 use denote.Ref.{now}
-use Rattle.reading.proofs.Told.{ChainTaken, taken}
 use Rattle.layout.specs.Layout.{edition1}
+use Rattle.reading.proofs.Told.{ChainTaken, taken}
 use Rattle.runner.proofs.run_file.Statement.{statement}
 use Rattle.runner.proofs.run_file.Tie as tie
 

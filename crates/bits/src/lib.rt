@@ -4,7 +4,7 @@ ghost use Prim.Native.Nat.{_+_, _*_, _%_, _^_, _≤_, _<_};
 ghost use lib.ListN.{length, take, getD};
 ghost use Rattle.chain.specs.Written.{laid};
 ghost use Rattle.bits.specs.Bits.{bits};
-ghost use Rattle.bits.specs.Inner.{spread, Gathered, FieldRoom, FieldTaken, FieldFill, FieldStored};
+ghost use Rattle.bits.specs.Inner.{spread, WordAt, FieldRoom, FieldTaken, FieldFill, FieldStored};
 
 // A bit position of a file.
 pub struct Cursor {
@@ -52,7 +52,7 @@ fn byte_or_zero(file: &[u8], i: usize) -> u64
 // The four bytes from i on as one number. Where all are there, they are read as one word.
 fn gather(file: &[u8], i: usize) -> u64
     requires { ⌜ i ≤ length (now file) ⌝ }
-    ensures { λ r. ⌜ Gathered (now (file .entry)) i r ⌝ }
+    ensures { λ r. ⌜ WordAt (now (file .entry)) i r ⌝ }
 {
     if i + 4 <= file.len() {
         let a = byte(file, i);

@@ -17,7 +17,7 @@ use Rattle.bits.proofs.Filed.{filled}
 use Rattle.layout.specs.declared.Layout.{Layout}
 use Rattle.layout.specs.File.{headerBits, headerSize, width, fileBits, fileOf, bitCount, byteCount, columnsOf, payslipsOf, lengthOf, widthOf}
 use Rattle.layout.specs.File.{stepsOf, outputsOf, Held, readRule}
-use Rattle.layout.specs.Inner.{Sound}
+use Rattle.layout.specs.Inner.{SoundLayout}
 use Rattle.layout.proofs.Lengths.{count-parts}
 use Rattle.layout.proofs.Held.{HeldChain, parts-held}
 use Rattle.layout.proofs.Readable.{Readable, readable, columns-low, payslips-low}
@@ -54,7 +54,7 @@ module _ (L : Layout) (bytes : List ℕ) where
   join : (a b : List Bool) (i k : ℕ) → a ≡ take i x → b ≡ take k (drop i x) → a ++ b ≡ take (i + k) x
   join a b i k ea eb = ap₂ (λ (u v : List Bool). u ++ v) ea eb ∙ sym (take-add i k x)
 
-  module _ (sound : Sound L) (y z : ℕ) (r : Readable L bytes y z) where
+  module _ (sound : SoundLayout L) (y z : ℕ) (r : Readable L bytes y z) where
     header-is : headerBits L p q n ≡ take (headerSize L) x
     header-is =
         let long : 4 ≤ length bytes = r .some in
@@ -101,7 +101,7 @@ pub record IsFile (L : Layout) (bytes : List ℕ) : Type 0 where
   pub held : Held L (columnsOf bytes) (stepsOf L bytes) (outputsOf L bytes)
   pub is : bytes ≡ fileOf L (columnsOf bytes) (stepsOf L bytes) (outputsOf L bytes)
 
-module _ (L : Layout) (sound : Sound L) (bytes : List ℕ) (ok : Bytes bytes) (pairsLent outputsLent : ℕ) where
+module _ (L : Layout) (sound : SoundLayout L) (bytes : List ℕ) (ok : Bytes bytes) (pairsLent outputsLent : ℕ) where
   pub reading-is-a-file : readRule L bytes pairsLent outputsLent ≡ fine → IsFile L bytes
   reading-is-a-file e =
       let r = readable L bytes pairsLent outputsLent e in

@@ -19,13 +19,13 @@ use Rattle.bits.proofs.Filed.{field-back, fields-back, filling-zero}
 use Rattle.layout.specs.declared.Layout.{Layout}
 use Rattle.layout.specs.File.{headerBits, headerSize, width, fileBits, fileOf, bitCount, byteCount, mostBytes, editionOf, columnsOf, payslipsOf}
 use Rattle.layout.specs.File.{lengthOf, widthOf, stepsOf, outputsOf, bitsOf, fillingOf, Held, readRule}
-use Rattle.layout.specs.Inner.{Sound}
+use Rattle.layout.specs.Inner.{SoundLayout}
 use Rattle.layout.proofs.Lengths.{length-header, length-fileBits, length-file, count-most}
 use Rattle.layout.proofs.Held.{HeldChain, held-parts, held-sized}
 use Rattle.layout.proofs.Numbers.{operands-small, outputs-small}
 use Rattle.layout.proofs.Readable.{read-fine}
 
-module _ (L : Layout) (sound : Sound L) (p : ℕ) (steps : List Step) (outputs : List ℕ) where
+module _ (L : Layout) (sound : SoundLayout L) (p : ℕ) (steps : List Step) (outputs : List ℕ) where
   abbrev n : ℕ
   n = length steps
 
@@ -145,7 +145,7 @@ pub record ReadBack (L : Layout) (p : ℕ) (steps : List Step) (outputs file : L
   pub steps-same : stepsOf L file ≡ steps
   pub outputs-same : outputsOf L file ≡ outputs
 
-module _ (L : Layout) (sound : Sound L) (p : ℕ) (steps : List Step) (outputs : List ℕ) (held : Held L p steps outputs) where
+module _ (L : Layout) (sound : SoundLayout L) (p : ℕ) (steps : List Step) (outputs : List ℕ) (held : Held L p steps outputs) where
   parts : HeldChain L p steps outputs
   parts = held-parts L p steps outputs held
 
@@ -187,7 +187,7 @@ pub record Same (p p′ : ℕ) (steps steps′ : List Step) (outputs outputs′ 
   pub steps-same : steps ≡ steps′
   pub outputs-same : outputs ≡ outputs′
 
-pub one-chain : (L : Layout) → Sound L → (p p′ : ℕ) (steps steps′ : List Step) (outputs outputs′ : List ℕ) → Held L p steps outputs → Held L p′ steps′ outputs′
+pub one-chain : (L : Layout) → SoundLayout L → (p p′ : ℕ) (steps steps′ : List Step) (outputs outputs′ : List ℕ) → Held L p steps outputs → Held L p′ steps′ outputs′
     → fileOf L p steps outputs ≡ fileOf L p′ steps′ outputs′ → Same p p′ steps steps′ outputs outputs′
 one-chain L sound p p′ steps steps′ outputs outputs′ held held′ e =
     let a = reading-gives L sound p steps outputs held in

@@ -14,8 +14,8 @@ use Rattle.digits.proofs.Overlay.{or-on, or-digits, or-count}
 use Rattle.digits.proofs.Vector.{digit-low, vector-low}
 use Rattle.digits.proofs.Words.{digit-place}
 use Rattle.sheet.specs.Sheet.{amount}
-use Rattle.straus.specs.Straus.{strausDigits, digitVector, payslipCount, strausCount}
-use Rattle.straus.specs.Inner.{payslipMost}
+use Rattle.straus.specs.Straus.{strausDigits, digitVector, strausPayslipCount, strausCount}
+use Rattle.straus.specs.Inner.{strausPayslipMost}
 
 -- the amounts of payslip i, one over the other: those of its first c columns, with the next
 abbrev pub overlaidTo : ℕ → List ℕ → ℕ → ℕ → ℕ
@@ -82,7 +82,7 @@ module _ (p : ℕ) (amounts : List ℕ) (k i d : ℕ) where
       let le : j ≤ d - 1 = omega arith in
       omega (arith, mul-le-mul-left k le)
 
-  pub cost-none : d ≡ strausDigits p amounts k i → d ≡ 0 → 0 ≡ payslipCount p amounts k i
+  pub cost-none : d ≡ strausDigits p amounts k i → d ≡ 0 → 0 ≡ strausPayslipCount p amounts k i
   cost-none e z =
       let none : strausDigits p amounts k i - 1 ≡ 0 = omega arith in
       rw none (omega (arith, zero-mul k))
@@ -102,24 +102,24 @@ module _ (p : ℕ) (amounts : List ℕ) (k i d : ℕ) where
       omega (arith, sum-on (λ l. sign (digitVector p amounts k i l)) j (signsTo p amounts k i j) r (told ∙ ap sign digit-is ∙ overlaid-sign j x is) refl)
 
   -- the squarings are below 32, and so are the other steps
-  pub cost-low : 0 < k → k * (d - 1) < 32 → (j : ℕ) → j ≤ d - 1 → (d - 1) * k + signsTo p amounts k i j ≤ payslipMost
+  pub cost-low : 0 < k → k * (d - 1) < 32 → (j : ℕ) → j ≤ d - 1 → (d - 1) * k + signsTo p amounts k i j ≤ strausPayslipMost
   cost-low some room j h =
       omega (arith, mul-comm k (d - 1), signs-low j (digitVector p amounts k i), mul-le-mul-right (d - 1) some)
 
   pub sum-fits : (n j v r : ℕ) → 0 < k → k * (d - 1) < 32 → j < d - 1 → r ≡ sign v → n ≡ (d - 1) * k + signsTo p amounts k i j → n + r < 64
   sum-fits n j v r some room h told e = omega (arith, cost-low some room j (omega arith), sign-low v)
 
-  pub cost-all : (n j : ℕ) → d ≡ strausDigits p amounts k i → j ≤ d - 1 → d - 1 ≤ j → n ≡ (d - 1) * k + signsTo p amounts k i j → n ≡ payslipCount p amounts k i
+  pub cost-all : (n j : ℕ) → d ≡ strausDigits p amounts k i → j ≤ d - 1 → d - 1 ≤ j → n ≡ (d - 1) * k + signsTo p amounts k i j → n ≡ strausPayslipCount p amounts k i
   cost-all n j e h g is =
       let last : j ≡ d - 1 = omega arith in
       rw (← e) (is ∙ ap (λ (m : ℕ). (d - 1) * k + signsTo p amounts k i m) last)
 
-  pub cost-few : (n j : ℕ) → 0 < k → k * (d - 1) < 32 → j ≤ d - 1 → n ≡ (d - 1) * k + signsTo p amounts k i j → n ≤ payslipMost
+  pub cost-few : (n j : ℕ) → 0 < k → k * (d - 1) < 32 → j ≤ d - 1 → n ≡ (d - 1) * k + signsTo p amounts k i j → n ≤ strausPayslipMost
   cost-few n j some room h e = omega (arith, cost-low some room j h)
 
 -- the steps of the first n payslips
 abbrev pub costsTo : ℕ → List ℕ → ℕ → ℕ → ℕ
-costsTo p amounts k n = sumTo n (payslipCount p amounts k)
+costsTo p amounts k n = sumTo n (strausPayslipCount p amounts k)
 
 below-power : (n : ℕ) → n < 2 ^ n
 below-power zero = omega arith
@@ -132,8 +132,8 @@ columns-below p k w e some =
     let grown : 2 ^ p ≤ 2 ^ (p * k) = pow-mono wide in
     omega (arith, below-power p)
 
-pub costs-on : (p : ℕ) (amounts : List ℕ) (k n i r b : ℕ) → r ≡ payslipCount p amounts k i → n ≡ b + costsTo p amounts k i → n + r ≡ b + costsTo p amounts k (i + 1)
-costs-on p amounts k n i r b is e = omega (arith, sum-on (payslipCount p amounts k) i (costsTo p amounts k i) r is refl)
+pub costs-on : (p : ℕ) (amounts : List ℕ) (k n i r b : ℕ) → r ≡ strausPayslipCount p amounts k i → n ≡ b + costsTo p amounts k i → n + r ≡ b + costsTo p amounts k (i + 1)
+costs-on p amounts k n i r b is e = omega (arith, sum-on (strausPayslipCount p amounts k) i (costsTo p amounts k i) r is refl)
 
 pub count-all : (p q : ℕ) (amounts : List ℕ) (k n i w : ℕ) → w ≡ 2 ^ (p * k) → i ≤ q → q ≤ i → n ≡ w - p - 1 + costsTo p amounts k i → n ≡ strausCount p q amounts k
 unfolding strausCount

@@ -35,12 +35,12 @@ module _ (p limit k : ℕ) (e : ℕ → ℕ) (x : ℕ → ℕ) (J : ℕ) {before
   horner-all = result-like (λ c g. rw (sub-self J, mul-zero k) (div-one (x c))) (horner-makes J (le-refl J))
 
 -- The upper n + 1 of J + 1 digits, where the top digit is not empty: each digit below it costs k squarings, and a step if it is not empty itself.
-pub record Counted (p k : ℕ) (e : ℕ → ℕ) (J : ℕ) (before : List Step) (n : ℕ) : Type 0 where
+pub record HornerCounted (p k : ℕ) (e : ℕ → ℕ) (J : ℕ) (before : List Step) (n : ℕ) : Type 0 where
   pub value : sign (horner p k e (suc J) before (suc n) .value) ≡ 1
   pub count : length (horner p k e (suc J) before (suc n) .steps) + sumTo (J - n) (λ j. sign (e j)) ≡ length before + n * k + sumTo J (λ j. sign (e j))
 
 module _ (p k : ℕ) (e : ℕ → ℕ) (J : ℕ) (before : List Step) (top : 0 < e J) where
-  count-top : Counted p k e J before 0
+  count-top : HornerCounted p k e J before 0
   count-top =
       let s = squared p k (made before 0) in
       let r = times-cost p s (e (suc J - 1)) in
@@ -51,7 +51,7 @@ module _ (p k : ℕ) (e : ℕ → ℕ) (J : ℕ) (before : List Step) (top : 0 <
         count = rw (sub-zero J) (omega (arith, r .count, squared-count p k (made before 0), zero-mul k));
       }
 
-  count-next : (n : ℕ) → n < J → Counted p k e J before n → Counted p k e J before (suc n)
+  count-next : (n : ℕ) → n < J → HornerCounted p k e J before n → HornerCounted p k e J before (suc n)
   count-next n h c =
       let m = horner p k e (suc J) before (suc n) in
       let s = squared p k m in
@@ -68,7 +68,7 @@ module _ (p k : ℕ) (e : ℕ → ℕ) (J : ℕ) (before : List Step) (top : 0 <
         count = omega (arith, c .count, r .count, squared-count p k m, suc-mul n k, split);
       }
 
-  counted : (n : ℕ) → n ≤ J → Counted p k e J before n
+  counted : (n : ℕ) → n ≤ J → HornerCounted p k e J before n
   counted zero h = count-top
   counted (suc n) h = count-next n h (counted n (omega arith))
 

@@ -11,5 +11,5 @@ pub record PayslipAsked (p : ℕ) (amounts : List ℕ) (k i : ℕ) : Type 0 wher
   pub vectors-low : p + k * p < 32
 
 -- the most steps that a payslip takes: its squarings are below 32, and so are its other steps
-abbrev pub payslipMost : ℕ
-payslipMost = 62
+abbrev pub strausPayslipMost : ℕ
+strausPayslipMost = 62

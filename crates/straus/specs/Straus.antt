@@ -47,8 +47,8 @@ module _ (p : ℕ) (amounts : List ℕ) (k : ℕ) where
       horner p k (λ j. entry k (bases p) (p + 1) (digitVector i j)) J before J
 
   -- "for each nonzero payslip (J−1)k and its nonzero lower digit vectors". A zero payslip has J = 0 and adds nothing.
-  abbrev pub payslipCount : ℕ → ℕ
-  payslipCount i =
+  abbrev pub strausPayslipCount : ℕ → ℕ
+  strausPayslipCount i =
       let J = strausDigits i in
       (J - 1) * k + sumTo (J - 1) (λ j. sign (digitVector i j))
 
@@ -58,7 +58,7 @@ module _ (p q : ℕ) (amounts : List ℕ) (k : ℕ) where
 
   -- "Count: 2^(pk) − p − 1, plus for each nonzero payslip (J−1)k and its nonzero lower digit vectors."
   unfoldable pub strausCount : ℕ
-  strausCount = 2 ^ (p * k) - p - 1 + sumTo q (payslipCount p amounts k)
+  strausCount = 2 ^ (p * k) - p - 1 + sumTo q (strausPayslipCount p amounts k)
 
   -- "Ceiling: 2^(pk) − p − 1 + sum over nonzero payslips of (J−1)(k+1)."
   unfoldable pub strausCeiling : ℕ

@@ -9,8 +9,8 @@ ghost use Rattle.sheet.specs.Sheet.{amount};
 ghost use Rattle.products.specs.Product.{times, squared, payslips};
 ghost use Rattle.products.specs.Inner.{stepsIn, productIn, StepsRoom, Emitted};
 ghost use Rattle.methods.specs.Inner.{Asked, ChainRoom, ChainStored};
-ghost use Rattle.straus.specs.Straus.{bases, strausDigits, digitVector, strausPayslip, payslipCount, straus, strausCount, strausMost, strausMostBits};
-ghost use Rattle.straus.specs.Inner.{PayslipAsked, payslipMost};
+ghost use Rattle.straus.specs.Straus.{bases, strausDigits, digitVector, strausPayslip, strausPayslipCount, straus, strausCount, strausMost, strausMostBits};
+ghost use Rattle.straus.specs.Inner.{PayslipAsked, strausPayslipMost};
 use products::PartialProduct;
 
 // The amounts of payslip i, one over the other: they have as many digits as the largest, and a digit is 0 exactly where all are.
@@ -53,7 +53,7 @@ fn vector(p: usize, amounts: &[u32], k: usize, i: usize, j: usize) -> u32
 // The steps of payslip i.
 fn payslip_count(p: usize, amounts: &[u32], k: usize, i: usize) -> usize
     requires { ⌜ PayslipAsked p (now amounts) k i ⌝ }
-    ensures { λ r. ⌜ (r ≡ payslipCount p (now (amounts .entry)) k i) × (r ≤ payslipMost) ⌝ }
+    ensures { λ r. ⌜ (r ≡ strausPayslipCount p (now (amounts .entry)) k i) × (r ≤ strausPayslipMost) ⌝ }
 {
     let all = overlaid(p, amounts, i);
     let digits = digits::digit_count(k, all);

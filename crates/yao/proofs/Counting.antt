@@ -15,7 +15,7 @@ use Rattle.digits.proofs.Range.{sum-on, max-on, sign-low, signs-low, max-low}
 use Rattle.digits.proofs.Vector.{digit-low}
 use Rattle.sheet.specs.Sheet.{amount}
 use Rattle.methods.specs.Powers.{largestIn}
-use Rattle.yao.specs.Yao.{yaoDigits, yaoSquarings, amountCount, payslipCount, yaoCount, yaoMost}
+use Rattle.yao.specs.Yao.{yaoDigits, yaoSquarings, amountCount, yaoPayslipCount, yaoCount, yaoMost}
 use Rattle.yao.specs.Inner.{squaringsMost, amountMost}
 
 -- the digits of a column
@@ -115,25 +115,25 @@ module _ (p q : ℕ) (amounts : List ℕ) (k i : ℕ) where
   pub nonzero-on : (z c x r : ℕ) → x ≡ amount p amounts i c → r ≡ sign x → z ≡ nonzeroTo p amounts i c → z + r ≡ nonzeroTo p amounts i (c + 1)
   nonzero-on z c x r e f = sum-on (λ b. sign (amount p amounts i b)) c z r (f ∙ ap sign e)
 
-  payslip-end : (n z c : ℕ) → c ≤ p → p ≤ c → n ≡ amountsTo p q amounts k i c → z ≡ nonzeroTo p amounts i c → n + (z - 1) ≡ payslipCount p q amounts k i
+  payslip-end : (n z c : ℕ) → c ≤ p → p ≤ c → n ≡ amountsTo p q amounts k i c → z ≡ nonzeroTo p amounts i c → n + (z - 1) ≡ yaoPayslipCount p q amounts k i
   payslip-end n z c h g e f =
       let last : c ≡ p = omega arith in
       ap₂ (λ (a b : ℕ). a + (b - 1)) (e ∙ ap (amountsTo p q amounts k i) last) (f ∙ ap (nonzeroTo p amounts i) last)
 
-  pub payslip-none : (n z c : ℕ) → c ≤ p → p ≤ c → n ≡ amountsTo p q amounts k i c → z ≡ nonzeroTo p amounts i c → z ≡ 0 → n ≡ payslipCount p q amounts k i
+  pub payslip-none : (n z c : ℕ) → c ≤ p → p ≤ c → n ≡ amountsTo p q amounts k i c → z ≡ nonzeroTo p amounts i c → z ≡ 0 → n ≡ yaoPayslipCount p q amounts k i
   payslip-none n z c h g e f none = omega (arith, payslip-end n z c h g e f)
 
   pub payslip-some : (n z c : ℕ) → c ≤ p → p ≤ c → n ≡ amountsTo p q amounts k i c → z ≡ nonzeroTo p amounts i c → (z ≡ 0 → ⊥)
-      → n + z - 1 ≡ payslipCount p q amounts k i
+      → n + z - 1 ≡ yaoPayslipCount p q amounts k i
   payslip-some n z c h g e f some = omega (arith, payslip-end n z c h g e f)
 
 -- the steps of the first payslips
 abbrev pub costsTo : ℕ → ℕ → List ℕ → ℕ → ℕ → ℕ
-costsTo p q amounts k n = sumTo n (payslipCount p q amounts k)
+costsTo p q amounts k n = sumTo n (yaoPayslipCount p q amounts k)
 
-pub costs-on : (p q : ℕ) (amounts : List ℕ) (k n i r b : ℕ) → r ≡ payslipCount p q amounts k i
+pub costs-on : (p q : ℕ) (amounts : List ℕ) (k n i r b : ℕ) → r ≡ yaoPayslipCount p q amounts k i
     → n ≡ b + costsTo p q amounts k i → n + r ≡ b + costsTo p q amounts k (i + 1)
-costs-on p q amounts k n i r b is e = omega (arith, sum-on (payslipCount p q amounts k) i (costsTo p q amounts k i) r is refl)
+costs-on p q amounts k n i r b is e = omega (arith, sum-on (yaoPayslipCount p q amounts k) i (costsTo p q amounts k i) r is refl)
 
 pub count-all : (p q : ℕ) (amounts : List ℕ) (k n i b : ℕ) → b ≡ sumTo p (yaoSquarings p q amounts k) → i ≤ q → q ≤ i → n ≡ b + costsTo p q amounts k i → n ≡ yaoCount p q amounts k
 unfolding yaoCount

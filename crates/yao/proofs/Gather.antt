@@ -29,14 +29,14 @@ module _ (p y d : ℕ) (b : Made) (power : ℕ) where
   one-no ne = rw (eq-no y d ne)
 
 -- each of the matches costs a step, but the first into an empty product
-pub record Gathered (b g : Made) (matches : ℕ) : Type 0 where
+pub record GatherCost (b g : Made) (matches : ℕ) : Type 0 where
   pub count : length (g .steps) + sign (g .value) ≡ length (b .steps) + sign (b .value) + matches
   pub value : sign (g .value) ≡ sign (b .value + matches)
 
-one-count : (p y d : ℕ) (b : Made) (power : ℕ) → 0 < power → Gathered b (gatherOne p y d b power) (delta y d)
+one-count : (p y d : ℕ) (b : Made) (power : ℕ) → 0 < power → GatherCost b (gatherOne p y d b power) (delta y d)
 one-count p y d b power some = by-digit (ℕ-discrete y d)
   where
-    by-digit : Dec (y ≡ d) → Gathered b (gatherOne p y d b power) (delta y d)
+    by-digit : Dec (y ≡ d) → GatherCost b (gatherOne p y d b power) (delta y d)
     by-digit (yes e) =
         let one : delta y d ≡ 1 = rw e (delta-same d) in
         let full = sign-some power some in
@@ -51,7 +51,7 @@ one-count p y d b power some = by-digit (ℕ-discrete y d)
         rw (one-no p y d b power ne) (record { count = omega arith; value = ap sign same })
 
 pub gather-count : (p k : ℕ) (power : ℕ → ℕ) (x d n : ℕ) (b : Made) → ((j : ℕ) → j < n → 0 < power j)
-    → Gathered b (gather p k power x d n b) (sumTo n (λ j. delta (digit k x j) d))
+    → GatherCost b (gather p k power x d n b) (sumTo n (λ j. delta (digit k x j) d))
 gather-count p k power x d zero b some = let same : b .value ≡ b .value + 0 = omega arith in record { count = omega arith; value = ap sign same }
 gather-count p k power x d (suc n) b some =
     let g = gather p k power x d n b in

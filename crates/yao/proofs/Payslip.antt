@@ -18,7 +18,7 @@ use Rattle.methods.specs.Powers.{largestIn, squarings}
 use Rattle.products.proofs.Sound.{Begins, begins-on, makes-on, Sound}
 use Rattle.products.proofs.Product.{times-cost, times-spent, Result, result-value, result-empty, result-like, result-after, result-times}
 use Rattle.methods.proofs.Powers.{power-some, Powers, powers}
-use Rattle.yao.specs.Yao.{yaoDigits, yaoSquarings, yaoPower, Sweep, sweep, yaoPayslip, amountCount, payslipCount}
+use Rattle.yao.specs.Yao.{yaoDigits, yaoSquarings, yaoPower, Sweep, sweep, yaoPayslip, amountCount, yaoPayslipCount}
 use Rattle.yao.proofs.Sweeping.{sweep-makes}
 use Rattle.yao.proofs.Cost.{sweep-count, sweep-value}
 
@@ -34,12 +34,12 @@ module _ (p q : ℕ) (amounts : List ℕ) (k : ℕ) (some : 0 < k) where
   digits-short i c h = lt-of-le-of-lt (le-max q (λ i. amount p amounts i c) i h) (count-own k some (largestIn p q amounts c))
 
   -- the steps of the first columns, with one more for a product that is not empty
-  record Counted (i : ℕ) (before : List Step) (c : ℕ) (m : Made) : Type 0 where
+  record PayslipCounted (i : ℕ) (before : List Step) (c : ℕ) (m : Made) : Type 0 where
     count : length (m .steps) + sign (m .value)
         ≡ length before + sumTo c (λ d. amountCount k (yaoDigits p q amounts k d) (amount p amounts i d)) + sumTo c (λ d. sign (amount p amounts i d))
     value : sign (m .value) ≡ sign (sumTo c (λ d. sign (amount p amounts i d)))
 
-  counted : (i : ℕ) → i < q → (before : List Step) (c : ℕ) → Counted i before c (yaoPayslip p q amounts k i before c)
+  counted : (i : ℕ) → i < q → (before : List Step) (c : ℕ) → PayslipCounted i before c (yaoPayslip p q amounts k i before c)
   counted i h before zero = record { count = omega arith; value = refl }
   counted i h before (suc c) =
       let m = yaoPayslip p q amounts k i before c in
@@ -59,7 +59,7 @@ module _ (p q : ℕ) (amounts : List ℕ) (k : ℕ) (some : 0 < k) where
   -- the steps of a payslip
   pub payslip-count : (i : ℕ) → i < q → (before : List Step)
       → length (yaoPayslip p q amounts k i before p .steps)
-      ≡ length before + payslipCount p q amounts k i
+      ≡ length before + yaoPayslipCount p q amounts k i
   payslip-count i h before =
       let s = counted i h before p in
       by-size (sumTo p (λ c. sign (amount p amounts i c))) (s .value) (s .count)

@@ -13,7 +13,7 @@ use Rattle.methods.specs.Powers.{squarings}
 use Rattle.methods.proofs.Payslips.{Pays, payslips-make, payslips-count}
 use Rattle.methods.proofs.Right.{Right, pays-right}
 use Rattle.methods.proofs.Powers.{squarings-count}
-use Rattle.yao.specs.Yao.{yaoDigits, yaoSquarings, yaoPayslip, yao, joinCount, yaoCount, yaoCeiling, yaoMethod}
+use Rattle.yao.specs.Yao.{yaoDigits, yaoSquarings, yaoPayslip, yao, yaoJoins, yaoCount, yaoCeiling, yaoMethod}
 use Rattle.yao.proofs.Cost.{amount-ceiling}
 use Rattle.yao.proofs.Payslip.{payslip-count, yao-powers, payslip-makes}
 
@@ -22,7 +22,7 @@ pub yao-ceiling : (p q : ℕ) (amounts : List ℕ) (k : ℕ) → yaoCount p q am
 unfolding yaoCount yaoCeiling
 yao-ceiling p q amounts k =
     add-le-add (le-refl (sumTo p (yaoSquarings p q amounts k)))
-    (sum-le q _ _ (λ i h. add-le-add (sum-le p _ _ (λ c g. amount-ceiling k (yaoDigits p q amounts k c) (amount p amounts i c))) (le-refl (joinCount p amounts i))))
+    (sum-le q _ _ (λ i h. add-le-add (sum-le p _ _ (λ c g. amount-ceiling k (yaoDigits p q amounts k c) (amount p amounts i c))) (le-refl (yaoJoins p amounts i))))
 
 module _ (p q : ℕ) (amounts : List ℕ) (k : ℕ) (some : 1 ≤ k) where
   -- the steps are as many as the count

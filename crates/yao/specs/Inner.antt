@@ -65,5 +65,5 @@ squaringsMost = 31
 abbrev pub amountMost : ℕ
 amountMost = 300
 
-abbrev pub payslipMost : ℕ
-payslipMost = (amountMost + 1) * mostColumns
+abbrev pub yaoPayslipMost : ℕ
+yaoPayslipMost = (amountMost + 1) * mostColumns

@@ -46,8 +46,8 @@ abbrev pub amountCount : ℕ → ℕ → ℕ → ℕ
 amountCount k J x = sumTo J (λ j. sign (digit k x j)) + maxTo J (λ j. digit k x j) - 2
 
 -- "for each nonzero payslip its nonzero amounts less 1"
-abbrev pub joinCount : ℕ → List ℕ → ℕ → ℕ
-joinCount p amounts i = sumTo p (λ c. sign (amount p amounts i c)) - 1
+abbrev pub yaoJoins : ℕ → List ℕ → ℕ → ℕ
+yaoJoins p amounts i = sumTo p (λ c. sign (amount p amounts i c)) - 1
 
 module _ (p q : ℕ) (amounts : List ℕ) (k : ℕ) where
   -- "For each column, J digits in its largest amount (J = 0 if all are 0)"
@@ -75,18 +75,18 @@ module _ (p q : ℕ) (amounts : List ℕ) (k : ℕ) where
   yao = payslips (λ i before. yaoPayslip i before p) (squarings p yaoSquarings p) q
 
   -- the steps of payslip i: those of its amounts, and its products
-  abbrev pub payslipCount : ℕ → ℕ
-  payslipCount i = sumTo p (λ c. amountCount k (yaoDigits c) (amount p amounts i c)) + joinCount p amounts i
+  abbrev pub yaoPayslipCount : ℕ → ℕ
+  yaoPayslipCount i = sumTo p (λ c. amountCount k (yaoDigits c) (amount p amounts i c)) + yaoJoins p amounts i
 
   -- "Count: squarings, those, and for each nonzero payslip its nonzero amounts less 1."
   unfoldable pub yaoCount : ℕ
-  yaoCount = sumTo p yaoSquarings + sumTo q payslipCount
+  yaoCount = sumTo p yaoSquarings + sumTo q yaoPayslipCount
 
   -- "Ceiling: the same with J + 2^k − 3 for each nonzero amount."
   unfoldable pub yaoCeiling : ℕ
   yaoCeiling =
       sumTo p yaoSquarings
-      + sumTo q (λ i. sumTo p (λ c. sign (amount p amounts i c) * (yaoDigits c + 2 ^ k - 3)) + joinCount p amounts i)
+      + sumTo q (λ i. sumTo p (λ c. sign (amount p amounts i c) * (yaoDigits c + 2 ^ k - 3)) + yaoJoins p amounts i)
 
   abbrev pub yaoMethod : Method
   yaoMethod = record { chain = yao; count = yaoCount; ceiling = yaoCeiling }

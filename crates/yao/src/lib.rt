@@ -8,9 +8,9 @@ ghost use Rattle.digits.specs.Range.{sumTo, listTo};
 ghost use Rattle.products.specs.Product.{payslips};
 ghost use Rattle.products.specs.Inner.{stepsIn, productIn, StepsRoom, Emitted};
 ghost use Rattle.methods.specs.Inner.{Asked, ChainRoom, ChainStored};
-ghost use Rattle.yao.specs.Yao.{yaoDigits, gatherOne, yaoPayslip, yao, amountCount, payslipCount, yaoCount, yaoMost};
+ghost use Rattle.yao.specs.Yao.{yaoDigits, gatherOne, yaoPayslip, yao, amountCount, yaoPayslipCount, yaoCount, yaoMost};
 ghost use Rattle.yao.specs.Inner.{Reach, gatherIn, sweepIn, joined, SweepEmitted, DigitsFew, Measured, squaringsIn, yaoSlip};
-ghost use Rattle.yao.specs.Inner.{squaringsMost, amountMost, payslipMost};
+ghost use Rattle.yao.specs.Inner.{squaringsMost, amountMost, yaoPayslipMost};
 use products::PartialProduct;
 
 // A column of a payslip: the sheet's columns p and the parameter k, its place c, the value after which its powers are made, how many they are, and its
@@ -176,7 +176,7 @@ fn amount_count(k: usize, digits: usize, x: u32) -> usize
 // The steps of payslip i.
 fn payslip_count(p: usize, q: usize, amounts: &[u32], k: usize, columns: &[u32], i: usize) -> usize
     requires { ⌜ Asked yaoMost p q (now amounts) k × (i < q) × Measured p q (now amounts) k p (now columns) ⌝ }
-    ensures { λ r. ⌜ (r ≡ payslipCount p q (now (amounts .entry)) k i) × (r ≤ payslipMost) ⌝ }
+    ensures { λ r. ⌜ (r ≡ yaoPayslipCount p q (now (amounts .entry)) k i) × (r ≤ yaoPayslipMost) ⌝ }
 {
     let mut n: usize = 0;
     let mut z: usize = 0;

@@ -1,4 +1,4 @@
--- The length that the listing returns is what is told.
+-- The listing's length is told as the one value of the answer.
 use borrow.Author.Needs.{needs}
 use mathlib.Core.Path.{ap, _∙_}
 use mathlib.Core.List.{[], _∷_}
@@ -9,13 +9,14 @@ use Rattle.spoutbasket.proofs.spoutbasket_list.Tie as tie
 list-requires : tie.Need-list-requires
 list-requires c κs = search needs
 
-tell-requires : tie.Need-tell-requires
-tell-requires c κs = search needs
+tell-listed-requires : tie.Need-tell-listed-requires
+tell-listed-requires c κs = search needs
 
 returns : tie.Need-returns
 returns c =
-    let called = c .before .before in
-    (c .tell .ensures .0, (c .tell .ensures .1 ∙ ap (λ (n : ℕ). n ∷ 0 ∷ 0 ∷ 0 ∷ []) (called .list .ensures .0), called .list .ensures .1))
+    let called = c .before .before .list .ensures in
+    let told = c .tell-listed .ensures in
+    (told .number-is, (told .words-are ∙ ap (λ (n : ℕ). n ∷ 0 ∷ 0 ∷ 0 ∷ []) (called .0), called .1))
 
 pub spoutbasket-list-spec : {M : Type 1} → statement M
-spoutbasket-list-spec = tie.close (tie.spec list-requires tell-requires returns)
+spoutbasket-list-spec = tie.close (tie.spec list-requires tell-listed-requires returns)

@@ -1,6 +1,7 @@
+-- What the call answers is what is told, and its slices are as it leaves them.
 use borrow.Author.Needs.{needs}
 use mathlib.Core.Path.{ap, _∙_}
-use Rattle.spoutbasket.specs.Told.{numberOf, wordsOf}
+use Rattle.tell.specs.Told.{numberOf, wordsOf}
 use Rattle.spoutbasket.proofs.spoutbasket_run.Statement.{statement}
 use Rattle.spoutbasket.proofs.spoutbasket_run.Tie as tie
 
@@ -18,8 +19,10 @@ same-length-2 c = search needs
 
 returns : tie.Need-returns
 returns c =
-    let called = c .before .before .before .before .before .before .run in
-    (c .tell-ran .ensures .0 ∙ ap numberOf (called .ensures .0), (c .tell-ran .ensures .1 ∙ ap wordsOf (called .ensures .0), called .ensures .1))
+    let called = c .before .before .before .before .before .before .run .ensures in
+    let told = c .tell-ran .ensures in
+    (told .number-is ∙ ap numberOf (called .0), (told .words-are ∙ ap wordsOf (called .0), called .1))
 
 pub spoutbasket-run-spec : {M : Type 1} → statement M
-spoutbasket-run-spec = tie.close (tie.spec run-requires tell-ran-requires same-length same-length-2 returns)
+spoutbasket-run-spec =
+    tie.close (tie.spec run-requires tell-ran-requires same-length same-length-2 returns)

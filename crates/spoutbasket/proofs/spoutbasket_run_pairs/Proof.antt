@@ -50,12 +50,13 @@ use Rattle.pairs.proofs.run_pairs as runs
 use Rattle.pairs.proofs.run_pairs.Symbol as runs-def
 use Rattle.pairs.proofs.run_pairs.Symbol.{name as #pairs·run-pairs}
 use Rattle.pairs.proofs.run_pairs.Met as runs-thm
-use Rattle.spoutbasket.specs.Told.{numberOf, wordsOf}
-use Rattle.spoutbasket.proofs.Telling.{Words, wordsVal, LastWords, Told, ToTell, asks-tell}
-use Rattle.spoutbasket.proofs.tell_ran as tell
-use Rattle.spoutbasket.proofs.tell_ran.Symbol as tell-def
-use Rattle.spoutbasket.proofs.tell_ran.Symbol.{name as #spoutbasket·tell-ran}
-use Rattle.spoutbasket.proofs.tell_ran.Met as tell-thm
+use Rattle.tell.specs.Told.{numberOf, wordsOf}
+use Rattle.spoutbasket.proofs.Telling.{Words, wordsVal, LastWords, ToTell, asks-tell}
+use Rattle.tell.specs.Inner.{ToldAs}
+use Rattle.tell.proofs.tell_ran as tell
+use Rattle.tell.proofs.tell_ran.Symbol as tell-def
+use Rattle.tell.proofs.tell_ran.Symbol.{name as #tell·tell-ran}
+use Rattle.tell.proofs.tell_ran.Met as tell-thm
 use Rattle.spoutbasket.proofs.spoutbasket_run_pairs.Key.{name as #spoutbasket·spoutbasket-run-pairs}
 use Rattle.spoutbasket.proofs.spoutbasket_run_pairs as this
 use Rattle.spoutbasket.proofs.spoutbasket_run_pairs.Statement as stated
@@ -152,18 +153,18 @@ module _ {M : Type 1} (𝓤 : URA M) (H : Heap 𝓤) (A : Atoms 𝓤) (W : Given
       -- [answer's; true; figures'; values'; bases'; m's; outputs'; steps'; p's; the tokens but κ₅'s; κ₅'s]
       move ! (2 ∷ 1 ∷ []) $ fjoin ! $ move ! (2 ∷ 0 ∷ []) $ fjoin ! $ move ! (2 ∷ 0 ∷ []) $ fjoin ! $ move ! (2 ∷ 0 ∷ []) $ fjoin ! $ move ! (2 ∷ 0 ∷ []) $ fjoin ! $ move ! (2 ∷ 0 ∷ []) $ fjoin ! $ move ! (2 ∷ 0 ∷ []) $ fjoin ! $ move ! (2 ∷ 0 ∷ []) $ join ! $ frame ! $ move ! (1 ∷ 0 ∷ []) $ done !
 
-  exits : (u : Val) (n : ℕ) (vs fs ws : List ℕ) (r : Ran) → Answered r → Valued vs → Figured fs → Told (ranOf r) n ws → length vs ≡ length (x₃ .now) → length fs ≡ length (x₄ .now)
+  exits : (u : Val) (n : ℕ) (vs fs ws : List ℕ) (r : Ran) → Answered r → Valued vs → Figured fs → ToldAs (ranOf r) n ws → length vs ≡ length (x₃ .now) → length fs ≡ length (x₄ .now)
       → ent 𝓤 (⋆ 𝓤 H A (Tokens ∷ (‵ (flft κ₅ q₅) ⊛ ‵ ftrue) ∷ ‵ (finally u32 (x₃ .name) vs) ∷ ‵ (finally u32 (x₄ .name) fs) ∷ ‵ (LastWords x₅ ws) ∷ ‵ (u32 .own n (u ∷ [])) ∷ [])) (Post u)
   exits u n vs fs ws r e e₂ e₃ told len len₂ =
       qed W (Tokens ∷ (‵ (flft κ₅ q₅) ⊛ ‵ ftrue) ∷ ‵ (finally u32 (x₃ .name) vs) ∷ ‵ (finally u32 (x₄ .name) fs) ∷ ‵ (LastWords x₅ ws) ∷ ‵ (u32 .own n (u ∷ [])) ∷ []) ∵
       suffices ! _ (ends-saying 𝓤 H A this.ended stayed (this.clauses 𝓤 H A at-mem run) W (((κ, (κ₁, (κ₂, (κ₃, (κ₄, (κ₅, tt)))))), (q, (q₁, (q₂, (q₃, (q₄, (q₅, tt)))))), tt, a, at), tt) u n
-      (tt, (tt, (tt, (tt, (tt, (vs, (fs, (ws, tt)))))))) (tt, (tt, (tt, (tt, (tt, (len, (len₂, (tt, tt)))))))) (four-facts 𝓤 _ _ _ _ (told .0 ∙ ap numberOf e) (told .1 ∙ ap wordsOf e) e₂ e₃)) $
+      (tt, (tt, (tt, (tt, (tt, (vs, (fs, (ws, tt)))))))) (tt, (tt, (tt, (tt, (tt, (len, (len₂, (tt, tt)))))))) (four-facts 𝓤 _ _ _ _ (told .number-is ∙ ap numberOf e) (told .words-are ∙ ap wordsOf e) e₂ e₃)) $
       split ! $ move ! (1 ∷ []) $ split ! $ move ! (1 ∷ []) $ split ! $ move ! (1 ∷ []) $ split ! $ move ! (1 ∷ []) $ split ! $
       -- [κ₄'s token; true; κ₃'s; κ₂'s; κ₁'s; κ's; κ₅'s; values' last list; figures'; answer's last words; the result's]
       move ! (0 ∷ 6 ∷ []) $ join ! $ move ! (2 ∷ 0 ∷ []) $ join ! $ move ! (2 ∷ 0 ∷ []) $ join ! $ move ! (2 ∷ 0 ∷ []) $ join ! $ move ! (2 ∷ 0 ∷ []) $ join ! $ frame ! $
       move ! (3 ∷ 0 ∷ []) $ fjoin ! $ move ! (2 ∷ 0 ∷ []) $ fjoin ! $ move ! (1 ∷ 0 ∷ []) $ fjoin ! $ nothing ! $ fjoin ! $ nothing ! $ fjoin ! $ nothing ! $ fjoin ! $ nothing ! $ fjoin ! $ nothing ! $ fjoin ! $ done !
 
-  module _ (C : Calls 𝓤 H) (Λ : Loops 𝓤 H) (fm : FmC 𝓤 H (W .laws) C) (known : Triple 𝓤 (C #pairs·run-pairs) (Run 𝓤 H A at-mem run)) (known₂ : Triple 𝓤 (C #spoutbasket·tell-ran) (Tell 𝓤 H A at-mem run)) where
+  module _ (C : Calls 𝓤 H) (Λ : Loops 𝓤 H) (fm : FmC 𝓤 H (W .laws) C) (known : Triple 𝓤 (C #pairs·run-pairs) (Run 𝓤 H A at-mem run)) (known₂ : Triple 𝓤 (C #tell·tell-ran) (Tell 𝓤 H A at-mem run)) where
     walk : Room T.the-row (length (x .now)) → Room u32 (length (x₁ .now)) → Room u32 (length (x₂ .now)) → Room u32 (length (x₃ .now)) → Room u32 (length (x₄ .now))
         → ent 𝓤 (onEntry 𝓤 H A this.signature (κ, (κ₁, (κ₂, (κ₃, (κ₄, (κ₅, tt)))))) (q, (q₁, (q₂, (q₃, (q₄, (q₅, tt)))))) a at) (WpFn 𝓤 H C Λ code.function args Post)
     walk g g₁ g₂ g₃ g₄ =
@@ -191,8 +192,8 @@ module _ {M : Type 1} (𝓤 : URA M) (H : Heap 𝓤) (A : Atoms 𝓤) (W : Given
         move ! (0 ∷ 5 ∷ []) $ use2 W (raw (Tell 𝓤 H A at-mem run .pre (to-tell r w))) (asks-tell 𝓤 H A κ₅ q₅ x₅ W E.the-row r w) $
         calls-at ! fm (Tell 𝓤 H A at-mem run) known₂ (to-tell r w) (and-then ! (load ! (from ! (stop !)) (look ! 15 refl)) (and-then ! (load ! (from ! (stop !)) (look ! 5 refl)) (no-more !))) (λ u.
         use1 W (later (some (λ (n : ℕ). ((‵ (flft κ₅ q₅) ⊛ ‵ ftrue) ⊛ ‵ (u32 .own n (u ∷ []))) ⊛ raw (ensured 𝓤 H A tell.ended (tell.clauses 𝓤 H A at-mem run) (κ₅, tt) (given-tell r w) tt n)))) (id⊢ 𝓤 _) $ await ! tt $ pick ! (λ n.
-        split ! $ move ! (1 ∷ []) $ use1 W (some (λ (us : Lasts tell.ended (κ₅, tt) (given-tell r w)). ‵ (lasts tell.ended (κ₅, tt) (given-tell r w) us) ⊛ raw (fact 𝓤 (Told (ranOf r) n (us .1 .0))))) (id⊢ 𝓤 _) $ pick ! (λ us.
-        split ! $ move ! (1 ∷ []) $ heard ! (Told (ranOf r) n (us .1 .0)) (λ told. fsplit ! $ drop ! $ fsplit ! $
+        split ! $ move ! (1 ∷ []) $ use1 W (some (λ (us : Lasts tell.ended (κ₅, tt) (given-tell r w)). ‵ (lasts tell.ended (κ₅, tt) (given-tell r w) us) ⊛ raw (fact 𝓤 (ToldAs (ranOf r) n (us .1 .0))))) (id⊢ 𝓤 _) $ pick ! (λ us.
+        split ! $ move ! (1 ∷ []) $ heard ! (ToldAs (ranOf r) n (us .1 .0)) (λ told. fsplit ! $ drop ! $ fsplit ! $
         -- [answer's last words; true; κ₅'s token and the number's; the tokens; figures' last list; true; values'; _14; …]
         move ! (2 ∷ []) $ split ! $ move ! (1 ∷ []) $ peeks ! u32 (Is u32) (shows 𝓤 H A u32) n (u ∷ []) (λ is₂.
         land ! (from ! (stop !)) (init ! 36 refl (uint-lawful 𝓤 H A W w32 .typed n _ is₂ .0)) $
@@ -203,7 +204,7 @@ module _ {M : Type 1} (𝓤 : URA M) (H : Heap 𝓤) (A : Atoms 𝓤) (W : Given
         keep ! (4 ∷ 1 ∷ 7 ∷ 5 ∷ 2 ∷ 0 ∷ []) $ by ! (exits u n (ws .1 .1 .1 .1 .1 .0) (ws .1 .1 .1 .1 .1 .1 .0) (us .1 .0) r e e₂ e₃ told len len₂))))))))))))))))))))))))))))))
 
 module _ {M : Type 1} (𝓤 : URA M) (H : Heap 𝓤) (A : Atoms 𝓤) (W : Given 𝓤 H A) (at-mem : Memory → SProp 𝓤) (run : Routine → Fun 𝓤) (𝓣 : Tables 𝓤 H)
-    (known : Triple 𝓤 (𝓣 .C #pairs·run-pairs) (Run 𝓤 H A at-mem run)) (known₂ : Triple 𝓤 (𝓣 .C #spoutbasket·tell-ran) (Tell 𝓤 H A at-mem run)) where
+    (known : Triple 𝓤 (𝓣 .C #pairs·run-pairs) (Run 𝓤 H A at-mem run)) (known₂ : Triple 𝓤 (𝓣 .C #tell·tell-ran) (Tell 𝓤 H A at-mem run)) where
   this-walks : Walks 𝓤 H A this.ended stayed (WpFn 𝓤 H (𝓣 .C) (𝓣 .Λ) code.function) (this.clauses 𝓤 H A at-mem run)
   this-walks = walked 𝓤 H A this.ended stayed (this.clauses 𝓤 H A at-mem run) (WpFn 𝓤 H (𝓣 .C) (𝓣 .Λ) code.function)
       (λ κs. (uint-vals w64, (slice-vals, (slice-vals, (uint-vals w32, (slice-vals, (slice-vals, (slice-vals, (ptr-vals, tt)))))))))
@@ -214,7 +215,7 @@ module _ {M : Type 1} (𝓤 : URA M) (H : Heap 𝓤) (A : Atoms 𝓤) (W : Given
       (are .1 .0 .0 .1) (are .1 .1 .0 .0 .1) (are .1 .1 .1 .1 .0 .0 .1) (are .1 .1 .1 .1 .1 .0 .0 .1) (are .1 .1 .1 .1 .1 .1 .0 .0 .1)))
 
 this-meets : {M : Type 1} (𝓤 : URA M) (H : Heap 𝓤) (A : Atoms 𝓤) → Given 𝓤 H A → (at-mem : Memory → SProp 𝓤) (run : Routine → Fun 𝓤) (𝓣 : Tables 𝓤 H)
-    → Triple 𝓤 (𝓣 .C #pairs·run-pairs) (Run 𝓤 H A at-mem run) → Triple 𝓤 (𝓣 .C #spoutbasket·tell-ran) (Tell 𝓤 H A at-mem run)
+    → Triple 𝓤 (𝓣 .C #pairs·run-pairs) (Run 𝓤 H A at-mem run) → Triple 𝓤 (𝓣 .C #tell·tell-ran) (Tell 𝓤 H A at-mem run)
     → Meets 𝓤 H A this.signature (WpFn 𝓤 H (𝓣 .C) (𝓣 .Λ) code.function) (this.spec 𝓤 H A at-mem run)
 this-meets 𝓤 H A W at-mem run 𝓣 known known₂ = walk-meets 𝓤 H A this.ended stayed W (
   goes-dropped 𝓤 H A W 6 (plain (λ _. usize)) yes (λ κs x f. refl),
@@ -241,4 +242,4 @@ spoutbasket-run-pairs-spec 𝓤 H 𝓜 𝓖 𝓡 =
     (tables 𝓤 H 𝓜 𝓡 code.env .C) (tables 𝓤 H 𝓜 𝓡 code.env .Λ) #spoutbasket·spoutbasket-run-pairs code.function (code.unfolded 𝓤 H 𝓜 𝓡)
     (this-meets 𝓤 H (𝓖 .A) (givenOf 𝓤 H 𝓜 𝓖) (𝓜 .mem) (𝓡 .run) (tablesOf 𝓤 H 𝓜 (tables 𝓤 H 𝓜 𝓡 code.env))
     (cited 𝓤 H (Run 𝓤 H (𝓖 .A) (𝓜 .mem) (𝓡 .run)) 𝓜 𝓡 code.env #pairs·run-pairs runs-def.routine code.calls-pairs·run-pairs (runs-thm.met 𝓤 H 𝓜 𝓖 𝓡))
-    (cited 𝓤 H (Tell 𝓤 H (𝓖 .A) (𝓜 .mem) (𝓡 .run)) 𝓜 𝓡 code.env #spoutbasket·tell-ran tell-def.routine code.calls-spoutbasket·tell-ran (tell-thm.met 𝓤 H 𝓜 𝓖 𝓡)))
+    (cited 𝓤 H (Tell 𝓤 H (𝓖 .A) (𝓜 .mem) (𝓡 .run)) 𝓜 𝓡 code.env #tell·tell-ran tell-def.routine code.calls-tell·tell-ran (tell-thm.met 𝓤 H 𝓜 𝓖 𝓡)))

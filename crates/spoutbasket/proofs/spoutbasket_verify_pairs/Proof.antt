@@ -50,12 +50,13 @@ use Rattle.pairs.proofs.verify_pairs as check
 use Rattle.pairs.proofs.verify_pairs.Symbol as check-def
 use Rattle.pairs.proofs.verify_pairs.Symbol.{name as #pairs·verify-pairs}
 use Rattle.pairs.proofs.verify_pairs.Met as check-thm
-use Rattle.spoutbasket.specs.Told.{numberOf, wordsOf}
-use Rattle.spoutbasket.proofs.Telling.{Words, wordsVal, LastWords, Told, ToTell, asks-tell}
-use Rattle.spoutbasket.proofs.tell_verified as tell
-use Rattle.spoutbasket.proofs.tell_verified.Symbol as tell-def
-use Rattle.spoutbasket.proofs.tell_verified.Symbol.{name as #spoutbasket·tell-verified}
-use Rattle.spoutbasket.proofs.tell_verified.Met as tell-thm
+use Rattle.tell.specs.Told.{numberOf, wordsOf}
+use Rattle.spoutbasket.proofs.Telling.{Words, wordsVal, LastWords, ToTell, asks-tell}
+use Rattle.tell.specs.Inner.{ToldAs}
+use Rattle.tell.proofs.tell_verified as tell
+use Rattle.tell.proofs.tell_verified.Symbol as tell-def
+use Rattle.tell.proofs.tell_verified.Symbol.{name as #tell·tell-verified}
+use Rattle.tell.proofs.tell_verified.Met as tell-thm
 use Rattle.spoutbasket.proofs.spoutbasket_verify_pairs.Key.{name as #spoutbasket·spoutbasket-verify-pairs}
 use Rattle.spoutbasket.proofs.spoutbasket_verify_pairs as this
 use Rattle.spoutbasket.proofs.spoutbasket_verify_pairs.Statement as stated
@@ -146,18 +147,18 @@ module _ {M : Type 1} (𝓤 : URA M) (H : Heap 𝓤) (A : Atoms 𝓤) (W : Given
       -- [answer's; true; scratch's; amounts'; outputs'; steps'; p's; the tokens but κ₄'s; κ₄'s]
       move ! (2 ∷ 1 ∷ []) $ fjoin ! $ move ! (2 ∷ 0 ∷ []) $ fjoin ! $ move ! (2 ∷ 0 ∷ []) $ fjoin ! $ move ! (2 ∷ 0 ∷ []) $ fjoin ! $ move ! (2 ∷ 0 ∷ []) $ fjoin ! $ move ! (2 ∷ 0 ∷ []) $ join ! $ frame ! $ move ! (1 ∷ 0 ∷ []) $ done !
 
-  exits : (u : Val) (n : ℕ) (cells ws : List ℕ) (v : Verified) → Answered v → Scratched cells → Told (verifiedOf v) n ws → length cells ≡ length (x₃ .now)
+  exits : (u : Val) (n : ℕ) (cells ws : List ℕ) (v : Verified) → Answered v → Scratched cells → ToldAs (verifiedOf v) n ws → length cells ≡ length (x₃ .now)
       → ent 𝓤 (⋆ 𝓤 H A (Tokens ∷ (‵ (flft κ₄ q₄) ⊛ ‵ ftrue) ∷ ‵ (finally u32 (x₃ .name) cells) ∷ ‵ (LastWords x₄ ws) ∷ ‵ (u32 .own n (u ∷ [])) ∷ [])) (Post u)
   exits u n cells ws v e e₂ told len =
       qed W (Tokens ∷ (‵ (flft κ₄ q₄) ⊛ ‵ ftrue) ∷ ‵ (finally u32 (x₃ .name) cells) ∷ ‵ (LastWords x₄ ws) ∷ ‵ (u32 .own n (u ∷ [])) ∷ []) ∵
       suffices ! _ (ends-saying 𝓤 H A this.ended stayed (this.clauses 𝓤 H A at-mem run) W (((κ, (κ₁, (κ₂, (κ₃, (κ₄, tt))))), (q, (q₁, (q₂, (q₃, (q₄, tt))))), tt, a, at), tt) u n
-      (tt, (tt, (tt, (tt, (cells, (ws, tt)))))) (tt, (tt, (tt, (tt, (len, (tt, tt)))))) (three-facts 𝓤 _ _ _ (told .0 ∙ ap numberOf e) (told .1 ∙ ap wordsOf e) e₂)) $
+      (tt, (tt, (tt, (tt, (cells, (ws, tt)))))) (tt, (tt, (tt, (tt, (len, (tt, tt)))))) (three-facts 𝓤 _ _ _ (told .number-is ∙ ap numberOf e) (told .words-are ∙ ap wordsOf e) e₂)) $
       split ! $ move ! (1 ∷ []) $ split ! $ move ! (1 ∷ []) $ split ! $ move ! (1 ∷ []) $ split ! $
       -- [κ₃'s token; true; κ₂'s; κ₁'s; κ's; κ₄'s; scratch's last list; answer's last words; the result's]
       move ! (0 ∷ 5 ∷ []) $ join ! $ move ! (2 ∷ 0 ∷ []) $ join ! $ move ! (2 ∷ 0 ∷ []) $ join ! $ move ! (2 ∷ 0 ∷ []) $ join ! $ frame ! $
       move ! (2 ∷ 0 ∷ []) $ fjoin ! $ move ! (1 ∷ 0 ∷ []) $ fjoin ! $ nothing ! $ fjoin ! $ nothing ! $ fjoin ! $ nothing ! $ fjoin ! $ nothing ! $ fjoin ! $ done !
 
-  module _ (C : Calls 𝓤 H) (Λ : Loops 𝓤 H) (fm : FmC 𝓤 H (W .laws) C) (known : Triple 𝓤 (C #pairs·verify-pairs) (Check 𝓤 H A at-mem run)) (known₂ : Triple 𝓤 (C #spoutbasket·tell-verified) (Tell 𝓤 H A at-mem run)) where
+  module _ (C : Calls 𝓤 H) (Λ : Loops 𝓤 H) (fm : FmC 𝓤 H (W .laws) C) (known : Triple 𝓤 (C #pairs·verify-pairs) (Check 𝓤 H A at-mem run)) (known₂ : Triple 𝓤 (C #tell·tell-verified) (Tell 𝓤 H A at-mem run)) where
     walk : Room T.the-row (length (x .now)) → Room u32 (length (x₁ .now)) → Room u32 (length (x₂ .now)) → Room u32 (length (x₃ .now))
         → ent 𝓤 (onEntry 𝓤 H A this.signature (κ, (κ₁, (κ₂, (κ₃, (κ₄, tt))))) (q, (q₁, (q₂, (q₃, (q₄, tt))))) a at) (WpFn 𝓤 H C Λ code.function args Post)
     walk g g₁ g₂ g₃ =
@@ -182,8 +183,8 @@ module _ {M : Type 1} (𝓤 : URA M) (H : Heap 𝓤) (A : Atoms 𝓤) (W : Given
         move ! (0 ∷ 4 ∷ []) $ use2 W (raw (Tell 𝓤 H A at-mem run .pre (to-tell v w))) (asks-tell 𝓤 H A κ₄ q₄ x₄ W E.the-row v w) $
         calls-at ! fm (Tell 𝓤 H A at-mem run) known₂ (to-tell v w) (and-then ! (load ! (from ! (stop !)) (look ! 10 refl)) (and-then ! (load ! (from ! (stop !)) (look ! 4 refl)) (no-more !))) (λ u.
         use1 W (later (some (λ (n : ℕ). ((‵ (flft κ₄ q₄) ⊛ ‵ ftrue) ⊛ ‵ (u32 .own n (u ∷ []))) ⊛ raw (ensured 𝓤 H A tell.ended (tell.clauses 𝓤 H A at-mem run) (κ₄, tt) (given-tell v w) tt n)))) (id⊢ 𝓤 _) $ await ! tt $ pick ! (λ n.
-        split ! $ move ! (1 ∷ []) $ use1 W (some (λ (us : Lasts tell.ended (κ₄, tt) (given-tell v w)). ‵ (lasts tell.ended (κ₄, tt) (given-tell v w) us) ⊛ raw (fact 𝓤 (Told (verifiedOf v) n (us .1 .0))))) (id⊢ 𝓤 _) $ pick ! (λ us.
-        split ! $ move ! (1 ∷ []) $ heard ! (Told (verifiedOf v) n (us .1 .0)) (λ told. fsplit ! $ drop ! $ fsplit ! $
+        split ! $ move ! (1 ∷ []) $ use1 W (some (λ (us : Lasts tell.ended (κ₄, tt) (given-tell v w)). ‵ (lasts tell.ended (κ₄, tt) (given-tell v w) us) ⊛ raw (fact 𝓤 (ToldAs (verifiedOf v) n (us .1 .0))))) (id⊢ 𝓤 _) $ pick ! (λ us.
+        split ! $ move ! (1 ∷ []) $ heard ! (ToldAs (verifiedOf v) n (us .1 .0)) (λ told. fsplit ! $ drop ! $ fsplit ! $
         -- [answer's last words; true; κ₄'s token and the number's; the tokens; scratch's last list; true; _10; …]
         move ! (2 ∷ []) $ split ! $ move ! (1 ∷ []) $ peeks ! u32 (Is u32) (shows 𝓤 H A u32) n (u ∷ []) (λ is₂.
         land ! (from ! (stop !)) (init ! 27 refl (uint-lawful 𝓤 H A W w32 .typed n _ is₂ .0)) $
@@ -194,7 +195,7 @@ module _ {M : Type 1} (𝓤 : URA M) (H : Heap 𝓤) (A : Atoms 𝓤) (W : Given
         keep ! (4 ∷ 1 ∷ 5 ∷ 2 ∷ 0 ∷ []) $ by ! (exits u n (ws .1 .1 .1 .1 .0) (us .1 .0) v e e₂ told len))))))))))))))))))))))))
 
 module _ {M : Type 1} (𝓤 : URA M) (H : Heap 𝓤) (A : Atoms 𝓤) (W : Given 𝓤 H A) (at-mem : Memory → SProp 𝓤) (run : Routine → Fun 𝓤) (𝓣 : Tables 𝓤 H)
-    (known : Triple 𝓤 (𝓣 .C #pairs·verify-pairs) (Check 𝓤 H A at-mem run)) (known₂ : Triple 𝓤 (𝓣 .C #spoutbasket·tell-verified) (Tell 𝓤 H A at-mem run)) where
+    (known : Triple 𝓤 (𝓣 .C #pairs·verify-pairs) (Check 𝓤 H A at-mem run)) (known₂ : Triple 𝓤 (𝓣 .C #tell·tell-verified) (Tell 𝓤 H A at-mem run)) where
   this-walks : Walks 𝓤 H A this.ended stayed (WpFn 𝓤 H (𝓣 .C) (𝓣 .Λ) code.function) (this.clauses 𝓤 H A at-mem run)
   this-walks = walked 𝓤 H A this.ended stayed (this.clauses 𝓤 H A at-mem run) (WpFn 𝓤 H (𝓣 .C) (𝓣 .Λ) code.function)
       (λ κs. (uint-vals w64, (slice-vals, (slice-vals, (slice-vals, (slice-vals, (ptr-vals, tt)))))))
@@ -205,7 +206,7 @@ module _ {M : Type 1} (𝓤 : URA M) (H : Heap 𝓤) (A : Atoms 𝓤) (W : Given
       (are .1 .0 .0 .1) (are .1 .1 .0 .0 .1) (are .1 .1 .1 .0 .0 .1) (are .1 .1 .1 .1 .0 .0 .1)))
 
 this-meets : {M : Type 1} (𝓤 : URA M) (H : Heap 𝓤) (A : Atoms 𝓤) → Given 𝓤 H A → (at-mem : Memory → SProp 𝓤) (run : Routine → Fun 𝓤) (𝓣 : Tables 𝓤 H)
-    → Triple 𝓤 (𝓣 .C #pairs·verify-pairs) (Check 𝓤 H A at-mem run) → Triple 𝓤 (𝓣 .C #spoutbasket·tell-verified) (Tell 𝓤 H A at-mem run)
+    → Triple 𝓤 (𝓣 .C #pairs·verify-pairs) (Check 𝓤 H A at-mem run) → Triple 𝓤 (𝓣 .C #tell·tell-verified) (Tell 𝓤 H A at-mem run)
     → Meets 𝓤 H A this.signature (WpFn 𝓤 H (𝓣 .C) (𝓣 .Λ) code.function) (this.spec 𝓤 H A at-mem run)
 this-meets 𝓤 H A W at-mem run 𝓣 known known₂ = walk-meets 𝓤 H A this.ended stayed W (
   goes-dropped 𝓤 H A W 5 (plain (λ _. usize)) yes (λ κs x f. refl),
@@ -229,4 +230,4 @@ spoutbasket-verify-pairs-spec 𝓤 H 𝓜 𝓖 𝓡 =
     (tables 𝓤 H 𝓜 𝓡 code.env .C) (tables 𝓤 H 𝓜 𝓡 code.env .Λ) #spoutbasket·spoutbasket-verify-pairs code.function (code.unfolded 𝓤 H 𝓜 𝓡)
     (this-meets 𝓤 H (𝓖 .A) (givenOf 𝓤 H 𝓜 𝓖) (𝓜 .mem) (𝓡 .run) (tablesOf 𝓤 H 𝓜 (tables 𝓤 H 𝓜 𝓡 code.env))
     (cited 𝓤 H (Check 𝓤 H (𝓖 .A) (𝓜 .mem) (𝓡 .run)) 𝓜 𝓡 code.env #pairs·verify-pairs check-def.routine code.calls-pairs·verify-pairs (check-thm.met 𝓤 H 𝓜 𝓖 𝓡))
-    (cited 𝓤 H (Tell 𝓤 H (𝓖 .A) (𝓜 .mem) (𝓡 .run)) 𝓜 𝓡 code.env #spoutbasket·tell-verified tell-def.routine code.calls-spoutbasket·tell-verified (tell-thm.met 𝓤 H 𝓜 𝓖 𝓡)))
+    (cited 𝓤 H (Tell 𝓤 H (𝓖 .A) (𝓜 .mem) (𝓡 .run)) 𝓜 𝓡 code.env #tell·tell-verified tell-def.routine code.calls-tell·tell-verified (tell-thm.met 𝓤 H 𝓜 𝓖 𝓡)))

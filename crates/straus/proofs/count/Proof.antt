@@ -4,13 +4,13 @@ use mathlib.Core.Path.{_≡_}
 use Prim.Native.Nat.{_+_, _*_, _≤_, _-_}
 use native.Mathlib.Omega.{arith}
 use Rattle.straus.proofs.Counting.{costsTo, columns-below, costs-on, count-all}
-use Rattle.straus.specs.Inner.{payslipMost}
+use Rattle.straus.specs.Inner.{strausPayslipMost}
 use Rattle.straus.proofs.Emitting.{payslip-asked}
 use Rattle.straus.proofs.count.Statement.{statement}
 use Rattle.straus.proofs.count.Tie as tie
 
 abbrev Inv-loop : tie.InvT-loop
-Inv-loop p q amounts k n₀ i₀ n i = (i ≤ q) × (n ≡ n₀ + costsTo p amounts k i) × (n ≤ n₀ + payslipMost * i)
+Inv-loop p q amounts k n₀ i₀ n i = (i ≤ q) × (n ≡ n₀ + costsTo p amounts k i) × (n ≤ n₀ + strausPayslipMost * i)
 
 abbrev μ-loop : tie.MeasureT-loop
 μ-loop p q amounts k n₀ i₀ n i = q - i

@@ -3,14 +3,14 @@ use borrow.Author.Needs.{needs}
 use mathlib.Core.Path.{_≡_, _∙_}
 use denote.Ref.{now}
 use Prim.Native.Nat.{_+_, _*_, _≤_, _-_}
-use Rattle.yao.specs.Inner.{payslipMost}
+use Rattle.yao.specs.Inner.{yaoPayslipMost}
 use Rattle.yao.proofs.Measuring.{squarings-sum}
 use Rattle.yao.proofs.Counting.{costsTo, costs-on, count-all}
 use Rattle.yao.proofs.chain_count.Statement.{statement}
 use Rattle.yao.proofs.chain_count.Tie as tie
 
 abbrev Inv-loop : tie.InvT-loop
-Inv-loop p q amounts k columns n₀ i₀ n i = (i ≤ q) × (n ≡ n₀ + costsTo p q amounts k i) × (n ≤ n₀ + payslipMost * i)
+Inv-loop p q amounts k columns n₀ i₀ n i = (i ≤ q) × (n ≡ n₀ + costsTo p q amounts k i) × (n ≤ n₀ + yaoPayslipMost * i)
 
 abbrev μ-loop : tie.MeasureT-loop
 μ-loop p q amounts k columns n₀ i₀ n i = q - i

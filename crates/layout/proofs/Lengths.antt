@@ -64,7 +64,7 @@ module _ (L : Layout) (sound : SoundLayout L) (p q n : ℕ) (sized : Sized L p q
   pub count-most : byteCount L p q n ≤ mostBytes L
   count-most = omega (arith, fields-low)
 
--- the longest file of edition 1 is that of the largest sizes, and the number that document 01 names
+-- the longest file of edition 1 is that of the largest sizes, and the number that Spec 5.4 names
 pub longest-reached : byteCount edition1 mostColumns mostPayslips (edition1 .limit) ≡ longestFile
 unfolding bitLength digitCount
 longest-reached = refl

@@ -1,4 +1,4 @@
-/* The listing of a chain file from C: document 01's example, and bytes that are no file. Ends with status 1 if a text is another than expected. */
+/* The listing of a chain file from C: the specification's example, and bytes that are no file. Ends with status 1 if a text is another than expected. */
 #include "spoutbasket.h"
 
 #include <stdio.h>

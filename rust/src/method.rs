@@ -36,7 +36,7 @@ impl Method {
     }
 }
 
-/// As document 01 writes it, `Straus 1`.
+/// By name and parameter, as `Straus 1`.
 impl fmt::Display for Method {
     fn fmt(&self, f: &mut fmt::Formatter) -> fmt::Result {
         match self {

@@ -2,7 +2,7 @@ use std::fmt;
 
 /// Input turned down, by number and place.
 ///
-/// The numbers are those of document 01, 1 to 16. A place is a step (for 9, 10, 11 and 13) or a payslip (for 12 and 14), counted from 1, and 0 where
+/// The numbers are those of the specification (docs/SPEC.md, 10.1), 1 to 16. A place is a step (for 9, 10, 11 and 13) or a payslip (for 12 and 14), counted from 1, and 0 where
 /// there is none.
 ///
 /// ```
@@ -41,7 +41,7 @@ impl Refusal {
             14 => "an output's exponents are not its payslip; in the chooser also another p or q",
             15 => "modulus 0",
             16 => "bases not p, or one not below the modulus",
-            _ => "no number of document 01",
+            _ => "no such refusal",
         }
     }
 }

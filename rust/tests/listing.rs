@@ -1,4 +1,4 @@
-//! Listings through the wrapper: document 01's example, refusals, and the largest sheet.
+//! Listings through the wrapper: worked example A, refusals, and the largest sheet.
 use spoutbasket::{list, Chain, Method, Refusal, Sheet, MOST_COLUMNS, MOST_PAYSLIPS};
 
 #[test]

@@ -1,4 +1,4 @@
-//! The small example of each refusal of document 01, through the wrapper's types.
+//! The small example of each refusal, through the wrapper's types.
 use spoutbasket::{choose, slices, Chain, Method, Refusal, Sheet};
 use spoutbasket::{MOST_COLUMNS, MOST_PAYSLIPS, MOST_STEPS};
 

@@ -1,4 +1,4 @@
-//! Trials A and J of document 01 through the wrapper.
+//! Worked examples A and J through the wrapper.
 use spoutbasket::{choose, Chain, Method, Refusal, Sheet};
 use spoutbasket::{MOST_COLUMNS, MOST_PAYSLIPS, MOST_STEPS, MOST_VALUES};
 

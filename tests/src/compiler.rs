@@ -1,4 +1,4 @@
-//! The three methods of document 01 in plain Rust, from the document's words: the chain that a method makes of a sheet, and apart from the chain
+//! The three methods in plain Rust, from the specification's words: the chain that a method makes of a sheet, and apart from the chain
 //! its count and its ceiling by the closed formulas.
 
 use crate::reference::{length, sizes, Answer, MOST_STEPS};

@@ -1,4 +1,4 @@
-//! Tests of the proved library from Rust: its C interface, a plain reference of document 01, and random chains.
+//! Tests of the proved library from Rust: its C interface, a plain reference of the specification, and random chains.
 pub mod compiler;
 pub mod ffi;
 pub mod random;

@@ -1,4 +1,4 @@
-//! Document 01 in plain Rust, written from the document alone: what each call answers and what it leaves in each lent slice.
+//! The specification in plain Rust, written from its text alone: what each call answers and what it leaves in each lent slice.
 //! It is slow and simple on purpose. The methods stand in `compiler`.
 
 pub use crate::compiler::{ceiling, compile, count, make, Job};

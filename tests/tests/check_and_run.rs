@@ -270,7 +270,7 @@ fn first_place_over_all_columns() {
     assert_eq!(same_check(&c, &[0, 0, 1, 1, 1, 0], &[9; 4]), Err((14, 2)));
 }
 
-/// Trials A, F and G of document 01, and its examples of refusals.
+/// Worked examples A, F and G, and the small examples of refusals.
 #[test]
 fn trials() {
     let a = Chain {

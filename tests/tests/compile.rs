@@ -1,4 +1,4 @@
-//! Compile against the plain compiler of document 01, step for step, every lent cell included.
+//! Compile against the plain compiler, step for step, every lent cell included.
 use spoutbasket_tests::compiler::methods;
 use spoutbasket_tests::ffi;
 use spoutbasket_tests::random::{job_counting, sheet, Random};

@@ -219,7 +219,7 @@ fn files_of_five_bytes() {
     assert!(read > 1000, "{read}");
 }
 
-/// Document 01's file and its examples of refusals.
+/// Worked example A's file, and the small examples of refusals.
 #[test]
 fn examples() {
     let a = Chain {

@@ -1,4 +1,4 @@
-//! The reference itself against document 01's trials, so that an agreement with it means something.
+//! The reference itself against the worked examples, so that an agreement with it means something.
 use spoutbasket_tests::compiler::methods;
 use spoutbasket_tests::random::{sheet, Random};
 use spoutbasket_tests::reference::*;
@@ -46,7 +46,7 @@ fn trials_g_and_h() {
     );
 }
 
-/// Trial J: example 2 of source document 000, by every method and parameter, run over the bases 3, 5 and 7.
+/// Worked example J, by every method and parameter, run over the bases 3, 5 and 7.
 #[test]
 fn trial_j() {
     let amounts = [3, 0, 2, 1, 2, 0, 0, 0, 2, 3, 2, 1];
@@ -77,7 +77,7 @@ fn trial_j() {
     }
 }
 
-/// What document 01 leaves to a reading: tables are made for a sheet of zeros too, and for subsets that nobody uses; the larger number stands first.
+/// What is easily read otherwise: tables are made for a sheet of zeros too, and for subsets that nobody uses; the larger number stands first.
 #[test]
 fn readings() {
     assert_eq!(

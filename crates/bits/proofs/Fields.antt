@@ -1,4 +1,4 @@
--- Fields of one width meet at multiples of it, so a field is found by dropping whole fields; bytes are fields of 8 bits, and a field is read out of any window of bytes that covers it.
+-- Fields of one width meet at its multiples, so a field is found by dropping whole ones; bytes are fields of 8 bits, and a window covers a field.
 use mathlib.Core.Path.{_≡_, refl, sym, ap, ap₂, _∙_}
 use mathlib.Core.Bool.{Bool}
 use mathlib.Core.List.{List, [], _∷_, _++_, append-assoc}

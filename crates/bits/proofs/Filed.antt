@@ -36,7 +36,8 @@ filed-filed b c old h =
     over-over _ _ old (omega (arith, length-pack (bytesFor (length b)) b, length-pack (bytesFor (length c)) c))
 
 -- bits more, after those that the buffer has so far
-pub filed-more : (b more : List Bool) (old : List ℕ) (at : ℕ) → length b ≡ at → filed (take at (bytesBits (filed b old)) ++ more) (filed b old) ≡ filed (b ++ more) old
+pub filed-more : (b more : List Bool) (old : List ℕ) (at : ℕ) → length b ≡ at
+    → filed (take at (bytesBits (filed b old)) ++ more) (filed b old) ≡ filed (b ++ more) old
 filed-more b more old at lb =
     ap (λ (r : List Bool). filed (r ++ more) (filed b old)) (ap (λ (k : ℕ). take k (bytesBits (filed b old))) (sym lb) ∙ filed-bits b old)
     ∙ filed-filed b (b ++ more) old (omega (arith, length-append b more))
@@ -70,7 +71,8 @@ pub fields-back : (xs : List ℕ) (w : ℕ) (a c : List Bool) (old : List ℕ) �
 unfolding fields fieldsAt
 fields-back [] w a c old ok = refl
 fields-back (x ∷ xs) w a c old ok =
-    let r : a ++ ((bits w x ++ fields w xs) ++ c) ≡ a ++ (bits w x ++ (fields w xs ++ c)) = ap (λ (t : List Bool). a ++ t) (append-assoc (bits w x) (fields w xs) c) in
+    let r : a ++ ((bits w x ++ fields w xs) ++ c) ≡ a ++ (bits w x ++ (fields w xs ++ c)) = ap (λ (t : List Bool). a ++ t)
+    (append-assoc (bits w x) (fields w xs) c) in
     let la : length (a ++ bits w x) ≡ length a + w = length-append a (bits w x) ∙ ap (λ (n : ℕ). length a + n) (length-bits w x) in
     ap₂ (λ (y : ℕ) (ys : List ℕ). y ∷ ys)
     (ap (λ (t : List Bool). fieldAt (filed t old) (length a) w) r ∙ field-back w x a (fields w xs ++ c) old (ok 0))

@@ -71,7 +71,8 @@ pack-four x h =
     ap₂ (λ (a : ℕ) (r : List ℕ). a ∷ r) (byte 0 24 refl (lit≤ tt))
     (ap₂ (λ (a : ℕ) (r : List ℕ). a ∷ r) (byte 8 16 refl (lit≤ tt))
     (ap₂ (λ (a : ℕ) (r : List ℕ). a ∷ r) (ap (λ (t : List Bool). value (front 8 t)) (drop-drop 8 8 (bits 32 x)) ∙ byte 16 8 refl (lit≤ tt))
-    (ap (λ (a : ℕ). a ∷ []) (ap (λ (t : List Bool). value (front 8 t)) (drop-drop 8 8 (drop 8 (bits 32 x)) ∙ drop-drop 16 8 (bits 32 x)) ∙ byte 24 0 refl (lit≤ tt) ∙ omega arith))))
+    (ap (λ (a : ℕ). a ∷ []) (ap (λ (t : List Bool). value (front 8 t)) (drop-drop 8 8 (drop 8 (bits 32 x)) ∙ drop-drop 16 8 (bits 32 x))
+    ∙ byte 24 0 refl (lit≤ tt) ∙ omega arith))))
 
 -- at most four bytes of bits, as the bytes of one number
 spread-pack : (y : List Bool) (m : ℕ) → length y ≤ 32 → m ≤ 4 → take m (spread (value y * 2 ^ (32 - length y))) ≡ pack m y
@@ -150,7 +151,8 @@ module _ (l : List ℕ) (at w v b : ℕ) (ok : Bytes l) (fill : FieldFill l at w
       ∙ ap (λ (x : ℕ). take o (bits 8 x)) (sym is) in
       ap (λ (n : ℕ). take n (bytesBits l) ++ bits w v) (sym (div-add-mod' at 8))
       ∙ ap (λ (r : List Bool). r ++ bits w v)
-      (take-add (i * 8) o (bytesBits l) ∙ ap₂ (λ (x y : List Bool). x ++ take o y) (take-bytesBits i l) (drop-bytesBits i l) ∙ ap (λ (r : List Bool). bytesBits (take i l) ++ r) t)
+      (take-add (i * 8) o (bytesBits l) ∙ ap₂ (λ (x y : List Bool). x ++ take o y) (take-bytesBits i l) (drop-bytesBits i l)
+      ∙ ap (λ (r : List Bool). bytesBits (take i l) ++ r) t)
       ∙ append-assoc (bytesBits (take i l)) (take o (bits 8 b)) (bits w v)
 
   pub put-stored : (new : List ℕ)
@@ -164,7 +166,8 @@ module _ (l : List ℕ) (at w v b : ℕ) (ok : Bytes l) (fill : FieldFill l at w
       let li : length (take i l) ≡ i = length-take-le i l (omega (arith, fill .room .within)) in
       let s : take m (spread (head * 2 ^ 24 + field)) ≡ pack m ends =
       ap (λ (x : ℕ). take m (spread x)) shifted ∙ spread-pack ends m (omega (arith, length-ends)) (omega arith) in
-      let n : length (bytesBits (take i l) ++ ends) ≡ at + w = length-append (bytesBits (take i l)) ends ∙ omega (arith, length-bytesBits (take i l), length-ends, li) in
+      let n : length (bytesBits (take i l) ++ ends) ≡ at + w = length-append (bytesBits (take i l)) ends
+      ∙ omega (arith, length-bytesBits (take i l), length-ends, li) in
       let k : i + m ≡ bytesFor (length (bytesBits (take i l) ++ ends)) = sym (ap bytesFor n ∙ omega arith) in
       record {
         is =
@@ -172,7 +175,8 @@ module _ (l : List ℕ) (at w v b : ℕ) (ok : Bytes l) (fill : FieldFill l at w
             ∙ ap (λ (r : List ℕ). take i l ++ (r ++ drop (i + length r) l)) s
             ∙ ap (λ (x : ℕ). take i l ++ (pack m ends ++ drop (i + x) l)) (length-pack m ends)
             ∙ sym (append-assoc (take i l) (pack m ends) (drop (i + m) l))
-            ∙ ap (λ (r : List ℕ). r ++ drop (i + m) l) (sym (pack-onto (take i l) m ends (Bytes-take i l ok)) ∙ ap (λ (x : ℕ). pack (x + m) (bytesBits (take i l) ++ ends)) li)
+            ∙ ap (λ (r : List ℕ). r ++ drop (i + m) l) (sym (pack-onto (take i l) m ends (Bytes-take i l ok))
+            ∙ ap (λ (x : ℕ). pack (x + m) (bytesBits (take i l) ++ ends)) li)
             ∙ ap (λ (x : ℕ). pack (i + m) (bytesBits (take i l) ++ ends) ++ drop x l) (sym (length-pack (i + m) (bytesBits (take i l) ++ ends)))
             ∙ ap (λ (x : ℕ). over (pack x (bytesBits (take i l) ++ ends)) l) k
             ∙ ap (λ (r : List Bool). filed r l) (sym whole);

@@ -1,7 +1,6 @@
 -- A call of `BitReader::take` as one step of a walk by hand: what the bytes own goes in with the reader and comes back, and the machine value is that of the field read.
 --     reader-own, reader-bytes     what the bytes own is what a reader of them owns, at any position, and back
---     takes          the call, as a step: the machine value handed back is that of the field and of the reader past it, and the lifetime's token and what the bytes own are still there
--- Assumes nothing.
+--     takes          the call, as a step: the machine value is that of the field and of the reader past it; the lifetime's token and what the bytes own are still there
 use mathlib.Core.Path.{_≡_, refl, sym, ap, ap₂, subst, _∙_}
 use mathlib.Core.List.{List, [], _∷_}
 use Prim.Native.Nat.{ℕ, _+_, _<_, _^_}
@@ -19,7 +18,8 @@ use prog.Routine.{Routine}
 use prog.Wp.{Heap, Env, Calls, Loops}
 use ghost.Atoms.{Atoms, sem}
 use contract.Monad.{Fun, fact}
-use types.Kit.{Given, Item, mean, Post, Goal, runs, lands, Seq, Step, step, ‵, raw, _⊛_, given, ⋆, some, later, _$_, _∵_, !, qed, by, move, keep, drop, use1, use2, split, learn, pick, fjoin, frame, await, done}
+use types.Kit.{Given, Item, mean, Post, Goal, runs, lands, Seq, Step, step, ‵, raw, _⊛_, given, ⋆, some, later, _$_, _∵_, !, qed, by, move, keep}
+use types.Kit.{drop, use1, use2, split, learn, pick, fjoin, frame, await, done}
 use types.Run.{Opds}
 use sound.WpLaws.{FmC}
 use denote.Laws.{Is, shows}
@@ -85,7 +85,8 @@ module _ (s : RefT (List ℕ)) (at w : ℕ) (wt : WT (bytesVal s)) (room : Field
 -- what a cursor owns is had for nothing
 module _ {M : Type 1} {𝓤 : URA M} {H : Heap 𝓤} {A : Atoms 𝓤} {K : Type 0} {W : Given 𝓤 H A} {Γ : List (Item 𝓤)} {G : Goal 𝓤 H} where
   pub has-cursor : K → (at : ℕ) → at < 2 ^ 64 → Step K W (‵ (C.the-row .own (record { at = at }) (C′.lowered (record { at = at }) ∷ [])) ∷ Γ) G Γ G
-  has-cursor t at fits = owned t C.the-row (Is C.the-row) (LL.makes C.the-type C′.the-plain 𝓤 H A) (record { at = at }) _ (LL.owes C.the-type C′.the-laws (record { at = at }) ((refl, fits), tt))
+  has-cursor t at fits = owned t C.the-row (Is C.the-row) (LL.makes C.the-type C′.the-plain 𝓤 H A) (record { at = at }) _
+      (LL.owes C.the-type C′.the-laws (record { at = at }) ((refl, fits), tt))
 
 -- the contract of `take`
 abbrev pub Take : {M : Type 1} (𝓤 : URA M) (H : Heap 𝓤) (A : Atoms 𝓤) (mem : Memory → SProp 𝓤) (run : Routine → Fun 𝓤) → Contract 𝓤
@@ -142,13 +143,17 @@ module _ {M : Type 1} (𝓤 : URA M) (H : Heap 𝓤) (A : Atoms 𝓤) (κ : Lft)
     module _ {K : Type 0} {W : Given 𝓤 H A} {Γ : List (Item 𝓤)} {E : Env 𝓤 H} {C : Calls 𝓤 H} {Λ : Loops 𝓤 H} {xs : List Operand} {d : Place} {rest : Body} {p : Post 𝓤 H} where
       pub takes : K → FmC 𝓤 H (W .laws) C → Triple 𝓤 (C #bits·BitReader·take) (Take 𝓤 H A mem run) → FieldRoom (now s) at w
           → Opds K W (raw (Take 𝓤 H A mem run .pre to-take) ∷ ‵ (Bytes κ s) ∷ Γ) E xs (B′.lowered (readerAt s at) ∷ vint w64 w ∷ [])
-          → Step K W (Token κ q ∷ ‵ (Bytes κ s) ∷ Γ) (lands C Λ E d (R′.lowered (readAt s at w)) rest p) (Token κ q ∷ ‵ (Bytes κ s) ∷ Γ) (runs C Λ E (seq (call #bits·BitReader·take xs d) rest) p)
+          → Step K W (Token κ q ∷ ‵ (Bytes κ s) ∷ Γ) (lands C Λ E d (R′.lowered (readAt s at w)) rest p) (Token κ q ∷ ‵ (Bytes κ s) ∷ Γ)
+          (runs C Λ E (seq (call #bits·BitReader·take xs d) rest) p)
       takes t fm known room os = step (λ z.
           -- [the token; what the bytes own; …]: a copy of it goes to the call
-          move t (1 ∷ []) $ use1 W (‵ (Bytes κ s) ⊛ ‵ (Bytes κ s)) (shr-slice-copy 𝓤 H A W (named 0) κ u8 .twice s (bytesVal s ∷ [])) $ split t $ move t (2 ∷ 0 ∷ []) $
+          move t (1 ∷ []) $ use1 W (‵ (Bytes κ s) ⊛ ‵ (Bytes κ s)) (shr-slice-copy 𝓤 H A W (named 0) κ u8 .twice s (bytesVal s ∷ [])) $ split t $
+          move t (2 ∷ 0 ∷ []) $
           use2 W (raw (Take 𝓤 H A mem run .pre to-take)) (asks-take W room) $
           calls-at t fm (Take 𝓤 H A mem run) known to-take os (λ u.
-          use1 W (later (some (λ (r : ReadField). (Token κ q ⊛ ‵ (R.the-row (lifetime κ) .own r (u ∷ []))) ⊛ raw (ensured 𝓤 H A take.ended (take.clauses 𝓤 H A mem run) (κ, tt) passed tt r)))) (id⊢ 𝓤 _) $ await t tt $ pick t (λ r.
+          use1 W (later (some (λ (r : ReadField). (Token κ q ⊛ ‵ (R.the-row (lifetime κ) .own r (u ∷ []))) ⊛ raw (ensured 𝓤 H A take.ended
+          (take.clauses 𝓤 H A mem run) (κ, tt) passed tt r)))) (id⊢ 𝓤 _) $ await t tt $ pick t (λ r.
           split t $ move t (1 ∷ []) $ use1 W (raw (fact 𝓤 (Found r))) (found r) $ heard t (Found r) (λ e. split t $ move t (1 ∷ []) $
           peeks t (R.the-row (lifetime κ)) (Is (R.the-row (lifetime κ))) (shows 𝓤 H A (R.the-row (lifetime κ))) r (u ∷ []) (λ is. drop t $
-          subst (λ (x : Val). Seq K W (Token κ q ∷ ‵ (Bytes κ s) ∷ Γ) (lands C Λ E d x rest p)) (sym (ap only (LL.tells (R.the-type (lifetime κ)) (R′.the-laws (lifetime κ)) r _ is) ∙ ap R′.lowered (is-read r e))) z)))))
+          subst (λ (x : Val). Seq K W (Token κ q ∷ ‵ (Bytes κ s) ∷ Γ) (lands C Λ E d x rest p))
+          (sym (ap only (LL.tells (R.the-type (lifetime κ)) (R′.the-laws (lifetime κ)) r _ is) ∙ ap R′.lowered (is-read r e))) z)))))

@@ -8,7 +8,7 @@ use lib.ListN.{getD}
 use lib.Dec.{lit<}
 use lib.Pow.{pow-pos, shl-exact}
 use Rattle.bits.specs.Bits.{value, bytesBits}
-use Rattle.bits.specs.Inner.{widestField, window, Gathered, FieldRoom, FieldTaken}
+use Rattle.bits.specs.Inner.{widestField, window, WordAt, FieldRoom, FieldTaken}
 use Rattle.bits.proofs.Fields.{field-window, value-bytes}
 
 no-bytes : value (bytesBits []) ≡ 0
@@ -24,7 +24,7 @@ abbrev ByteAt : List ℕ → ℕ → ℕ → Type 0
 ByteAt l i a = (a ≡ getD l i 0) × (a < 256)
 
 pub gathered : (l : List ℕ) (i a b c d : ℕ) → ByteAt l i a → ByteAt l (i + 1) b → ByteAt l (i + 2) c → ByteAt l (i + 3) d
-    → Gathered l i (((a * 256 + b) * 256 + c) * 256 + d)
+    → WordAt l i (((a * 256 + b) * 256 + c) * 256 + d)
 unfolding window
 gathered l i a b c d pa pb pc pd =
     let at : (j k x : ℕ) → j ≡ k → x ≡ getD l j 0 → x ≡ getD l k 0 = λ j k x e p. p ∙ ap (λ (m : ℕ). getD l m 0) e in
@@ -44,7 +44,7 @@ one-shl w h = shl-exact 1 w 64 (lit< tt) (omega arith) ∙ one-mul (2 ^ w)
 pub one-shl-pos : (w : ℕ) → w ≤ widestField → 0 < 1 * 2 ^ w % 2 ^ 64
 one-shl-pos w h = subst (λ (m : ℕ). 0 < m) (sym (one-shl w h)) (pow-pos w)
 
-pub taken : (l : List ℕ) (at w g : ℕ) → FieldRoom l at w → Gathered l (at / 8) g
+pub taken : (l : List ℕ) (at w g : ℕ) → FieldRoom l at w → WordAt l (at / 8) g
     → FieldTaken l at w (g / 2 ^ (32 - (at % 8 + w)) % (1 * 2 ^ w % 2 ^ 64)) (at + w)
 taken l at w g room got =
     let e : g / 2 ^ (32 - (at % 8 + w)) % (1 * 2 ^ w % 2 ^ 64) ≡ g / 2 ^ (32 - (at % 8 + w)) % 2 ^ w =

@@ -1,4 +1,4 @@
--- Bits and numbers are each other's inverse below 2 ^ w, by one bit at a time; the middle of a bit list is a shift and a remainder of the number it spells.
+-- Bits and numbers are each other's inverse below 2 ^ w, bit by bit; the middle of a bit list is a shift and a remainder of its number.
 use mathlib.Core.Path.{_≡_, refl, sym, ap, ap₂, _∙_, subst}
 use mathlib.Core.Bool.{Bool, true, false}
 use mathlib.Core.List.{List, [], _∷_, _++_, append-assoc}

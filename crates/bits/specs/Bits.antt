@@ -1,4 +1,4 @@
--- Bit fields (document 01, "File"): "Bit fields, most significant first". A bit is a Bool.
+-- Bit fields, the highest bit of a number and of a byte first (Spec 5.1). A bit is a Bool.
 use mathlib.Core.Bool.{Bool, true, false}
 use mathlib.Core.List.{List, [], _∷_, _++_}
 use Prim.Native.Nat.{ℕ, zero, suc, _+_, _*_, _/_, _%_, _^_}
@@ -39,7 +39,7 @@ front zero b = []
 front (suc n) [] = false ∷ front n []
 front (suc n) (x ∷ b) = x ∷ front n b
 
--- the first n bytes that bits fill, "then zero bits to the byte"
+-- the first n bytes that bits fill, with zero bits after the last one (Spec 5.3)
 unfoldable pub pack : ℕ → List Bool → List ℕ
 unfolding value front
 pack zero b = []

@@ -44,7 +44,7 @@ window zero l i = []
 window (suc n) l i = getD l i 0 ∷ window n l (suc i)
 
 -- r is the number of the four bytes from i on
-pub record Gathered (file : List ℕ) (i r : ℕ) : Type 0 where
+pub record WordAt (file : List ℕ) (i r : ℕ) : Type 0 where
   pub is : r ≡ value (bytesBits (window 4 file i))
   pub small : r < 2 ^ 32
 

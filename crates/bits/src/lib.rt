@@ -4,7 +4,7 @@ ghost use Prim.Native.Nat.{_+_, _*_, _%_, _^_, _≤_, _<_};
 ghost use lib.ListN.{length, take, getD};
 ghost use Rattle.chain.specs.Written.{laid};
 ghost use Rattle.bits.specs.Bits.{bits};
-ghost use Rattle.bits.specs.Inner.{spread, Gathered, FieldRoom, FieldTaken, FieldFill, FieldStored};
+ghost use Rattle.bits.specs.Inner.{spread, WordAt, FieldRoom, FieldTaken, FieldFill, FieldStored};
 
 // A bit position of a file.
 pub struct Cursor {
@@ -52,7 +52,7 @@ fn byte_or_zero(file: &[u8], i: usize) -> u64
 // The four bytes from i on as one number. Where all are there, they are read as one word.
 fn gather(file: &[u8], i: usize) -> u64
     requires { ⌜ i ≤ length (now file) ⌝ }
-    ensures { λ r. ⌜ Gathered (now (file .entry)) i r ⌝ }
+    ensures { λ r. ⌜ WordAt (now (file .entry)) i r ⌝ }
 {
     if i + 4 <= file.len() {
         let a = byte(file, i);
@@ -130,7 +130,8 @@ impl<'a> BitReader<'a> {
     // The field of width bits at the reader's position, and a reader of the same bytes past it.
     pub fn take(self, width: usize) -> ReadField<'a>
         requires { ⌜ FieldRoom (now (self .bytes)) (self .cursor .at) width ⌝ }
-        ensures { λ r. ⌜ FieldTaken (now (self .entry .bytes)) (self .entry .cursor .at) width (r .value) (r .next .cursor .at) × (r .next .bytes ≡ self .entry .bytes) ⌝ }
+        ensures { λ r. ⌜ FieldTaken (now (self .entry .bytes)) (self .entry .cursor .at) width (r .value)
+            (r .next .cursor .at) × (r .next .bytes ≡ self .entry .bytes) ⌝ }
     {
         let field = self.cursor.take(self.bytes, width);
         ReadField {

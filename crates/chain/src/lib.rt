@@ -8,7 +8,7 @@ ghost use Rattle.chain.specs.Written.{over};
 ghost use Rattle.chain.specs.Inner.{stepAt};
 ghost use Rattle.chain.specs.Judgement.{verdictOf};
 
-// Limits of document 01: columns, payslips, steps, amounts.
+// The limits (Spec 1.1, 2.1, 1.2): columns, payslips, steps, amounts.
 pub const MOST_COLUMNS: usize = 16;
 
 pub const MOST_PAYSLIPS: usize = 64;
@@ -27,7 +27,7 @@ pub struct Step {
     pub second: u32,
 }
 
-// What a rule finds: nothing, or a refusal with its number in document 01 and its place, 0 for none.
+// What a rule finds: nothing, or a refusal with its number and its place, 0 for none (Spec 10).
 pub enum Judgement {
     Fine,
     Refused(u32, usize),

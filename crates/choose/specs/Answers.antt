@@ -1,4 +1,4 @@
--- What the code's enums say in document 01's terms.
+-- What each case of the code's enums says (Spec 8).
 use Prim.Native.Nat.{ℕ}
 use Rattle.chain.specs.Verdict.{Verdict, fine, refused}
 use Rattle.choose.specs.Choose.{Choice, first, second, neither}

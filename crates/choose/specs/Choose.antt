@@ -1,8 +1,8 @@
--- The chooser (document 01, "Chooser and lister").
+-- The chooser (Spec 8).
 use mathlib.Core.Path.{_≡_}
 use mathlib.Core.Bool.{cond}
 use mathlib.Core.List.{List, []}
-use Prim.Native.Nat.{ℕ, _+_}
+use Prim.Native.Nat.{ℕ}
 use denote.Ref.{RefT, now}
 use Rattle.chain.specs.Tests.{_<?_, _≤?_, _≠?_, _or_}
 use Rattle.chain.specs.Verdict.{Verdict, fine, refused, _then_, refuseIf}
@@ -12,11 +12,11 @@ use Rattle.verify.specs.Verify.{scratchSize, verifyRule}
 use Rattle.layout.specs.Layout.{edition1}
 use Rattle.layout.specs.File.{columnsOf, payslipsOf, lengthOf, stepsOf, outputsOf, readRule}
 
--- "its scratch must hold 16,000 pairs, 64 outputs and 16,017 numbers"
+-- Spec 8: as many numbers as the check of any file's chain needs
 abbrev pub mostScratch : ℕ
 mostScratch = scratchSize mostColumns (edition1 .limit)
 
--- "those that read and pass": a file read, and held against the sheet. "A file that reads but has another p or q than the sheet is 14, place 0."
+-- Spec 8: what is found against a file: reading it, then another p or q than the sheet has (14), then the check
 unfoldable pub fileRule : ℕ → ℕ → List ℕ → List ℕ → Verdict
 fileRule p q amounts file =
     readRule edition1 file (edition1 .limit) mostPayslips
@@ -29,7 +29,7 @@ pub data Choice : Type 0 where
   second : Choice
   neither : ℕ → ℕ → Choice
 
--- "the file with fewer steps among those that read and pass, the first on equality"; "If neither does, the first file's refusal".
+-- Spec 8: of two good files the one with fewer steps, the first if they are equal; of one, that one; of none, the first file's refusal.
 -- The verdicts on the two files, and their numbers of steps.
 unfoldable pub better : Verdict → Verdict → ℕ → ℕ → Choice
 better fine fine m n = cond (m ≤? n) first second
@@ -42,7 +42,7 @@ unfoldable pub unless : Verdict → Choice → Choice
 unless fine c = c
 unless (refused k s) c = neither k s
 
--- "Before either file it tests 1 and 2 of the sheet, then 5"; the last three arguments are how many pairs, outputs and numbers are lent
+-- Spec 8: before the files 1, 2, then 5; the last three arguments are how many pairs, outputs and numbers are lent
 unfoldable pub chooseRule : ℕ → ℕ → List ℕ → ℕ → ℕ → ℕ → Verdict
 chooseRule p q amounts pairsLent outputsLent numbersLent =
     sheetRule p q amounts
@@ -53,7 +53,7 @@ choice p q amounts a b pairsLent outputsLent numbersLent =
     unless (chooseRule p q amounts pairsLent outputsLent numbersLent)
     (better (fileRule p q amounts a) (fileRule p q amounts b) (lengthOf edition1 a) (lengthOf edition1 b))
 
--- What is handed back of files a and b: "the lender's own bytes", that very slice, with number and place 0; or an empty part and the refusal.
+-- Spec 8: what is handed back of files a and b: that very slice, with number and place 0; or an empty part and the refusal.
 abbrev pub Handed : Choice → RefT (List ℕ) → RefT (List ℕ) → RefT (List ℕ) → ℕ → ℕ → Type 0
 Handed first a b r number place = (r ≡ a) × ((number ≡ 0) × (place ≡ 0))
 Handed second a b r number place = (r ≡ b) × ((number ≡ 0) × (place ≡ 0))

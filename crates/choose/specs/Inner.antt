@@ -1,8 +1,7 @@
 -- Inner vocabulary: what judging a file asks of the lent scratch, and finds. Nobody has to believe it to believe an entry point's promise.
 use mathlib.Core.Path.{_≡_}
 use mathlib.Core.List.{List}
-use Prim.Native.Nat.{ℕ, _/_, _≤_}
-use lib.ListN.{length}
+use Prim.Native.Nat.{ℕ, _≤_}
 use Rattle.chain.specs.Verdict.{fine}
 use Rattle.chain.specs.Chain.{mostPayslips}
 use Rattle.layout.specs.Layout.{edition1}

@@ -120,7 +120,8 @@ pub fn decide(
     outputs: &mut [u32],
     numbers: &mut [u32],
 ) -> Chosen
-    ensures { λ r. ⌜ choiceOf r ≡ choice p q (now (amounts .entry)) (now (a .entry)) (now (b .entry)) (length (now (steps .entry)) / 2) (length (now (outputs .entry))) (length (now (numbers .entry))) ⌝ }
+    ensures { λ r. ⌜ choiceOf r ≡ choice p q (now (amounts .entry)) (now (a .entry)) (now (b .entry))
+        (length (now (steps .entry)) / 2) (length (now (outputs .entry))) (length (now (numbers .entry))) ⌝ }
 {
     match judge_lent(p, q, amounts, steps.len() / 2, outputs.len(), numbers.len()) {
         Judgement::Refused(number, place) => Chosen::Neither(number, place),
@@ -146,7 +147,9 @@ pub fn choose<'a>(
     number: &mut u32,
     place: &mut usize,
 ) -> &'a [u8]
-    ensures { λ r. ⌜ Handed (choice p q (now (amounts .entry)) (now (a .entry)) (now (b .entry)) (length (now (steps .entry)) / 2) (length (now (outputs .entry))) (length (now (numbers .entry)))) (a .entry) (b .entry) r (now (number .exit)) (now (place .exit)) ⌝ }
+    ensures { λ r. ⌜ Handed (choice p q (now (amounts .entry)) (now (a .entry)) (now (b .entry))
+        (length (now (steps .entry)) / 2) (length (now (outputs .entry))) (length (now (numbers .entry)))) (a .entry)
+        (b .entry) r (now (number .exit)) (now (place .exit)) ⌝ }
 {
     *number = 0;
     *place = 0;

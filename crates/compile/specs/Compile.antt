@@ -1,4 +1,4 @@
--- Compile (document 01, "The three methods", "Turned down"): from a sheet to a chain by a method's number and its parameter.
+-- Compile (Spec 3, 7.1): from a sheet to a chain by a method's number and its parameter.
 use mathlib.Core.Bool.{Bool, true, cond}
 use mathlib.Core.List.{List, [], _∷_}
 use Prim.Native.Nat.{ℕ, _*_, _/_}
@@ -18,7 +18,7 @@ use Rattle.partition.specs.Method.{partitionMethod}
 abbrev pub outside : ℕ → ℕ → ℕ → Bool
 outside lowest highest k = k <? lowest or highest <? k
 
--- "Each method has a number and its own range of parameters": 3, "method or parameter"
+-- Spec 3: refusal 3, by the table of methods and their ranges
 unfoldable pub methodRule : ℕ → ℕ → ℕ → Verdict
 methodRule p method k =
     refuseIf
@@ -44,26 +44,25 @@ count p q amounts method k = methodOf p q amounts method k .count
 abbrev pub ceiling : ℕ → ℕ → List ℕ → ℕ → ℕ → ℕ
 ceiling p q amounts method k = methodOf p q amounts method k .ceiling
 
--- "A sheet, a method and a parameter are accepted together if compile's order below, 5 left aside, finds nothing against them;
--- for its 4, n is the method's count": 1, 2, 3, 4
+-- Spec 7.1: accepted together, if 1, 2, 3 and 4 do not apply; n is the method's count
 unfoldable pub acceptedRule : ℕ → ℕ → List ℕ → ℕ → ℕ → Verdict
 acceptedRule p q amounts method k =
     sheetRule p q amounts
     then methodRule p method k
     then lengthRule mostSteps (count p q amounts method k)
 
--- "compile 1, 2, 3, 4, 5"; the last two arguments are how many pairs and outputs are lent
+-- Spec 10.2: and then 5; the last two arguments are how many pairs and outputs are lent
 unfoldable pub compileRule : ℕ → ℕ → List ℕ → ℕ → ℕ → ℕ → ℕ → Verdict
 compileRule p q amounts method k pairsLent outputsLent =
     acceptedRule p q amounts method k
     then refuseIf (pairsLent <? count p q amounts method k or outputsLent <? q) 5 0
 
--- "On success compile and run return n"
+-- Spec 10.6: n
 unfoldable pub compileAnswer : ℕ → ℕ → List ℕ → ℕ → ℕ → ℕ → ℕ → Answer
 compileAnswer p q amounts method k pairsLent outputsLent =
     answer (compileRule p q amounts method k pairsLent outputsLent) (count p q amounts method k ∷ [])
 
--- what the lent slices are afterwards, steps in turn; each was old before
+-- Spec 10.5: what the lent slices are afterwards, steps in turn; each was old before
 unfoldable pub compileSteps : ℕ → ℕ → List ℕ → ℕ → ℕ → ℕ → List ℕ → List ℕ
 compileSteps p q amounts method k outputsLent old =
     onFine (compileRule p q amounts method k (length old / 2) outputsLent) (over (flat (chainOf p q amounts method k .steps)) old) old

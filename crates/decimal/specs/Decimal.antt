@@ -1,4 +1,4 @@
--- Numbers as decimal text (document 01, "Chooser and lister"), the bytes that part them, and the word of a refusal.
+-- Numbers as decimal text, the bytes that part them, and the word of a refusal (Spec 9).
 use mathlib.Core.List.{List, [], _∷_}
 use Prim.Native.Nat.{ℕ, zero, suc, _+_, _/_, _%_}
 

@@ -1,4 +1,4 @@
--- Digits in base 2^k (document 01, "The three methods") and bit lengths ("File").
+-- Digits in base 2^k and bit lengths (Spec 3.3).
 use Prim.Native.Nat.{ℕ, zero, suc, _*_, _/_, _%_, _^_}
 
 -- the digits of x, counted off one by one, as far as the first argument allows
@@ -7,15 +7,15 @@ digitsIn zero k x = 0
 digitsIn (suc f) k zero = 0
 digitsIn (suc f) k (suc x) = suc (digitsIn f k (suc x / 2 ^ k))
 
--- "the base-2^k digits": how many x has; 0 has none. A number has at most as many digits as units.
+-- Spec 3.3: how many digits x has; 0 has none. A number has at most as many digits as units.
 unfoldable pub digitCount : ℕ → ℕ → ℕ
 digitCount k x = digitsIn x k x
 
--- "the bit length"
+-- Spec 3.3: the digits in base 2
 unfoldable pub bitLength : ℕ → ℕ
 unfolding digitCount
 bitLength x = digitCount 1 x
 
--- the digit of x with weight 2^(kj)
+-- Spec 3.3: digit j of x, the one with weight 2^(kj)
 abbrev pub digit : ℕ → ℕ → ℕ → ℕ
 digit k x j = x / 2 ^ (k * j) % 2 ^ k

@@ -8,7 +8,7 @@ use Rattle.chain.specs.declared.Step.{Step}
 use Rattle.layout.specs.Layout.{edition1}
 use Rattle.layout.specs.File.{columnsOf, payslipsOf, lengthOf, fileOf, writeRule, writeBytes, readRule, readSteps, readOutputs}
 
--- "Read gets exactly the bytes that write counted."
+-- read gets exactly the bytes that write counted
 module _ (p : ℕ) (steps : List Step) (outputs : List ℕ) (bytesLent : ℕ) where
   abbrev file : List ℕ
   file = fileOf edition1 p steps outputs

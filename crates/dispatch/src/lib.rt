@@ -13,7 +13,9 @@ pub fn dispatch(
     received: &mut [u32],
     results: &mut [u32],
 ) -> Reading
-    ensures { λ r. ⌜ Dispatched p (pairs (now (steps .entry))) (now (outputs .entry)) (now (bytes .entry)) (now (received .entry)) (now (results .entry)) (readOf r) (now (bytes .exit)) (now (received .exit)) (now (results .exit)) ⌝ }
+    ensures { λ r. ⌜ Dispatched p (pairs (now (steps .entry))) (now (outputs .entry))
+        (now (bytes .entry)) (now (received .entry)) (now (results .entry)) (readOf r)
+        (now (bytes .exit)) (now (received .exit)) (now (results .exit)) ⌝ }
 {
     match writing::write(p, steps, outputs, bytes) {
         Written::Refused(number, place) => Reading::Refused(number, place),

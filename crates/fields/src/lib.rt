@@ -17,7 +17,8 @@ fn wide(x: u32) -> u64
 // Writes the first count numbers of the list as fields of width bits, one after the other.
 pub fn put_fields(buf: &mut [u8], from: Cursor, width: usize, list: &[u32], count: usize) -> Cursor
     requires { ⌜ (count ≤ length (now list)) × FieldsFill (now buf) (from .at) width (take count (now list)) ⌝ }
-    ensures { λ r. ⌜ FieldStored (now (buf .entry)) (from .at) (count * width) (fields width (take count (now (list .entry)))) (now (buf .exit)) (r .at) ⌝ }
+    ensures { λ r. ⌜ FieldStored (now (buf .entry)) (from .at) (count * width)
+        (fields width (take count (now (list .entry)))) (now (buf .exit)) (r .at) ⌝ }
 {
     let mut c = from;
     let mut j = 0;
@@ -53,7 +54,8 @@ pub fn read_fields<'a>(
     out: &mut [u32],
 ) -> BitReader<'a>
     requires { ⌜ FieldsRoom (now (reader .bytes)) (reader .cursor .at) width count (now out) ⌝ }
-    ensures { λ r. ⌜ FieldsTaken (now (reader .entry .bytes)) (reader .entry .cursor .at) width count (now (out .entry)) (now (out .exit)) (r .cursor .at) × (r .bytes ≡ reader .entry .bytes) ⌝ }
+    ensures { λ r. ⌜ FieldsTaken (now (reader .entry .bytes)) (reader .entry .cursor .at) width count (now (out .entry))
+        (now (out .exit)) (r .cursor .at) × (r .bytes ≡ reader .entry .bytes) ⌝ }
 {
     let next = take_fields(reader.bytes, reader.cursor, width, count, out);
     BitReader {

@@ -15,9 +15,10 @@ use Rattle.groups.specs.declared.Grouping.{Grouping}
 use Rattle.methods.proofs.Filling.{filled-front, filled-length}
 use Rattle.digits.specs.Range.{listTo}
 use Rattle.digits.proofs.Listed.{getD-list}
-use Rattle.groups.specs.Inner.{GroupsMade, GroupsRoom, InputsRoom, TablesRoom, bitInputs, bitSquarings, bitTables, bitsLess, tablesAfter}
+use Rattle.groups.specs.Inner.{GroupsMade, GroupsRoom, InputsRoom, TablesRoom, bitInputs, bitSquarings, bitTables, bitsLess}
+use Rattle.groups.specs.Inner.{tablesAfter}
 use Rattle.groups.proofs.Inputs.{length-over}
-use Rattle.groups.proofs.Tabling.{longer, tables-begin}
+use Rattle.groups.proofs.Tabling.{tables-begin}
 
 -- how often each column is squared, in the front of cells
 module _ (bits old cells : List ℕ) (e : cells ≡ over (listTo (length bits) (bitsLess bits 1)) old) where
@@ -36,7 +37,7 @@ module _ (bits old cells : List ℕ) (e : cells ≡ over (listTo (length bits) (
           ∙ getD-list (length bits) (bitsLess bits 1) col h
 
 -- room for all of it
-module _ (s : Grouping) (bits members₀ steps₀ : List ℕ) (room : GroupsRoom s bits members₀ steps₀) where
+module _ {s : Grouping} {bits members₀ steps₀ : List ℕ} (room : GroupsRoom s bits members₀ steps₀) where
   abbrev own : List ℕ
   own = bitInputs bits (length bits)
 
@@ -59,14 +60,14 @@ module _ (s : Grouping) (bits members₀ steps₀ : List ℕ) (room : GroupsRoom
       record { so-far = omega arith; cells-hold = omega (arith, w .cells-hold); numbers-fit = omega (arith, w .numbers-fit, room .bits-long) }
 
   -- the tables, from the inputs in their cells
-  module _ (members : List ℕ) (e : members ≡ over (bitInputs bits (length bits)) members₀) where
+  module _ {members : List ℕ} (e : members ≡ over (bitInputs bits (length bits)) members₀) where
     listed : take (s .inputs) members ≡ own
     listed = ap (take (s .inputs)) e ∙ take-over (s .inputs) own members₀ own-long
 
     pub listed-long : s .inputs ≡ length (take (s .inputs) members)
     listed-long = sym (ap length listed ∙ own-long)
 
-    module _ (steps : List ℕ) (first : ℕ) (st : StepsStored steps₀ steps first (bitSquarings bits)) where
+    module _ {steps : List ℕ} {first : ℕ} (st : StepsStored steps₀ steps first (bitSquarings bits)) where
       tables-are : tablesAfter s (take (s .inputs) members) (stepsIn steps first) ≡ bitTables s bits
       tables-are = ap₂ (tablesAfter s) listed (stored-is st)
 
@@ -79,6 +80,6 @@ module _ (s : Grouping) (bits members₀ steps₀ : List ℕ) (room : GroupsRoom
             room = rw tables-are (stored-room (room .steps-room) st begins (begins-own (bitTables s bits)));
           }
 
-      pub groups-made : (steps′ : List ℕ) (n : ℕ) → StepsStored steps steps′ n (tablesAfter s (take (s .inputs) members) (stepsIn steps first))
+      pub groups-made : {steps′ : List ℕ} {n : ℕ} → StepsStored steps steps′ n (tablesAfter s (take (s .inputs) members) (stepsIn steps first))
           → GroupsMade s bits members₀ steps₀ members steps′ n
-      groups-made steps′ n st′ = record { members-are = e; stored = stored-on st begins (rw tables-are at st′) }
+      groups-made st′ = record { members-are = e; stored = stored-on st begins (rw tables-are at st′) }

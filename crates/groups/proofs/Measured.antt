@@ -18,8 +18,10 @@ use Rattle.chain.specs.Chain.{mostColumns, mostSteps}
 use Rattle.chain.specs.declared.Step.{Step}
 use Rattle.products.specs.Inner.{StepsStored, StepsRoom}
 use Rattle.digits.proofs.Listed.{getD-list, length-list}
-use Rattle.groups.specs.Groups.{columnBits, columnSquarings, group, groupCount, groupTables, inputCount, inputs, mostInputs, mostMembers, overInputs, selection, sheetSquarings, sheetTables, weigh}
-use Rattle.groups.specs.Inner.{Bounded, Grouped, GroupedFor, GroupsMade, GroupsRoom, Narrow, bitInputs, bitSquarings, bitTables, bitsLess, partNumbers}
+use Rattle.groups.specs.Groups.{columnBits, columnSquarings, group, groupCount, groupTables, inputCount, inputs, mostInputs}
+use Rattle.groups.specs.Groups.{mostMembers, overInputs, selection, sheetSquarings, sheetTables, weigh}
+use Rattle.groups.specs.Inner.{Bounded, Grouped, GroupedFor, GroupsMade, GroupsRoom, Narrow, bitInputs, bitSquarings, bitTables}
+use Rattle.groups.specs.Inner.{bitsLess, partNumbers}
 use Rattle.groups.proofs.Counting.{groups-few, lessTo}
 use Rattle.groups.proofs.Inputs.{over-same}
 use Rattle.groups.proofs.Members.{column-bits, members-count}
@@ -94,7 +96,7 @@ pub as-given : {A : Type 0} (f : ℕ → ℕ → ℕ → A) {p q : ℕ} {amounts
 as-given f told = rw (told .same-p, told .same-q, told .same-c)
 
 -- what a grouped sheet's bits say
-module _ (s : Grouping) (amounts bits : List ℕ) (grouped : Grouped s amounts bits) where
+module _ {s : Grouping} {amounts bits : List ℕ} (grouped : Grouped s amounts bits) where
   abbrev width : ℕ → ℕ
   width = columnBits (s .p) (s .q) amounts
 
@@ -150,7 +152,7 @@ module _ (s : Grouping) (amounts bits : List ℕ) (grouped : Grouped s amounts b
       }
 
   -- made, they are the sheet's
-  module _ (members₀ steps₀ members steps : List ℕ) (n : ℕ) (made : GroupsMade s bits members₀ steps₀ members steps n) where
+  module _ {members₀ steps₀ members steps : List ℕ} {n : ℕ} (made : GroupsMade s bits members₀ steps₀ members steps n) where
     pub sheet-stored : StepsStored steps₀ steps n (sheetTables (s .p) (s .q) amounts (s .c))
     sheet-stored = rw grouped-tables at (made .stored)
 

@@ -75,11 +75,17 @@ module _ (p q : ℕ) (amounts : List ℕ) where
   one-column f d h =
       sum-over bits _ (λ col i. f col i * (delta col d * 2 ^ i)) p
       (λ col i g k. rw (getD-over bits f p col i g k, getD-over bits (λ col i. delta col d * 2 ^ i) p col i g k))
-      ∙ sum-same p _ _ (λ col g. sum-same (bits col) _ _ (λ i k. swap (f col i) (delta col d) (2 ^ i)) ∙ sum-mul (bits col) (λ i. f col i * 2 ^ i) (delta col d) ∙ mul-comm _ (delta col d))
+      ∙ sum-same p _ _ (λ col g. column col)
       ∙ sum-delta p (λ col. sumTo (bits col) (λ i. f col i * 2 ^ i)) d h
     where
       swap : (a b c : ℕ) → a * (b * c) ≡ a * c * b
       swap a b c = ap (λ (e : ℕ). a * e) (mul-comm b c) ∙ sym (mul-assoc a c b)
+
+      column : (col : ℕ) → sumTo (bits col) (λ i. f col i * (delta col d * 2 ^ i)) ≡ delta col d * sumTo (bits col) (λ i. f col i * 2 ^ i)
+      column col =
+          sum-same (bits col) _ _ (λ i k. swap (f col i) (delta col d) (2 ^ i))
+          ∙ sum-mul (bits col) (λ i. f col i * 2 ^ i) (delta col d)
+          ∙ mul-comm _ (delta col d)
 
   -- the largest amount of a column has its bits
   column-fits : (d : ℕ) → largestIn p q amounts d < 2 ^ bits d
@@ -114,7 +120,8 @@ module _ (p q : ℕ) (amounts : List ℕ) where
   amount-fits i d h = lt-of-le-of-lt (le-max q (λ i. amount p amounts i d) i h) (column-fits d)
 
   -- what a payslip takes is its amount
-  pub selection-sum : (i d : ℕ) → i < q → d < p → sumTo (inputCount p q amounts) (λ j. getD (selection p q amounts i) j 0 * exponentIn j d) ≡ amount p amounts i d
+  pub selection-sum : (i d : ℕ) → i < q → d < p
+      → sumTo (inputCount p q amounts) (λ j. getD (selection p q amounts i) j 0 * exponentIn j d) ≡ amount p amounts i d
   unfolding selection
   selection-sum i d h g =
       one-column (λ col j. digit 1 (amount p amounts i col) j) d g

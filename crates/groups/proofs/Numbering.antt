@@ -46,41 +46,41 @@ columns-on bits f col at old cells cells′ is e g =
     ∙ sym (over-laid _ old))
 
 -- the inputs of columns of these bits; the numbers of the first columns fill the cells before at, and their squarings end with value first
-module _ (bits : List ℕ) where
+module _ {bits old : List ℕ} (room : InputsRoom bits old) (col : ℕ) {at first : ℕ} (is : at ≡ sumTo col (countsOf bits))
+    (after : first ≡ length bits + sumTo col (bitsLess bits 1)) (inside : col < length bits) where
   abbrev less : ℕ → ℕ
   less = bitsLess bits 1
 
-  module _ (old : List ℕ) (room : InputsRoom bits old) (col at first : ℕ) (is : at ≡ sumTo col (countsOf bits))
-      (after : first ≡ length bits + sumTo col less) (inside : col < length bits) where
-    pub column-few : at + getD bits col 0 ≤ mostInputs
-    column-few = let few = room .few in omega (arith, sum-more (countsOf bits) (suc col) (length bits) inside)
+  pub column-few : at + getD bits col 0 ≤ mostInputs
+  column-few = let few = room .few in omega (arith, sum-more (countsOf bits) (suc col) (length bits) inside)
 
-    pub column-room : (cells : List ℕ) → length cells ≡ length old → at + getD bits col 0 ≤ length cells
-    column-room cells e = let r = room .room in omega (arith, column-few)
+  pub column-room : (cells : List ℕ) → length cells ≡ length old → at + getD bits col 0 ≤ length cells
+  column-room cells e = let r = room .room in omega (arith, column-few)
 
-    -- their numbers are small
-    pub first-few : first + getD bits col 0 ≤ mostColumns + mostInputs
-    first-few =
-        let columns = room .columns in
-        omega (arith, column-few, sum-le col less (countsOf bits) (λ k h. omega arith))
+  -- their numbers are small
+  pub first-few : first + getD bits col 0 ≤ mostColumns + mostInputs
+  first-few =
+      let columns = room .columns in
+      omega (arith, column-few, sum-le col less (countsOf bits) (λ k h. omega arith))
 
-    pub first-number : first + less col ≤ mostColumns + mostInputs
-    first-number = omega (arith, first-few)
+  pub first-number : first + less col ≤ mostColumns + mostInputs
+  first-number = omega (arith, first-few)
 
-    pub number-room : first + getD bits col 0 < 2 ^ 32
-    number-room = omega (arith, first-few)
+  pub number-room : first + getD bits col 0 < 2 ^ 32
+  number-room = omega (arith, first-few)
 
-    pub column-on : at + getD bits col 0 ≡ sumTo (col + 1) (countsOf bits)
-    column-on = rw (add-one col) (ap (λ (n : ℕ). n + getD bits col 0) is)
+  pub column-on : at + getD bits col 0 ≡ sumTo (col + 1) (countsOf bits)
+  column-on = rw (add-one col) (ap (λ (n : ℕ). n + getD bits col 0) is)
 
-    pub first-on : (n : ℕ) → n ≡ less col → first + n ≡ length bits + sumTo (col + 1) less
-    first-on n e = rw (add-one col) (omega arith)
+  pub first-on : {n : ℕ} → n ≡ less col → first + n ≡ length bits + sumTo (col + 1) less
+  first-on e = rw (add-one col) (omega arith)
 
-    pub inputs-on : (cells cells′ : List ℕ) → cells ≡ over (bitInputs bits col) old → cells′ ≡ laid at (listTo (getD bits col 0) (powerAt col first)) cells
-        → cells′ ≡ over (bitInputs bits (col + 1)) old
-    inputs-on cells cells′ e g =
-        columns-on (countsOf bits) (powerOf (length bits) less) col at old cells cells′ is e
-        (g ∙ ap (λ (k : ℕ). laid at (listTo (getD bits col 0) (powerAt col k)) cells) after)
+  pub inputs-on : {cells cells′ : List ℕ} → cells ≡ over (bitInputs bits col) old → cells′ ≡ laid at (listTo (getD bits col 0) (powerAt col first)) cells
+      → cells′ ≡ over (bitInputs bits (col + 1)) old
+  inputs-on {cells} {cells′} e g =
+      columns-on (countsOf bits) (powerOf (length bits) less) col at old cells cells′ is e
+      (g ∙ ap (λ (k : ℕ). laid at (listTo (getD bits col 0) (powerAt col k)) cells) after)
 
-  pub inputs-end : (old cells : List ℕ) (col : ℕ) → cells ≡ over (bitInputs bits col) old → col ≤ length bits → length bits ≤ col → cells ≡ over (bitInputs bits (length bits)) old
-  inputs-end old cells col e h g = let last : col ≡ length bits = omega arith in e ∙ ap (λ (n : ℕ). over (bitInputs bits n) old) last
+pub inputs-end : (bits old : List ℕ) {cells : List ℕ} (col : ℕ) → cells ≡ over (bitInputs bits col) old → col ≤ length bits → length bits ≤ col
+    → cells ≡ over (bitInputs bits (length bits)) old
+inputs-end bits old col e h g = let last : col ≡ length bits = omega arith in e ∙ ap (λ (n : ℕ). over (bitInputs bits n) old) last

@@ -13,7 +13,8 @@ use Rattle.methods.specs.Powers.{squarings}
 use Rattle.methods.proofs.Powers.{Powers, powers}
 use Rattle.groups.specs.Groups.{columnSquarings, groupCount, inputCount, inputs, selection}
 use Rattle.groups.proofs.Groups.{reached, reached-all}
-use Rattle.groups.proofs.Members.{column-bits, exponentIn, members-count, members-make, members-sum, selection-count, selection-sum, selection-two}
+use Rattle.groups.proofs.Members.{column-bits, exponentIn, members-count, members-make, members-sum, selection-count, selection-sum}
+use Rattle.groups.proofs.Members.{selection-two}
 use Rattle.groups.proofs.Parts.{uses}
 use Rattle.groups.proofs.Tables.{Tabled, tables-make}
 
@@ -23,7 +24,8 @@ module _ (p q : ℕ) (amounts : List ℕ) where
 
   -- all that a payslip uses is its amounts
   pub selected : (c : ℕ) → 1 ≤ c → (i d : ℕ) → i < q → d < p
-      → uses c (inputs p q amounts) (selection p q amounts i) (selection-long i) (selection-two p q amounts i) (exponentIn p q amounts) (groupCount c (inputCount p q amounts)) d
+      → uses c (inputs p q amounts) (selection p q amounts i) (selection-long i) (selection-two p q amounts i) (exponentIn p q amounts)
+      (groupCount c (inputCount p q amounts)) d
       ≡ amount p amounts i d
   selected c some i d h g =
       ap (λ (k : ℕ). sumTo k (λ j. getD (selection p q amounts i) j 0 * exponentIn p q amounts j d)) all ∙ selection-sum p q amounts i d h g

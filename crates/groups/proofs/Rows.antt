@@ -3,7 +3,8 @@ use mathlib.Core.Path.{_≡_, sym, ap, ap₂, subst, _∙_}
 use mathlib.Core.List.{List}
 use Prim.Native.Nat.{ℕ, suc, _+_, _-_, _*_, _/_, _%_, _^_, _≤_, _<_}
 use native.Mathlib.Decide.{decLt}
-use native.Mathlib.Nat.{add-comm, add-mul, mul-comm, mul-add, mul-zero, mul-one, one-mul, suc-mul, mul-assoc, mul-le-mul-left, mul-le-mul-right, div-one, mod-lt}
+use native.Mathlib.Nat.{add-comm, add-mul, mul-comm, mul-add, mul-zero, mul-one, one-mul, suc-mul, mul-assoc, mul-le-mul-left}
+use native.Mathlib.Nat.{mul-le-mul-right, div-one, mod-lt}
 use native.Mathlib.Nat.{le-antisymm, div-lt-iff-lt-mul, le-div-iff-mul-le}
 use native.Mathlib.Numerals.{add-one}
 use native.Mathlib.Omega.{arith}

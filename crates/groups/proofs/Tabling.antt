@@ -1,5 +1,5 @@
 -- A group is a stretch of the inputs, and the tables before it are full, so its table begins at a place told by the group's number.
-use mathlib.Core.Path.{_≡_, sym, ap, ap₂, _∙_}
+use mathlib.Core.Path.{_≡_, sym, ap, ap₂, _∙_, subst}
 use mathlib.Core.List.{List, _++_}
 use Prim.Native.Nat.{ℕ, zero, suc, _+_, _-_, _*_, _^_, _≤_, _<_, min}
 use native.Mathlib.Decide.{decLe}
@@ -9,7 +9,7 @@ use native.Mathlib.Omega.{arith}
 use lib.ListN.{length, take, drop, length-drop}
 use lib.Pow.{pow-mono}
 use lib.Seq.{take-all}
-use Rattle.chain.specs.Chain.{mostColumns, mostSteps}
+use Rattle.chain.specs.Chain.{mostColumns}
 use Rattle.chain.specs.declared.Step.{Step}
 use Rattle.digits.specs.Range.{sumTo}
 use Rattle.digits.proofs.Range.{sum-same}
@@ -19,7 +19,7 @@ use Rattle.products.proofs.Emitted.{stored-is, stored-on, stored-room}
 use Rattle.tables.specs.Table.{entry, table}
 use Rattle.groups.specs.declared.Grouping.{Grouping}
 use Rattle.groups.specs.Groups.{group, groupSize, groupTables, mostInputs, mostMembers}
-use Rattle.groups.specs.Inner.{Cuts, PartOf, tableAt}
+use Rattle.groups.specs.Inner.{Cuts, PartOf, TablesRoom, tableAt, tablesAfter}
 use Rattle.groups.proofs.Counting.{group-inside}
 use Rattle.groups.proofs.Groups.{length-group}
 use Rattle.groups.proofs.Tables.{tables-count}
@@ -63,42 +63,54 @@ module _ (s : Grouping) (cuts : Cuts s) (members : List ℕ) (long : length memb
   pub own-members : stretch (g * s .c) (g * s .c + size) members ≡ group (s .c) g members
   own-members = stretch-is (s .c) members g size (rw long is)
 
-  -- its table, after those of the groups before
-  module _ (start : List Step) (old cells : List ℕ) (end : ℕ) (st : StepsStored old cells end (groupTables (s .p) (s .c) members start g)) where
-    abbrev own : List ℕ
-    own = stretch (g * s .c) (g * s .c + size) members
+-- the table of group g, after those of the groups before
+module _ {s : Grouping} {members old : List ℕ} {n : ℕ} (room : TablesRoom s members old n) (g : ℕ) (h : g < s .groups) {size : ℕ}
+    (is : size ≡ groupSize (s .c) (s .inputs) g) where
+  abbrev own : List ℕ
+  own = stretch (g * s .c) (g * s .c + size) members
 
-    abbrev made : ℕ → List Step
-    made = groupTables (s .p) (s .c) members start
+  abbrev made : ℕ → List Step
+  made = groupTables (s .p) (s .c) members (stepsIn old n)
 
-    abbrev pub longer : List Step
+  own-is : own ≡ group (s .c) g members
+  own-is = own-members s (room .cuts) members (room .long) g size h is
+
+  module _ {cells : List ℕ} {end : ℕ} (st : StepsStored old cells end (groupTables (s .p) (s .c) members (stepsIn old n) g)) where
+    abbrev longer : List Step
     longer = stepsIn cells end ++ table 1 own (s .p + end + 1) (2 ^ (1 * length own))
 
     next-is : longer ≡ made (suc g)
     next-is =
         let grp : List ℕ = group (s .c) g members in
-        ap (λ (l : List ℕ). stepsIn cells end ++ table 1 l (s .p + end + 1) (2 ^ (1 * length l))) own-members
+        ap (λ (l : List ℕ). stepsIn cells end ++ table 1 l (s .p + end + 1) (2 ^ (1 * length l))) own-is
         ∙ ap (λ (k : ℕ). stepsIn cells end ++ table 1 grp (s .p + end + 1) (2 ^ k)) (one-mul (length grp))
         ∙ ap₂ (λ (l : List Step) (k : ℕ). l ++ table 1 grp (s .p + k + 1) (2 ^ length grp)) (stored-is st) (st .count)
 
-    pub table-room : (n : ℕ) → StepsRoom (s .p) old n (made (s .groups)) → StepsRoom (s .p) cells end longer
-    table-room n room = rw next-is (stored-room room st (begins-more (made g) _) (tables-begin (s .p) (s .c) members start (suc g) (s .groups) h))
+    rise : (k : ℕ) → k ≤ s .groups → Begins (made k) (made (s .groups))
+    rise k = tables-begin (s .p) (s .c) members (stepsIn old n) k (s .groups)
 
-    pub table-on : (cells′ : List ℕ) (end′ : ℕ) → StepsStored cells cells′ end′ longer → StepsStored old cells′ end′ (made (g + 1))
-    table-on cells′ end′ t = let u = rw next-is at t in rw (add-one g) (stored-on st (begins-more (made g) _) u)
+    pub table-room : StepsRoom (s .p) cells end longer
+    table-room = rw next-is (stored-room (room .room) st (begins-more (made g) _) (rise (suc g) h))
+
+    pub table-on : {cells′ : List ℕ} {end′ : ℕ} → StepsStored cells cells′ end′ longer → StepsStored old cells′ end′ (made (g + 1))
+    table-on t = let u = rw next-is at t in rw (add-one g) (stored-on st (begins-more (made g) _) u)
 
     pub table-small : 1 * length own < 32
-    table-small = let few = cuts .few in omega (arith, ap length own-members, group-small (s .c) g members few)
+    table-small = let few = room .cuts .few in omega (arith, ap length own-is, group-small (s .c) g members few)
 
-    pub table-numbers : length (made (s .groups)) ≤ mostSteps → s .p + end + 2 ^ (1 * length own) < 2 ^ 32
-    table-numbers low =
-        let columns = cuts .columns in
-        let rise = begins-length (tables-begin (s .p) (s .c) members start g (s .groups) (omega arith)) in
-        rw own-members (omega (arith, group-parts (s .c) g members (cuts .few), st .count))
+    pub table-numbers : s .p + end + 2 ^ (1 * length own) < 2 ^ 32
+    table-numbers =
+        let columns = room .cuts .columns in
+        let low = room .few in
+        let long = begins-length (rise g (omega arith)) in
+        rw own-is (omega (arith, group-parts (s .c) g members (room .cuts .few), st .count))
 
-pub tables-end : (p c : ℕ) (members : List ℕ) (start : List Step) (old cells : List ℕ) (end g G : ℕ)
-    → StepsStored old cells end (groupTables p c members start g) → g ≤ G → G ≤ g → StepsStored old cells end (groupTables p c members start G)
-tables-end p c members start old cells end g G st h k = let last : G ≡ g = omega arith in rw last st
+pub tables-end : (s : Grouping) (members : List ℕ) (start : List Step) {old cells : List ℕ} {end : ℕ} (g : ℕ)
+    → StepsStored old cells end (groupTables (s .p) (s .c) members start g) → g ≤ s .groups → s .groups ≤ g
+    → StepsStored old cells end (tablesAfter s members start)
+tables-end s members start {old} {cells} {end} g st h k =
+    let last : g ≡ s .groups = omega arith in
+    subst (λ (G : ℕ). StepsStored old cells end (groupTables (s .p) (s .c) members start G)) last st
 
 -- the number before a group's first step: the groups before it are full
 sum-all : (n a : ℕ) → sumTo n (λ e. a) ≡ n * a
@@ -151,7 +163,7 @@ module _ (s : Grouping) (cuts : Cuts s) (g r : ℕ) (h : g < s .groups) (few : r
       omega (arith, tables-low)
 
 -- the entry of part t in a group
-module _ (s : Grouping) (members : List ℕ) (g t size : ℕ) (part : PartOf s members g t) (is : size ≡ groupSize (s .c) (s .inputs) g) where
+module _ {s : Grouping} {members : List ℕ} {g t : ℕ} (part : PartOf s members g t) {size : ℕ} (is : size ≡ groupSize (s .c) (s .inputs) g) where
   abbrev mine : List ℕ
   mine = stretch (g * s .c) (g * s .c + size) members
 
@@ -161,8 +173,9 @@ module _ (s : Grouping) (members : List ℕ) (g t size : ℕ) (part : PartOf s m
   pub entry-low : t < 2 ^ (1 * length mine)
   entry-low = rw mine-is (part .part)
 
-  pub entry-number : (at : ℕ) → at < partsEnd → at + t < 2 ^ 32
-  entry-number at h = let low = part .part in omega (arith, group-parts (s .c) g members (part .cuts .few))
+  pub entry-number : {at : ℕ} → at < partsEnd → at + t < 2 ^ 32
+  entry-number h = let low = part .part in omega (arith, group-parts (s .c) g members (part .cuts .few))
 
-  pub entry-told : (y r : ℕ) → r ≡ 2 ^ s .c - s .c - 1 → y ≡ entry 1 mine (s .p + s .squarings + g * r + 1) t → y ≡ entry 1 (group (s .c) g members) (tableAt s g) t
-  entry-told y r full e = e ∙ ap₂ (λ (l : List ℕ) (k : ℕ). entry 1 l (s .p + s .squarings + g * k + 1) t) mine-is full
+  pub entry-told : {y r : ℕ} → r ≡ 2 ^ s .c - s .c - 1 → y ≡ entry 1 mine (s .p + s .squarings + g * r + 1) t
+      → y ≡ entry 1 (group (s .c) g members) (tableAt s g) t
+  entry-told full e = e ∙ ap₂ (λ (l : List ℕ) (k : ℕ). entry 1 l (s .p + s .squarings + g * k + 1) t) mine-is full

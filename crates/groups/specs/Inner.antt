@@ -13,7 +13,8 @@ use Rattle.methods.specs.Powers.{countsOf, squarings, powerOf}
 use Rattle.groups.specs.declared.Grouping.{Grouping}
 use Rattle.groups.specs.declared.Row.{Row}
 use Rattle.chain.specs.declared.Step.{Step}
-use Rattle.groups.specs.Groups.{columnBits, group, groupCount, groupTables, inputCount, mostInputs, mostMembers, overInputs, selection, squaringCount, weigh}
+use Rattle.groups.specs.Groups.{columnBits, group, groupCount, groupTables, inputCount, mostInputs, mostMembers, overInputs}
+use Rattle.groups.specs.Groups.{selection, squaringCount, weigh}
 
 -- r is x, and x is not large
 pub record Bounded (r x most : ℕ) : Type 0 where

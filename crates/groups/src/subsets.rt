@@ -11,7 +11,8 @@ ghost use Rattle.tables.specs.Table.{entry};
 ghost use Rattle.methods.specs.Powers.{powerAt};
 ghost use Rattle.digits.specs.Range.{listTo};
 ghost use Rattle.groups.specs.Groups.{group, groupSize, mostInputs, mostMembers, tablesCount};
-ghost use Rattle.groups.specs.Inner.{Bounded, Cuts, GroupsMade, GroupsRoom, InputsRoom, PartOf, TablesRoom, bitInputs, bitSquarings, bitsLess, tableAt, tablesAfter};
+ghost use Rattle.groups.specs.Inner.{Bounded, Cuts, GroupsMade, GroupsRoom, InputsRoom, PartOf, TablesRoom, bitInputs, bitSquarings};
+ghost use Rattle.groups.specs.Inner.{bitsLess, tableAt, tablesAfter};
 
 // The size of group g of w inputs.
 fn group_size(c: usize, w: usize, g: usize) -> usize

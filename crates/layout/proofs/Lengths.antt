@@ -17,7 +17,7 @@ use Rattle.bits.proofs.Pack.{length-pack}
 use Rattle.layout.specs.declared.Layout.{Layout}
 use Rattle.layout.specs.Layout.{edition1}
 use Rattle.layout.specs.File.{headerBits, headerSize, width, widest, fileBits, fileOf, bitCount, byteCount, mostBytes, longestFile}
-use Rattle.layout.specs.Inner.{Sound, Sized}
+use Rattle.layout.specs.Inner.{SoundLayout, Sized}
 
 -- the width of a file's fields
 module _ (p n : ℕ) where
@@ -46,7 +46,7 @@ module _ (L : Layout) (p q n : ℕ) where
       )
 
 -- bounds, for sizes that the layout holds
-module _ (L : Layout) (sound : Sound L) (p q n : ℕ) (sized : Sized L p q n) where
+module _ (L : Layout) (sound : SoundLayout L) (p q n : ℕ) (sized : Sized L p q n) where
   pub top-low : p + n < 2 ^ widest
   top-low = omega (arith, sound .narrow, sized .p-low, sized .n-low)
 
@@ -64,7 +64,7 @@ module _ (L : Layout) (sound : Sound L) (p q n : ℕ) (sized : Sized L p q n) wh
   pub count-most : byteCount L p q n ≤ mostBytes L
   count-most = omega (arith, fields-low)
 
--- the longest file of edition 1 is that of the largest sizes, and the number that document 01 names
+-- the longest file of edition 1 is that of the largest sizes, and the number that Spec 5.4 names
 pub longest-reached : byteCount edition1 mostColumns mostPayslips (edition1 .limit) ≡ longestFile
 unfolding bitLength digitCount
 longest-reached = refl

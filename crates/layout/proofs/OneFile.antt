@@ -1,4 +1,4 @@
--- The fields read from a file, written again, are its bits one part after the other, and zero filling does the rest: so bytes that are read are the file of the chain read from them.
+-- The fields read from a file, written again, are its bits part by part, and the filling is zero: so bytes that are read are the file of the chain read.
 use mathlib.Core.Path.{_≡_, refl, sym, ap, ap₂, _∙_}
 use mathlib.Core.Bool.{Bool}
 use mathlib.Core.List.{List, _++_, append-assoc}
@@ -15,8 +15,9 @@ use Rattle.bits.proofs.Fields.{length-fieldsAt, bits-field, fields-fields}
 use Rattle.bits.proofs.Pack.{Bytes}
 use Rattle.bits.proofs.Filed.{filled}
 use Rattle.layout.specs.declared.Layout.{Layout}
-use Rattle.layout.specs.File.{headerBits, headerSize, width, fileBits, fileOf, bitCount, byteCount, columnsOf, payslipsOf, lengthOf, widthOf, stepsOf, outputsOf, Held, readRule}
-use Rattle.layout.specs.Inner.{Sound}
+use Rattle.layout.specs.File.{headerBits, headerSize, width, fileBits, fileOf, bitCount, byteCount, columnsOf, payslipsOf, lengthOf, widthOf}
+use Rattle.layout.specs.File.{stepsOf, outputsOf, Held, readRule}
+use Rattle.layout.specs.Inner.{SoundLayout}
 use Rattle.layout.proofs.Lengths.{count-parts}
 use Rattle.layout.proofs.Held.{HeldChain, parts-held}
 use Rattle.layout.proofs.Readable.{Readable, readable, columns-low, payslips-low}
@@ -53,7 +54,7 @@ module _ (L : Layout) (bytes : List ℕ) where
   join : (a b : List Bool) (i k : ℕ) → a ≡ take i x → b ≡ take k (drop i x) → a ++ b ≡ take (i + k) x
   join a b i k ea eb = ap₂ (λ (u v : List Bool). u ++ v) ea eb ∙ sym (take-add i k x)
 
-  module _ (sound : Sound L) (y z : ℕ) (r : Readable L bytes y z) where
+  module _ (sound : SoundLayout L) (y z : ℕ) (r : Readable L bytes y z) where
     header-is : headerBits L p q n ≡ take (headerSize L) x
     header-is =
         let long : 4 ≤ length bytes = r .some in
@@ -71,7 +72,8 @@ module _ (L : Layout) (bytes : List ℕ) where
     bits-are =
         let len : bitCount L p q n ≡ headerSize L + 2 * n * w + q * w = count-parts L p q n in
         let within : bitCount L p q n ≤ 8 * length bytes = omega (arith, r .long) in
-        ap₂ (λ (j k : ℕ). headerBits L p j k ++ (fields (width p k) (flat (stepsOf L bytes)) ++ fields (width p k) (outputsOf L bytes))) length-outputsOf length-stepsOf
+        ap₂ (λ (j k : ℕ). headerBits L p j k ++ (fields (width p k) (flat (stepsOf L bytes)) ++ fields (width p k)
+        (outputsOf L bytes))) length-outputsOf length-stepsOf
         ∙ sym (append-assoc (headerBits L p q n) (fields w (flat (stepsOf L bytes))) (fields w (outputsOf L bytes)))
         ∙ join (headerBits L p q n ++ fields w (flat (stepsOf L bytes))) (fields w (outputsOf L bytes)) (headerSize L + 2 * n * w) (q * w)
         (join (headerBits L p q n) (fields w (flat (stepsOf L bytes))) (headerSize L) (2 * n * w) header-is
@@ -99,7 +101,7 @@ pub record IsFile (L : Layout) (bytes : List ℕ) : Type 0 where
   pub held : Held L (columnsOf bytes) (stepsOf L bytes) (outputsOf L bytes)
   pub is : bytes ≡ fileOf L (columnsOf bytes) (stepsOf L bytes) (outputsOf L bytes)
 
-module _ (L : Layout) (sound : Sound L) (bytes : List ℕ) (ok : Bytes bytes) (pairsLent outputsLent : ℕ) where
+module _ (L : Layout) (sound : SoundLayout L) (bytes : List ℕ) (ok : Bytes bytes) (pairsLent outputsLent : ℕ) where
   pub reading-is-a-file : readRule L bytes pairsLent outputsLent ≡ fine → IsFile L bytes
   reading-is-a-file e =
       let r = readable L bytes pairsLent outputsLent e in

@@ -17,14 +17,15 @@ use Rattle.bits.proofs.Values.{length-bits}
 use Rattle.bits.proofs.Fields.{length-fields}
 use Rattle.bits.proofs.Filed.{field-back, fields-back, filling-zero}
 use Rattle.layout.specs.declared.Layout.{Layout}
-use Rattle.layout.specs.File.{headerBits, headerSize, width, fileBits, fileOf, bitCount, byteCount, mostBytes, editionOf, columnsOf, payslipsOf, lengthOf, widthOf, stepsOf, outputsOf, bitsOf, fillingOf, Held, readRule}
-use Rattle.layout.specs.Inner.{Sound}
+use Rattle.layout.specs.File.{headerBits, headerSize, width, fileBits, fileOf, bitCount, byteCount, mostBytes, editionOf, columnsOf, payslipsOf}
+use Rattle.layout.specs.File.{lengthOf, widthOf, stepsOf, outputsOf, bitsOf, fillingOf, Held, readRule}
+use Rattle.layout.specs.Inner.{SoundLayout}
 use Rattle.layout.proofs.Lengths.{length-header, length-fileBits, length-file, count-most}
 use Rattle.layout.proofs.Held.{HeldChain, held-parts, held-sized}
 use Rattle.layout.proofs.Numbers.{operands-small, outputs-small}
 use Rattle.layout.proofs.Readable.{read-fine}
 
-module _ (L : Layout) (sound : Sound L) (p : ℕ) (steps : List Step) (outputs : List ℕ) where
+module _ (L : Layout) (sound : SoundLayout L) (p : ℕ) (steps : List Step) (outputs : List ℕ) where
   abbrev n : ℕ
   n = length steps
 
@@ -64,7 +65,8 @@ module _ (L : Layout) (sound : Sound L) (p : ℕ) (steps : List Step) (outputs :
 
   edition-back : editionOf file ≡ L .edition
   unfolding fileBits
-  edition-back = read-field 4 (L .edition) [] (bits 4 (p - 1) ++ (bits 6 (q - 1) ++ (bits (L .bits) n ++ body))) 0 refl (simp append-assoc) (omega (arith, sound .edition-fits))
+  edition-back = read-field 4 (L .edition) [] (bits 4 (p - 1) ++ (bits 6 (q - 1) ++ (bits (L .bits) n ++ body))) 0 refl (simp append-assoc)
+      (omega (arith, sound .edition-fits))
 
   module _ (held : HeldChain L p steps outputs) where
     pub columns-back : columnsOf file ≡ p
@@ -72,7 +74,8 @@ module _ (L : Layout) (sound : Sound L) (p : ℕ) (steps : List Step) (outputs :
     columns-back =
         omega (
           arith,
-          read-field 4 (p - 1) (bits 4 (L .edition)) (bits 6 (q - 1) ++ (bits (L .bits) n ++ body)) 4 (length-bits 4 (L .edition)) (simp append-assoc) (omega (arith, held .sizes .p-low)),
+          read-field 4 (p - 1) (bits 4 (L .edition)) (bits 6 (q - 1) ++ (bits (L .bits) n ++ body)) 4 (length-bits 4 (L .edition))
+              (simp append-assoc) (omega (arith, held .sizes .p-low)),
           held .sizes .p-some,
         )
 
@@ -101,7 +104,8 @@ module _ (L : Layout) (sound : Sound L) (p : ℕ) (steps : List Step) (outputs :
     unfolding stepsOf fileBits
     steps-back =
         ap₂ (λ (v k : ℕ). pairs (fieldsAt file (headerSize L) v (2 * k))) width-back length-back
-        ∙ ap pairs (read-fields (flat steps) (headerBits L p q n) (fields w outputs) (headerSize L) (2 * n) (length-header L p q n) (length-flat steps) refl (operands-small p steps outputs (held .chain)))
+        ∙ ap pairs (read-fields (flat steps) (headerBits L p q n) (fields w outputs) (headerSize L) (2 * n) (length-header L p q n)
+        (length-flat steps) refl (operands-small p steps outputs (held .chain)))
         ∙ pairs-flat steps
 
     pub outputs-back : outputsOf L file ≡ outputs
@@ -109,7 +113,14 @@ module _ (L : Layout) (sound : Sound L) (p : ℕ) (steps : List Step) (outputs :
     outputs-back =
         let a : List Bool = headerBits L p q n ++ fields w (flat steps) in
         let len : length a ≡ headerSize L + 2 * n * w =
-        omega (arith, length-append (headerBits L p q n) (fields w (flat steps)), length-header L p q n, length-fields w (flat steps), ap (λ (k : ℕ). k * w) (length-flat steps)) in
+        omega (
+          arith,
+          length-append (headerBits L p q n) (fields w (flat steps)),
+          length-header L p q n,
+          length-fields w
+              (flat steps),
+          ap (λ (k : ℕ). k * w) (length-flat steps),
+        ) in
         ap₂ (λ (v k : ℕ). fieldsAt file (headerSize L + 2 * k * v) v (payslipsOf file)) width-back length-back
         ∙ ap (fieldsAt file (headerSize L + 2 * n * w) w) payslips-back
         ∙ read-fields outputs a [] (headerSize L + 2 * n * w) q len refl (sym (append-assoc (headerBits L p q n) (fields w (flat steps)) (fields w outputs ++ [])
@@ -123,7 +134,8 @@ module _ (L : Layout) (sound : Sound L) (p : ℕ) (steps : List Step) (outputs :
         let k : ℕ = 8 * length file - bitCount L p q n in
         ap (λ (m : ℕ). fieldAt file m (8 * length file - m)) count-back
         ∙ ap (λ (r : List ℕ). fieldAt r (bitCount L p q n) k) file-filed
-        ∙ filling-zero (fileBits L p steps outputs) [] (bitCount L p q n) k (length-fileBits L p steps outputs) (ap (λ (m : ℕ). 8 * m - bitCount L p q n) (length-file L p steps outputs))
+        ∙ filling-zero (fileBits L p steps outputs) [] (bitCount L p q n) k (length-fileBits L p steps outputs)
+        (ap (λ (m : ℕ). 8 * m - bitCount L p q n) (length-file L p steps outputs))
 
 -- what reading a legal chain's file gives
 pub record ReadBack (L : Layout) (p : ℕ) (steps : List Step) (outputs file : List ℕ) : Type 0 where
@@ -133,7 +145,7 @@ pub record ReadBack (L : Layout) (p : ℕ) (steps : List Step) (outputs file : L
   pub steps-same : stepsOf L file ≡ steps
   pub outputs-same : outputsOf L file ≡ outputs
 
-module _ (L : Layout) (sound : Sound L) (p : ℕ) (steps : List Step) (outputs : List ℕ) (held : Held L p steps outputs) where
+module _ (L : Layout) (sound : SoundLayout L) (p : ℕ) (steps : List Step) (outputs : List ℕ) (held : Held L p steps outputs) where
   parts : HeldChain L p steps outputs
   parts = held-parts L p steps outputs held
 
@@ -175,7 +187,7 @@ pub record Same (p p′ : ℕ) (steps steps′ : List Step) (outputs outputs′ 
   pub steps-same : steps ≡ steps′
   pub outputs-same : outputs ≡ outputs′
 
-pub one-chain : (L : Layout) → Sound L → (p p′ : ℕ) (steps steps′ : List Step) (outputs outputs′ : List ℕ) → Held L p steps outputs → Held L p′ steps′ outputs′
+pub one-chain : (L : Layout) → SoundLayout L → (p p′ : ℕ) (steps steps′ : List Step) (outputs outputs′ : List ℕ) → Held L p steps outputs → Held L p′ steps′ outputs′
     → fileOf L p steps outputs ≡ fileOf L p′ steps′ outputs′ → Same p p′ steps steps′ outputs outputs′
 one-chain L sound p p′ steps steps′ outputs outputs′ held held′ e =
     let a = reading-gives L sound p steps outputs held in

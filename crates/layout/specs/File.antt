@@ -1,4 +1,4 @@
--- The file of a chain (document 01, "File"), in any layout L.
+-- The file of a chain in any layout L (Spec 5), written and read (Spec 7.2).
 use mathlib.Core.Path.{_≡_}
 use mathlib.Core.Bool.{Bool}
 use mathlib.Core.List.{List, [], _∷_, _++_}
@@ -14,7 +14,7 @@ use Rattle.bits.specs.Bits.{bits, fields, pack, bytesFor, fieldAt, fieldsAt}
 use Rattle.layout.specs.declared.Layout.{Layout}
 use Rattle.layout.specs.Layout.{edition1}
 
--- "W being the bit length of p + n"
+-- Spec 5.2: W
 abbrev pub width : ℕ → ℕ → ℕ
 width p n = bitLength (p + n)
 
@@ -22,7 +22,7 @@ width p n = bitLength (p + n)
 abbrev pub widest : ℕ
 widest = 14
 
--- what any bytes say before n, read as a file
+-- Spec 5.1: what any bytes say before n, read as a file
 module _ (bytes : List ℕ) where
   abbrev pub editionOf : ℕ
   editionOf = fieldAt bytes 0 4
@@ -34,7 +34,7 @@ module _ (bytes : List ℕ) where
   payslipsOf = fieldAt bytes 8 6 + 1
 
 module _ (L : Layout) where
-  -- "edition 4 bits, p−1 4 bits, q−1 6 bits, n 14 bits", n having the layout's bits
+  -- Spec 5.1: edition, p − 1, q − 1 and n, which has the layout's bits
   abbrev pub headerBits : ℕ → ℕ → ℕ → List Bool
   headerBits p q n = bits 4 (L .edition) ++ bits 4 (p - 1) ++ bits 6 (q - 1) ++ bits (L .bits) n
 
@@ -42,20 +42,20 @@ module _ (L : Layout) where
   abbrev pub headerSize : ℕ
   headerSize = 14 + L .bits
 
-  -- "then steps, first before second, and outputs, each W bits"
+  -- Spec 5.1: and then the operands of the steps in turn and the outputs, in W bits each
   unfoldable pub fileBits : ℕ → List Step → List ℕ → List Bool
   fileBits p steps outputs =
       headerBits p (length outputs) (length steps)
       ++ (fields (width p (length steps)) (flat steps) ++ fields (width p (length steps)) outputs)
 
-  -- bits before the filling, and bytes with it
+  -- Spec 5.3: bits before the filling, and bytes with it
   abbrev pub bitCount : ℕ → ℕ → ℕ → ℕ
   bitCount p q n = headerSize + (2 * n + q) * width p n
 
   abbrev pub byteCount : ℕ → ℕ → ℕ → ℕ
   byteCount p q n = bytesFor (bitCount p q n)
 
-  -- the chain's one file
+  -- Spec 5.5: the chain's one file
   unfoldable pub fileOf : ℕ → List Step → List ℕ → List ℕ
   fileOf p steps outputs = pack (byteCount p (length outputs) (length steps)) (fileBits p steps outputs)
 
@@ -68,18 +68,18 @@ module _ (L : Layout) where
   abbrev pub Held : ℕ → List Step → List ℕ → Type 0
   Held p steps outputs = heldRule p steps outputs ≡ fine
 
-  -- "write 1, 4, steps, 12, 5"; the last argument is how many bytes are lent
+  -- Spec 10.2: write's order; the last argument is how many bytes are lent
   unfoldable pub writeRule : ℕ → List Step → List ℕ → ℕ → Verdict
   writeRule p steps outputs bytesLent =
       heldRule p steps outputs
       then refuseIf (bytesLent <? byteCount p (length outputs) (length steps)) 5 0
 
-  -- "On success .. write [returns] the number of bytes"
+  -- Spec 10.6: the number of bytes
   unfoldable pub writeAnswer : ℕ → List Step → List ℕ → ℕ → Answer
   writeAnswer p steps outputs bytesLent =
       answer (writeRule p steps outputs bytesLent) (byteCount p (length outputs) (length steps) ∷ [])
 
-  -- what the lent bytes are afterwards; they were old before
+  -- Spec 10.5: what the lent bytes are afterwards; they were old before
   unfoldable pub writeBytes : ℕ → List Step → List ℕ → List ℕ → List ℕ
   writeBytes p steps outputs old = onFine (writeRule p steps outputs (length old)) (over (fileOf p steps outputs) old) old
 
@@ -104,7 +104,7 @@ module _ (L : Layout) where
     abbrev pub fillingOf : ℕ
     fillingOf = fieldAt bytes bitsOf (8 * length bytes - bitsOf)
 
-    -- "read 6 (under 4 bytes), 7, 4, 6, 5, 8, steps, 12"; the arguments are how many pairs and outputs are lent
+    -- Spec 10.2: read's order; the arguments are how many pairs and outputs are lent
     unfoldable pub readRule : ℕ → ℕ → Verdict
     readRule pairsLent outputsLent =
         refuseIf (length bytes <? 4) 6 0
@@ -115,12 +115,12 @@ module _ (L : Layout) where
         then refuseIf (fillingOf ≠? 0) 8 0
         then chainRule (columnsOf bytes) stepsOf outputsOf
 
-    -- "On success .. read [returns] p, q and n"
+    -- Spec 10.6: p, q and n
     unfoldable pub readAnswer : ℕ → ℕ → Answer
     readAnswer pairsLent outputsLent =
         answer (readRule pairsLent outputsLent) (columnsOf bytes ∷ payslipsOf bytes ∷ lengthOf ∷ [])
 
-    -- what the lent slices are afterwards, steps in turn; each was old before
+    -- Spec 10.5: what the lent slices are afterwards, steps in turn; each was old before
     unfoldable pub readSteps : ℕ → List ℕ → List ℕ
     readSteps outputsLent old = onFine (readRule (length old / 2) outputsLent) (over (flat stepsOf) old) old
 
@@ -131,6 +131,6 @@ module _ (L : Layout) where
   abbrev pub mostBytes : ℕ
   mostBytes = bytesFor (headerSize + (2 * L .limit + mostPayslips) * widest)
 
--- "Longest file: 56,116 bytes."
+-- Spec 5.4: the bytes of the longest file
 abbrev pub longestFile : ℕ
 longestFile = mostBytes edition1

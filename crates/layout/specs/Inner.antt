@@ -6,7 +6,7 @@ use Rattle.layout.specs.declared.Extent.{Extent}
 use Rattle.layout.specs.File.{width, widest, headerSize, bitCount}
 
 -- a layout that can be written and read back: its numbers fit their fields, its header takes four bytes and no more, and its widths are found by cases
-pub record Sound (L : Layout) : Type 0 where
+pub record SoundLayout (L : Layout) : Type 0 where
   pub edition-fits : L .edition < 2 ^ 4
   pub long : 8 * 3 < headerSize L
   pub short : headerSize L ≤ 8 * 4

@@ -69,7 +69,7 @@ module _ (bytes : List ℕ) (a : Reading) (answered : readOf a ≡ answer (listi
 
     pub steps-few : n ≤ mostSteps
     unfolding listingRule
-    steps-few = rw steps-are (readable edition1 bytes _ _ (then-fine _ _ (then-fine _ _ rule-fine .1) .0) .few)
+    steps-few = rw steps-are (omega (arith, readable edition1 bytes _ _ (then-fine _ _ (then-fine _ _ rule-fine .1) .0) .few))
 
     pub listed-chain : (table old : List ℕ) (r : ℕ) (new : List ℕ)
         → (listingRule bytes ≡ fine → TableHolds table (payslipsOf bytes) (columnsOf bytes) (amountOf bytes))

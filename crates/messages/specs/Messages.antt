@@ -96,7 +96,7 @@ phrase15 = 109 ∷ 111 ∷ 100 ∷ 117 ∷ 108 ∷ 117 ∷ 115 ∷ 32 ∷ 48 ∷
 abbrev phrase16 : List ℕ
 phrase16 = 98 ∷ 97 ∷ 115 ∷ 101 ∷ 115 ∷ 32 ∷ 110 ∷ 111 ∷ 116 ∷ 32 ∷ 112 ∷ 44 ∷ 32 ∷ 111 ∷ 114 ∷ 32 ∷ 111 ∷ 110 ∷ 101 ∷ 32 ∷ 110 ∷ 111 ∷ 116 ∷ 32 ∷ 98 ∷ 101 ∷ 108 ∷ 111 ∷ 119 ∷ 32 ∷ 116 ∷ 104 ∷ 101 ∷ 32 ∷ 109 ∷ 111 ∷ 100 ∷ 117 ∷ 108 ∷ 117 ∷ 115 ∷ []
 
--- the refusals of document 01 ("Turned down") in words, by their numbers
+-- the refusals in words, by their numbers (Spec 10.1)
 abbrev pub phrases : List (List ℕ)
 phrases = noPhrase ∷ phrase1 ∷ phrase2 ∷ phrase3 ∷ phrase4 ∷ phrase5 ∷ phrase6 ∷ phrase7 ∷ phrase8 ∷ phrase9 ∷ phrase10 ∷ phrase11 ∷ phrase12 ∷ phrase13 ∷ phrase14 ∷ phrase15 ∷ phrase16 ∷ []
 

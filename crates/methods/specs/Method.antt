@@ -1,4 +1,4 @@
--- What a method gives for a sheet and a parameter (document 01, "The three methods"): its chain, with its "Count" and its "Ceiling".
+-- What a method gives for a sheet and a parameter (Spec 3): its chain, its count and its ceiling.
 use Prim.Native.Nat.{ℕ}
 use Rattle.chain.specs.Chain.{Chain}
 

@@ -1,4 +1,4 @@
--- Powers of the bases by repeated squaring (document 01, methods 2 and 3). Column c, counted from 0, is squared n c times.
+-- Powers of the bases by repeated squaring (Spec 3.6, 3.7). Column c, counted from 0, is squared n c times.
 use mathlib.Core.Bool.{cond}
 use mathlib.Core.List.{List, []}
 use Prim.Native.Nat.{ℕ, zero, suc, _+_}
@@ -9,11 +9,11 @@ use Rattle.digits.specs.Range.{sumTo, maxTo}
 use Rattle.sheet.specs.Sheet.{amount}
 use Rattle.products.specs.Product.{made, squared}
 
--- "its largest amount", of column c over q payslips
+-- Spec 3.6, 3.7: the largest amount of column c over q payslips
 abbrev pub largestIn : ℕ → ℕ → List ℕ → ℕ → ℕ
 largestIn p q amounts c = maxTo q (λ i. amount p amounts i c)
 
--- "Column by column, square the base": the steps of the first columns
+-- Spec 3.6, 3.7: the squarings of the first columns, column by column
 abbrev pub squarings : ℕ → (ℕ → ℕ) → ℕ → List Step
 squarings p n zero = []
 squarings p n (suc c) = squared p (n c) (made (squarings p n c) (c + 1)) .steps

@@ -34,7 +34,8 @@ module _ (steps : List Step) (cells : List ℕ) where
       let front : List ℕ = flat (take i steps) in
       let len : length front ≡ 2 * i = flat-take i (omega arith) in
       let long : length (over front cells) ≡ length cells = flattened-length i (omega arith) (omega arith) in
-      let more : flat (take (i + 1) steps) ≡ front ++ (s .first ∷ (s .second ∷ [])) = ap (λ (k : ℕ). flat (take k steps)) (add-one i) ∙ ap flat (take-suc steps i (by 0 0) h) ∙ flat-append (take i steps) (s ∷ []) in
+      let more : flat (take (i + 1) steps) ≡ front ++ (s .first ∷ (s .second ∷ [])) = ap (λ (k : ℕ). flat (take k steps)) (add-one i)
+      ∙ ap flat (take-suc steps i (by 0 0) h) ∙ flat-append (take i steps) (s ∷ []) in
       sym (laid-nil (2 * i + 2) (set (set (over front cells) (2 * i) (s .first)) (2 * i + 1) (s .second)))
       ∙ laid-pair (2 * i) (s .first) (s .second) [] (over front cells) (omega arith)
       ∙ ap (laid (2 * i) (s .first ∷ (s .second ∷ []))) (over-laid front cells)
@@ -51,7 +52,8 @@ take-fewer (suc c) (x ∷ r) =
     rw e (ap (λ (l : List Step). x ∷ l) (take-fewer c r))
 
 -- the pairs of the front are the steps that were laid there
-pub flattened-pairs : (c n : ℕ) (steps : List Step) (cells : List ℕ) → n ≡ min (length steps) c → pairs (take (2 * n) (over (flat (take c steps)) cells)) ≡ take c steps
+pub flattened-pairs : (c n : ℕ) (steps : List Step) (cells : List ℕ) → n ≡ min (length steps) c
+    → pairs (take (2 * n) (over (flat (take c steps)) cells)) ≡ take c steps
 flattened-pairs c n steps cells e =
     let len : length (flat (take c steps)) ≡ 2 * n = omega (arith, e, length-flat (take c steps), length-take c steps) in
     ap pairs (take-over (2 * n) (flat (take c steps)) cells len) ∙ pairs-flat (take c steps)

@@ -64,9 +64,11 @@ module _ {M : Type 1} (𝓤 : URA M) (H : Heap 𝓤) (A : Atoms 𝓤) (at-mem : 
     to-flatten = (((κ, (ν ∷ [], tt)), (q, (fullShare, tt)), tt, (x, (arraySlice b δ zeros, tt)), (stepsVal, (sliceOf b zeros, tt))), tt)
 
     pub asks-flatten : Given 𝓤 H A
-        → ent 𝓤 (⋆ 𝓤 H A (‵ (flft κ q) ∷ ‵ (flft (ν ∷ []) fullShare) ∷ ‵ (ShrSlice (named 0) κ R .own x stepsVal) ∷ ‵ (MutSlice (named 1) (ν ∷ []) u32 .own (arraySlice b δ zeros) (sliceOf b zeros)) ∷ [])) (Flatten .pre to-flatten)
+        → ent 𝓤 (⋆ 𝓤 H A (‵ (flft κ q) ∷ ‵ (flft (ν ∷ []) fullShare) ∷ ‵ (ShrSlice (named 0) κ R .own x stepsVal) ∷ ‵ (MutSlice (named 1)
+        (ν ∷ []) u32 .own (arraySlice b δ zeros) (sliceOf b zeros)) ∷ [])) (Flatten .pre to-flatten)
     asks-flatten W =
-        qed W (‵ (flft κ q) ∷ ‵ (flft (ν ∷ []) fullShare) ∷ ‵ (ShrSlice (named 0) κ R .own x stepsVal) ∷ ‵ (MutSlice (named 1) (ν ∷ []) u32 .own (arraySlice b δ zeros) (sliceOf b zeros)) ∷ []) ∵
+        qed W (‵ (flft κ q) ∷ ‵ (flft (ν ∷ []) fullShare) ∷ ‵ (ShrSlice (named 0) κ R .own x stepsVal) ∷ ‵ (MutSlice (named 1) (ν ∷ []) u32 .own
+        (arraySlice b δ zeros) (sliceOf b zeros)) ∷ []) ∵
         nothing ! $ move ! (4 ∷ 0 ∷ []) $ fjoin ! $ move ! (3 ∷ 0 ∷ []) $ fjoin ! $
         -- [what the parameters own; κ's token; ν's]
         nothing ! $ move ! (3 ∷ 0 ∷ []) $ join ! $ move ! (2 ∷ 0 ∷ []) $ join ! $ join ! $ frame ! $ done !
@@ -83,7 +85,9 @@ module _ (ys : List Step) (n : ℕ) (l : List ℕ) (count : Counted ys n) (fill 
   in-front len = omega (arith, count, len)
 
   -- what is the same for any two chains that are too long is the same for the pairs in front as for the steps
-  pub front-steps {ℓ} : {X : Type ℓ} (F : List Step → X) → ((s t : List Step) → mostSteps < length s → mostSteps < length t → F s ≡ F t) → F (pairs (take (2 * n) l)) ≡ F ys
+  pub front-steps {ℓ} : {X : Type ℓ} (F : List Step → X) → ((s t : List Step) → mostSteps < length s → mostSteps < length t → F s ≡ F t)
+      → F (pairs (take (2 * n) l)) ≡ F ys
   front-steps F same =
       let over-limit : mostSteps < length zeros / 2 = omega (arith, zeros-length) in
-      ap F (ap (λ (c : List ℕ). pairs (take (2 * n) c)) fill ∙ flattened-pairs (length zeros / 2) n ys zeros count) ∙ front-same F same (length zeros / 2) over-limit ys
+      ap F (ap (λ (c : List ℕ). pairs (take (2 * n) c)) fill ∙ flattened-pairs (length zeros / 2) n ys zeros count)
+      ∙ front-same F same (length zeros / 2) over-limit ys

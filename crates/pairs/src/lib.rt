@@ -54,9 +54,12 @@ fn run_front(
     figures: &mut [u32],
 ) -> Ran
     requires { ⌜ 2 * n ≤ length (now cells) ⌝ }
-    ensures { λ r. ⌜ ranOf r ≡ runAnswer p (pairs (take (2 * n) (now (cells .entry)))) (now (outputs .entry)) m (now (bases .entry)) (length (now (values .entry))) (length (now (figures .entry))) ⌝ }
-    ensures { λ r. ⌜ now (values .exit) ≡ runValues p (pairs (take (2 * n) (now (cells .entry)))) (now (outputs .entry)) m (now (bases .entry)) (length (now (figures .entry))) (now (values .entry)) ⌝ }
-    ensures { λ r. ⌜ now (figures .exit) ≡ runFigures p (pairs (take (2 * n) (now (cells .entry)))) (now (outputs .entry)) m (now (bases .entry)) (length (now (values .entry))) (now (figures .entry)) ⌝ }
+    ensures { λ r. ⌜ ranOf r ≡ runAnswer p (pairs (take (2 * n) (now (cells .entry)))) (now (outputs .entry)) m
+        (now (bases .entry)) (length (now (values .entry))) (length (now (figures .entry))) ⌝ }
+    ensures { λ r. ⌜ now (values .exit) ≡ runValues p (pairs (take (2 * n) (now (cells .entry)))) (now (outputs .entry)) m
+        (now (bases .entry)) (length (now (figures .entry))) (now (values .entry)) ⌝ }
+    ensures { λ r. ⌜ now (figures .exit) ≡ runFigures p (pairs (take (2 * n) (now (cells .entry)))) (now (outputs .entry)) m
+        (now (bases .entry)) (length (now (values .entry))) (now (figures .entry)) ⌝ }
 {
     run::run(p, &cells[..2 * n], outputs, m, bases, values, figures)
 }
@@ -71,8 +74,10 @@ fn verify_front(
     scratch: &mut [u32],
 ) -> Verified
     requires { ⌜ 2 * n ≤ length (now cells) ⌝ }
-    ensures { λ r. ⌜ verifiedOf r ≡ verifyAnswer p (pairs (take (2 * n) (now (cells .entry)))) (now (outputs .entry)) (now (amounts .entry)) (length (now (scratch .entry))) ⌝ }
-    ensures { λ r. ⌜ now (scratch .exit) ≡ verifyScratch p (pairs (take (2 * n) (now (cells .entry)))) (now (outputs .entry)) (now (amounts .entry)) (now (scratch .entry)) ⌝ }
+    ensures { λ r. ⌜ verifiedOf r ≡ verifyAnswer p (pairs (take (2 * n) (now (cells .entry)))) (now (outputs .entry))
+        (now (amounts .entry)) (length (now (scratch .entry))) ⌝ }
+    ensures { λ r. ⌜ now (scratch .exit) ≡ verifyScratch p (pairs (take (2 * n) (now (cells .entry)))) (now (outputs .entry))
+        (now (amounts .entry)) (now (scratch .entry)) ⌝ }
 {
     verify::verify(p, &cells[..2 * n], outputs, amounts, scratch)
 }
@@ -87,9 +92,12 @@ pub fn run_pairs(
     values: &mut [u32],
     figures: &mut [u32],
 ) -> Ran
-    ensures { λ r. ⌜ ranOf r ≡ runAnswer p (now (steps .entry)) (now (outputs .entry)) m (now (bases .entry)) (length (now (values .entry))) (length (now (figures .entry))) ⌝ }
-    ensures { λ r. ⌜ now (values .exit) ≡ runValues p (now (steps .entry)) (now (outputs .entry)) m (now (bases .entry)) (length (now (figures .entry))) (now (values .entry)) ⌝ }
-    ensures { λ r. ⌜ now (figures .exit) ≡ runFigures p (now (steps .entry)) (now (outputs .entry)) m (now (bases .entry)) (length (now (values .entry))) (now (figures .entry)) ⌝ }
+    ensures { λ r. ⌜ ranOf r ≡ runAnswer p (now (steps .entry)) (now (outputs .entry)) m (now (bases .entry))
+        (length (now (values .entry))) (length (now (figures .entry))) ⌝ }
+    ensures { λ r. ⌜ now (values .exit) ≡ runValues p (now (steps .entry)) (now (outputs .entry)) m (now (bases .entry))
+        (length (now (figures .entry))) (now (values .entry)) ⌝ }
+    ensures { λ r. ⌜ now (figures .exit) ≡ runFigures p (now (steps .entry)) (now (outputs .entry)) m (now (bases .entry))
+        (length (now (values .entry))) (now (figures .entry)) ⌝ }
 {
     let mut cells = [0u32; CELLS];
     let n = flatten_some(steps, &mut cells);
@@ -104,8 +112,10 @@ pub fn verify_pairs(
     amounts: &[u32],
     scratch: &mut [u32],
 ) -> Verified
-    ensures { λ r. ⌜ verifiedOf r ≡ verifyAnswer p (now (steps .entry)) (now (outputs .entry)) (now (amounts .entry)) (length (now (scratch .entry))) ⌝ }
-    ensures { λ r. ⌜ now (scratch .exit) ≡ verifyScratch p (now (steps .entry)) (now (outputs .entry)) (now (amounts .entry)) (now (scratch .entry)) ⌝ }
+    ensures { λ r. ⌜ verifiedOf r ≡ verifyAnswer p (now (steps .entry)) (now (outputs .entry)) (now (amounts .entry))
+        (length (now (scratch .entry))) ⌝ }
+    ensures { λ r. ⌜ now (scratch .exit)
+        ≡ verifyScratch p (now (steps .entry)) (now (outputs .entry)) (now (amounts .entry)) (now (scratch .entry)) ⌝ }
 {
     let mut cells = [0u32; CELLS];
     let n = flatten_some(steps, &mut cells);

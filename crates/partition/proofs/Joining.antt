@@ -58,7 +58,7 @@ pub count-all : (s : Grouping) (amounts bits : List ℕ) → Grouped s amounts b
     → r ≡ sumTo (s .q) (joinCount (s .p) (s .q) amounts (s .c) (s .groups)) → s .squarings + b + r ≡ partitionCount (s .p) (s .q) amounts (s .c)
 unfolding partitionCount
 count-all s amounts bits grouped b r tables joins =
-    let G = grouped-count s amounts bits grouped in
+    let G = grouped-count grouped in
     ap₂ _+_
     (ap₂ _+_ (grouped .squarings-are) (tables ∙ ap₂ (tablesCount (s .c)) (grouped .inputs-are) G))
     (joins ∙ ap (λ (n : ℕ). sumTo (s .q) (joinCount (s .p) (s .q) amounts (s .c) n)) G)

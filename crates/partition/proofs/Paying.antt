@@ -55,7 +55,7 @@ module _ (s : Grouping) (members : List ℕ) (number : ℕ → ℕ) (before : Li
       subst (λ (n : ℕ). Emitted old cells m v (partsBy s members number before n)) last e
 
 -- of payslip i of a grouped sheet
-module _ (s : Grouping) (amounts bits members cells : List ℕ) (ready : Ready s amounts bits members cells) where
+module _ {s : Grouping} {amounts bits members cells : List ℕ} (ready : Ready s amounts bits members cells) where
   abbrev squares : List Step
   squares = sheetSquarings (s .p) (s .q) amounts
 
@@ -80,7 +80,7 @@ module _ (s : Grouping) (amounts bits members cells : List ℕ) (ready : Ready s
     pub payslip-is : (before : List Step) → partsBy s members (countsOf numbers) before (s .groups) ≡ payslipOf s amounts i before
     payslip-is before =
         parts-same before (s .groups) (omega arith)
-        ∙ ap₂ (λ (m : List ℕ) (g : ℕ). parts (s .p) (s .c) m squares own before g) (ready .members-are) (grouped-count s amounts bits (ready .grouped))
+        ∙ ap₂ (λ (m : List ℕ) (g : ℕ). parts (s .p) (s .c) m squares own before g) (ready .members-are) (grouped-count (ready .grouped))
 
     pub payslip-numbered : length numbers ≡ s .groups → Numbered s members numbers
     payslip-numbered long = record { cuts = ready .grouped .cuts; members-long = members-long; numbers-long = long; numbers-low = low }

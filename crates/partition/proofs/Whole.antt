@@ -19,7 +19,7 @@ use Rattle.partition.proofs.Partition.{partition-count}
 use Rattle.partition.proofs.Paying.{payslip-begins}
 
 -- a grouped sheet and room for its chain
-module _ (s : Grouping) (amounts bits : List ℕ) (grouped : Grouped s amounts bits) (old outputs : List ℕ)
+module _ {s : Grouping} {amounts bits : List ℕ} (grouped : Grouped s amounts bits) {old outputs : List ℕ}
     (fits : ChainRoom (s .q) (partitionCount (s .p) (s .q) amounts (s .c)) old outputs) where
   abbrev tables : List Step
   tables = sheetTables (s .p) (s .q) amounts (s .c)
@@ -35,31 +35,32 @@ module _ (s : Grouping) (amounts bits : List ℕ) (grouped : Grouped s amounts b
   pub begin-fits : (members : List ℕ) → mostInputs ≤ length members → GroupsRoom s bits members old
   begin-fits members room =
       let rise = begins-length (paid-begins (payslipOf s amounts) tables each 0 (s .q) (omega arith)) in
-      groups-room s amounts bits grouped members old room (omega (arith, counted, fits .short))
+      groups-room grouped members old room (omega (arith, counted, fits .short))
       (begin-room (payslipOf s amounts) each tables (s .q) (grouped .cuts .columns) fits counted)
 
   -- the payslips
-  module _ (members₀ members cells : List ℕ) (n : ℕ) (made : GroupsMade s bits members₀ old members cells n) where
+  module _ {members₀ members cells : List ℕ} {n : ℕ} (made : GroupsMade s bits members₀ old members cells n) where
     tabled : StepsStored old cells n tables
-    tabled = sheet-stored s amounts bits grouped members₀ old members cells n made
+    tabled = sheet-stored grouped made
 
     pub slips-room : StepsRoom (s .p) cells n (payslipsOf s amounts (stepsIn cells n) .steps)
     slips-room = payslips-room (payslipOf s amounts) each tables (s .q) (grouped .cuts .columns) fits counted tabled
 
-    pub chain-whole : (cells′ outputs′ : List ℕ) → ChainStored cells outputs cells′ outputs′ (payslipsOf s amounts (stepsIn cells n))
+    pub chain-whole : {cells′ outputs′ : List ℕ} → ChainStored cells outputs cells′ outputs′ (payslipsOf s amounts (stepsIn cells n))
         → ChainStored old outputs cells′ outputs′ (partition (s .p) (s .q) amounts (s .c))
     unfolding partition
-    chain-whole cells′ outputs′ r = chain-stored (payslipOf s amounts) each tables (s .q) tabled r
+    chain-whole r = chain-stored (payslipOf s amounts) each tables (s .q) tabled r
 
 -- a sheet's grouping stands for what was given
-module _ (p q : ℕ) (amounts : List ℕ) (c : ℕ) (bits : List ℕ) (s : Grouping) (told : GroupedFor p q amounts c bits s) where
-  pub count-given : (r : ℕ) → r ≡ partitionCount (s .p) (s .q) amounts (s .c) → r ≡ partitionCount p q amounts c
-  count-given r e = e ∙ as-given (λ p q c. partitionCount p q amounts c) told
+module _ {p q : ℕ} {amounts : List ℕ} {c : ℕ} {bits : List ℕ} {s : Grouping} (told : GroupedFor p q amounts c bits s) where
+  pub count-given : {r : ℕ} → r ≡ partitionCount (s .p) (s .q) amounts (s .c) → r ≡ partitionCount p q amounts c
+  count-given e = e ∙ as-given (λ p q c. partitionCount p q amounts c) told
 
-  pub room-given : (steps outputs : List ℕ) → ChainRoom q (partitionCount p q amounts c) steps outputs
+  pub room-given : {steps outputs : List ℕ} → ChainRoom q (partitionCount p q amounts c) steps outputs
       → ChainRoom (s .q) (partitionCount (s .p) (s .q) amounts (s .c)) steps outputs
-  room-given steps outputs room = rw (told .same-p, told .same-q, told .same-c) room
+  room-given room = rw (told .same-p, told .same-q, told .same-c) room
 
-  pub chain-given : (steps₀ outputs₀ steps outputs : List ℕ) → ChainStored steps₀ outputs₀ steps outputs (partition (s .p) (s .q) amounts (s .c))
+  pub chain-given : {steps₀ outputs₀ steps outputs : List ℕ} → ChainStored steps₀ outputs₀ steps outputs (partition (s .p) (s .q) amounts (s .c))
       → ChainStored steps₀ outputs₀ steps outputs (partition p q amounts c)
-  chain-given steps₀ outputs₀ steps outputs r = subst (ChainStored steps₀ outputs₀ steps outputs) (as-given (λ p q c. partition p q amounts c) told) r
+  chain-given {steps₀} {outputs₀} {steps} {outputs} r =
+      subst (ChainStored steps₀ outputs₀ steps outputs) (as-given (λ p q c. partition p q amounts c) told) r

@@ -7,11 +7,13 @@ use Rattle.chain.specs.Chain.{Chain}
 use Rattle.chain.specs.declared.Step.{Step}
 use Rattle.products.specs.Product.{Made, made, times, payslips}
 use Rattle.tables.specs.Table.{entry}
+use Rattle.products.specs.Inner.{stepsIn, StepsRoom}
+use Rattle.methods.specs.Inner.{ChainRoom}
 use Rattle.methods.specs.Powers.{countsOf}
 use Rattle.groups.specs.declared.Grouping.{Grouping}
 use Rattle.groups.specs.Groups.{group, inputs, mostInputs}
 use Rattle.groups.specs.Inner.{Cuts, Grouped, tableAt}
-use Rattle.partition.specs.Partition.{partitionPayslip}
+use Rattle.partition.specs.Partition.{partitionCount, partitionPayslip}
 
 -- the parts of a payslip with these numbers, multiplied in order: the first g groups
 abbrev pub partsBy : Grouping → List ℕ → (ℕ → ℕ) → List Step → ℕ → Made
@@ -38,3 +40,30 @@ payslipOf s amounts = partitionPayslip (s .p) (s .q) amounts (s .c)
 
 abbrev pub payslipsOf : Grouping → List ℕ → List Step → Chain
 payslipsOf s amounts start = payslips (payslipOf s amounts) start (s .q)
+
+-- room after n steps: for a payslip's parts with these numbers, for payslip i, and for all payslips with their outputs
+pub record NumbersRoom (s : Grouping) (members numbers steps : List ℕ) (n : ℕ) : Type 0 where
+  pub numbered : Numbered s members numbers
+  pub room : StepsRoom (s .p) steps n (partsBy s members (countsOf numbers) (stepsIn steps n) (s .groups) .steps)
+
+pub record PayslipRoom (s : Grouping) (amounts bits members cells steps : List ℕ) (i n : ℕ) : Type 0 where
+  pub ready : Ready s amounts bits members cells
+  pub inside : i < s .q
+  pub room : StepsRoom (s .p) steps n (payslipOf s amounts i (stepsIn steps n) .steps)
+
+pub record PayslipsRoom (s : Grouping) (amounts bits members cells steps outputs : List ℕ) (n : ℕ) : Type 0 where
+  pub ready : Ready s amounts bits members cells
+  pub outputs-fit : s .q ≤ length outputs
+  pub room : StepsRoom (s .p) steps n (payslipsOf s amounts (stepsIn steps n) .steps)
+
+-- a grouped sheet, cells for its inputs and for the parts of a payslip, and room for its chain
+pub record SheetRoom (s : Grouping) (amounts bits members cells steps outputs : List ℕ) : Type 0 where
+  pub grouped : Grouped s amounts bits
+  pub members-room : mostInputs ≤ length members
+  pub cells-room : mostInputs ≤ length cells
+  pub fits : ChainRoom (s .q) (partitionCount (s .p) (s .q) amounts (s .c)) steps outputs
+
+-- a grouped sheet and a cell for each part of a payslip
+pub record TallyRoom (s : Grouping) (amounts bits cells : List ℕ) : Type 0 where
+  pub grouped : Grouped s amounts bits
+  pub room : mostInputs ≤ length cells

@@ -1,4 +1,4 @@
--- Method 3 as a method (document 01): its chain, its count and its ceiling.
+-- Method 3 as a method (Spec 3): its chain, its count and its ceiling.
 use mathlib.Core.List.{List}
 use Prim.Native.Nat.{ℕ}
 use Rattle.methods.specs.Method.{Method}

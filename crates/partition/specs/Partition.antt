@@ -1,4 +1,4 @@
--- Method 3 (document 01): "partition, parameter c" (recursion level 1 of source document 001, section 6, over binary digits).
+-- Method 3, partition, with parameter c (Spec 3.7): the first level of Pippenger's recursion, over binary digits.
 -- The squarings, the groups and their tables stand in groups.
 use mathlib.Core.List.{List}
 use Prim.Native.Nat.{ℕ, zero, suc, _+_, _-_, _*_}
@@ -10,7 +10,7 @@ use Rattle.products.specs.Product.{Made, made, times, payslips}
 use Rattle.tables.specs.Table.{entry}
 use Rattle.groups.specs.Groups.{group, groupCeiling, groupCount, groupTables, inputCount, inputs, selection, sheetSquarings, sheetTables, squaringCount, tablesCount, weigh}
 
--- "Then each payslip multiplies its nonempty group parts in order": the first g groups; an empty part is a copy
+-- Spec 3.7: a payslip's product after the parts of the first g groups; an empty part changes nothing
 abbrev pub parts : ℕ → ℕ → List ℕ → List Step → List ℕ → List Step → ℕ → Made
 parts p c members start bits before zero = made before 0
 parts p c members start bits before (suc g) =
@@ -19,7 +19,7 @@ parts p c members start bits before (suc g) =
 
 -- of a sheet
 module _ (p q : ℕ) (amounts : List ℕ) (c : ℕ) where
-  -- "its nonempty parts less 1", of payslip i over n groups
+  -- Spec 3.7: the parts of payslip i that are not empty, over n groups, less 1
   abbrev pub joinCount : ℕ → ℕ → ℕ
   joinCount n i = sumTo n (λ g. sign (weigh (group c g (selection p q amounts i)))) - 1
 
@@ -31,13 +31,13 @@ module _ (p q : ℕ) (amounts : List ℕ) (c : ℕ) where
   unfoldable pub partition : Chain
   partition = payslips partitionPayslip (sheetTables p q amounts c) q
 
-  -- "Count: squarings, 2^g − g − 1 for a group of g, and for each nonzero payslip its nonempty parts less 1."
+  -- Spec 3.7: the count; a payslip of zeros has no part and adds nothing
   unfoldable pub partitionCount : ℕ
   partitionCount =
       let w = inputCount p q amounts in
       squaringCount p q amounts + tablesCount c w (groupCount c w) + sumTo q (joinCount (groupCount c w))
 
-  -- "Ceiling: 0 if w = 0; else squarings + G(2^c − c − 1) + q(G−1)." Where w = 0, so are the squarings and G.
+  -- Spec 3.7: the ceiling; where w is 0, so are the squarings and the groups
   unfoldable pub partitionCeiling : ℕ
   partitionCeiling =
       let w = inputCount p q amounts in

@@ -1,15 +1,11 @@
 // The chain's steps: squarings, the groups' tables, then payslip after payslip.
 use groups::Grouping;
 use products::PartialProduct;
-ghost use Prim.Native.Nat.{_≤_, _<_};
-ghost use lib.ListN.{length};
-ghost use Rattle.products.specs.Inner.{stepsIn, StepsRoom, Emitted};
-ghost use Rattle.methods.specs.Inner.{ChainRoom, ChainStored};
+ghost use Rattle.products.specs.Inner.{stepsIn, Emitted};
+ghost use Rattle.methods.specs.Inner.{ChainStored};
 ghost use Rattle.methods.specs.Powers.{countsOf};
-ghost use Rattle.groups.specs.Groups.{mostInputs};
-ghost use Rattle.groups.specs.Inner.{Grouped};
-ghost use Rattle.partition.specs.Inner.{Numbered, Ready, partsBy, payslipOf, payslipsOf};
-ghost use Rattle.partition.specs.Partition.{partition, partitionCount};
+ghost use Rattle.partition.specs.Inner.{NumbersRoom, PayslipRoom, PayslipsRoom, SheetRoom, partsBy, payslipOf, payslipsOf};
+ghost use Rattle.partition.specs.Partition.{partition};
 
 // The parts of a payslip with these numbers, multiplied in order after n steps.
 fn make_parts(
@@ -19,8 +15,7 @@ fn make_parts(
     n: usize,
     steps: &mut [u32],
 ) -> PartialProduct
-    requires { ⌜ Numbered s (now members) (now numbers) ⌝ }
-    requires { ⌜ StepsRoom (s .p) (now steps) n (partsBy s (now members) (countsOf (now numbers)) (stepsIn (now steps) n) (s .groups) .steps) ⌝ }
+    requires { ⌜ NumbersRoom s (now members) (now numbers) (now steps) n ⌝ }
     ensures { λ r. ⌜ Emitted (now (steps .entry)) (now (steps .exit)) (r .n) (r .value)
         (partsBy s (now (members .entry)) (countsOf (now (numbers .entry))) (stepsIn (now (steps .entry)) n) (s .groups)) ⌝ }
 {
@@ -45,8 +40,7 @@ fn make_payslip(
     cells: &mut [u32],
     steps: &mut [u32],
 ) -> PartialProduct
-    requires { ⌜ Ready s (now amounts) (now bits) (now members) (now cells) × (i < s .q) ⌝ }
-    requires { ⌜ StepsRoom (s .p) (now steps) n (payslipOf s (now amounts) i (stepsIn (now steps) n) .steps) ⌝ }
+    requires { ⌜ PayslipRoom s (now amounts) (now bits) (now members) (now cells) (now steps) i n ⌝ }
     ensures { λ r. ⌜ Emitted (now (steps .entry)) (now (steps .exit)) (r .n) (r .value)
         (payslipOf s (now (amounts .entry)) i (stepsIn (now (steps .entry)) n)) ⌝ }
 {
@@ -66,8 +60,7 @@ fn make_payslips(
     steps: &mut [u32],
     outputs: &mut [u32],
 )
-    requires { ⌜ Ready s (now amounts) (now bits) (now members) (now cells) × (s .q ≤ length (now outputs)) ⌝ }
-    requires { ⌜ StepsRoom (s .p) (now steps) n (payslipsOf s (now amounts) (stepsIn (now steps) n) .steps) ⌝ }
+    requires { ⌜ PayslipsRoom s (now amounts) (now bits) (now members) (now cells) (now steps) (now outputs) n ⌝ }
     ensures { λ r. ⌜ ChainStored (now (steps .entry)) (now (outputs .entry)) (now (steps .exit)) (now (outputs .exit))
         (payslipsOf s (now (amounts .entry)) (stepsIn (now (steps .entry)) n)) ⌝ }
 {
@@ -91,8 +84,7 @@ pub fn make_chain(
     steps: &mut [u32],
     outputs: &mut [u32],
 )
-    requires { ⌜ Grouped s (now amounts) (now bits) × (mostInputs ≤ length (now members)) × (mostInputs ≤ length (now cells)) ⌝ }
-    requires { ⌜ ChainRoom (s .q) (partitionCount (s .p) (s .q) (now amounts) (s .c)) (now steps) (now outputs) ⌝ }
+    requires { ⌜ SheetRoom s (now amounts) (now bits) (now members) (now cells) (now steps) (now outputs) ⌝ }
     ensures { λ r. ⌜ ChainStored (now (steps .entry)) (now (outputs .entry)) (now (steps .exit)) (now (outputs .exit))
         (partition (s .p) (s .q) (now (amounts .entry)) (s .c)) ⌝ }
 {

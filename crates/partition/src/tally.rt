@@ -7,6 +7,7 @@ ghost use Rattle.digits.specs.Range.{sumTo, sign};
 ghost use Rattle.methods.specs.Powers.{countsOf};
 ghost use Rattle.groups.specs.Groups.{mostInputs};
 ghost use Rattle.groups.specs.Inner.{Bounded, Grouped, PartsRoom};
+ghost use Rattle.partition.specs.Inner.{TallyRoom};
 ghost use Rattle.partition.specs.Partition.{joinCount, partitionCount};
 
 // The steps of a payslip with these parts: those that are not empty less 1.
@@ -38,7 +39,7 @@ fn payslip_count(s: Grouping, amounts: &[u32], bits: &[u32], i: usize, cells: &m
 
 // The steps of the payslips.
 fn payslips_count(s: Grouping, amounts: &[u32], bits: &[u32], cells: &mut [u32]) -> usize
-    requires { ⌜ Grouped s (now amounts) (now bits) × (mostInputs ≤ length (now cells)) ⌝ }
+    requires { ⌜ TallyRoom s (now amounts) (now bits) (now cells) ⌝ }
     ensures { λ r. ⌜ Bounded r (sumTo (s .q) (joinCount (s .p) (s .q) (now (amounts .entry)) (s .c) (s .groups))) (mostInputs * s .q) ⌝ }
 {
     let mut n: usize = 0;

@@ -1,3 +1,4 @@
+pub mod Demand2
 pub mod Figures
 pub mod Promised
 pub mod Demand3

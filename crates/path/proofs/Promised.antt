@@ -6,7 +6,6 @@ use native.Mathlib.Omega.{arith}
 use lib.ListN.{length, getD}
 use Rattle.chain.specs.Verdict.{fine}
 use Rattle.chain.specs.Chain.{Chain, mostAmount, mostSteps, Legal, pick}
-use Rattle.chain.specs.declared.Step.{Step}
 use Rattle.chain.proofs.Rules.{pass, refuse-no, or-none, lt-no}
 use Rattle.chain.proofs.Sizes.{Sizes}
 use Rattle.chain.proofs.Outputs.{outputs-low}
@@ -19,12 +18,12 @@ use Rattle.run.proofs.Runnable.{runs-fine}
 use Rattle.run.proofs.Residues.{figure-law}
 use Rattle.layout.specs.Layout.{edition1}
 use Rattle.layout.specs.File.{byteCount, fileOf, Held, writeRule, readRule}
-use Rattle.layout.proofs.Editions.{edition1-sound, legal-held}
-use Rattle.layout.proofs.ReadingBack.{ReadBack, reading-gives, reading-back}
+use Rattle.layout.proofs.ReadingBack.{ReadBack}
 use Rattle.compile.specs.Compile.{methodOf, chainOf, count, ceiling, acceptedRule, compileRule}
 use Rattle.compile.proofs.Fits.{Accepted, accepted}
 use Rattle.methods.proofs.Right.{Right}
 use Rattle.compile.proofs.Right.{compiled-right}
+use Rattle.path.proofs.Demand2.{legal-held, legal-reads, legal-gives}
 
 -- what is promised of the chain c of an accepted sheet, with n its count and most its ceiling
 pub record Promised (p q : ℕ) (amounts : List ℕ) (method k : ℕ) (c : Chain) (n most : ℕ) : Type 0 where
@@ -88,8 +87,8 @@ module _ (p q : ℕ) (amounts : List ℕ) (method k : ℕ) (low : (j : ℕ) → 
         writes = λ x h. sym (pass _ _ fine (sym held) (refuse-no _ 5 0 (lt-no _ _ (rw (right .outputs, right .counted) h))));
         reads =
             λ x y h g.
-            reading-back edition1 edition1-sound p (c .steps) (c .outputs) held x y (omega (arith, right .counted)) (omega (arith, right .outputs));
-        read-back = reading-gives edition1 edition1-sound p (c .steps) (c .outputs) held;
+            legal-reads p (c .steps) (c .outputs) legal x y (omega (arith, right .counted)) (omega (arith, right .outputs));
+        read-back = legal-gives p (c .steps) (c .outputs) legal;
         passes = λ x h. passes-verify p (c .steps) (c .outputs) amounts x made (omega (arith, right .counted));
         runs =
             λ m bases some len under room places h g.

@@ -3,7 +3,7 @@ use mathlib.Core.Path.{_≡_, refl, sym, ap, _∙_}
 use mathlib.Core.List.{List, [], _∷_}
 use Prim.Native.Nat.{ℕ, _/_, _≤_}
 use lib.ListN.{length, getD}
-use Rattle.chain.specs.Verdict.{Verdict, fine, refused, _then_, Answer, done, refusal, answer, onFine}
+use Rattle.chain.specs.Verdict.{Verdict, fine, refused, _then_, Answer, done, refusal, onFine}
 use Rattle.chain.specs.Chain.{Chain, mostAmount}
 use Rattle.chain.specs.declared.Step.{Step}
 use Rattle.chain.proofs.Rules.{stop, pass, then-fine, then-assoc, answer-refused, answer-done, kept, renewed}

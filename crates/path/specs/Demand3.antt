@@ -1,4 +1,4 @@
--- Demand 3, in its own words and document 01's.
+-- Demand 3 (docs/DEMANDS.md).
 use mathlib.Core.Path.{_≡_}
 use mathlib.Core.List.{List, [], _∷_}
 use Prim.Native.Nat.{ℕ, _+_, _/_, _≤_, _<_}
@@ -11,8 +11,7 @@ use Rattle.layout.specs.File.{byteCount}
 use Rattle.compile.specs.Compile.{count, ceiling, acceptedRule}
 use Rattle.path.specs.Path.{Lent, beforeRun}
 
--- "a slice for results is long enough exactly if it has a cell for each pair, output, byte, value, figure or other item that the call would put
--- there if nothing were refused; scratch, if it has the size named for it", for p columns, q payslips and n steps
+-- Spec 10.4: every slice has a cell for what its call puts there, for p columns, q payslips and n steps
 pub record LongEnough (p q n : ℕ) (l : Lent) : Type 0 where
   pub steps : n ≤ length (l .steps) / 2
   pub outputs : q ≤ length (l .outputs)
@@ -23,7 +22,7 @@ pub record LongEnough (p q n : ℕ) (l : Lent) : Type 0 where
   pub values : p + n < length (l .values)
   pub figures : q ≤ length (l .figures)
 
--- "every modulus from 1 to 4,294,967,295 and every list of bases below it, one for each pay element"
+-- Spec 6: a modulus that is not 0, and a base below it for each column
 pub record Receivable (p m : ℕ) (bases : List ℕ) : Type 0 where
   pub modulus : 1 ≤ m
   pub one-each : length bases ≡ p
@@ -31,14 +30,14 @@ pub record Receivable (p m : ℕ) (bases : List ℕ) : Type 0 where
 
 -- what is asked of the five calls: they answered a, and left the slices as in after, which were as in l before, whatever they held
 pub record Demand3 (p q : ℕ) (amounts : List ℕ) (method k m : ℕ) (bases : List ℕ) (l : Lent) (a : Answer) (after : Lent) : Type 0 where
-  -- "compile, write and read succeed and the check passes"
+  -- nothing is refused before the run
   pub checked : acceptedRule p q amounts method k ≡ fine → LongEnough p q (count p q amounts method k) l
       → beforeRun p q amounts method k l ≡ fine
-  -- "The multiplications made, which the run returns, equal the number of steps that compile and read return. They equal the method's count"
+  -- compile's steps, read's steps and the multiplications made are each the method's count
   pub counted : acceptedRule p q amounts method k ≡ fine → LongEnough p q (count p q amounts method k) l → Receivable p m bases
       → a ≡ done (count p q amounts method k ∷ count p q amounts method k ∷ count p q amounts method k ∷ [])
-  -- "and never exceed its ceiling"
+  -- which is at most its ceiling
   pub limited : acceptedRule p q amounts method k ≡ fine → count p q amounts method k ≤ ceiling p q amounts method k
-  -- "the run gives for each payslip, in the sheet's order, exactly the product of the bases raised to its amounts, reduced by that modulus"
+  -- each payslip's figure is the product of powers that Spec 1.3 asks for
   pub figured : acceptedRule p q amounts method k ≡ fine → LongEnough p q (count p q amounts method k) l → Receivable p m bases
       → (i : ℕ) → i < q → getD (after .figures) i 0 ≡ figure p m bases amounts i

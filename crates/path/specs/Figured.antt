@@ -1,4 +1,4 @@
--- What the code's `Figured` says in document 01's terms.
+-- What each case of the code's `Figured` says (Spec 7.3).
 use mathlib.Core.List.{[], _∷_}
 use Rattle.chain.specs.Verdict.{Answer, done, refusal}
 use Rattle.path.specs.declared.Figured.{Figured}

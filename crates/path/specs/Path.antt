@@ -1,4 +1,4 @@
--- The whole path from sheet to figures (document 01, "Run"): "five calls, compile, write, read, check and run".
+-- The whole path from sheet to figures: compile, write, read, check and run (Spec 7.3).
 use mathlib.Core.List.{List, [], _∷_}
 use Prim.Native.Nat.{ℕ, _/_}
 use lib.ListN.{length}
@@ -36,11 +36,11 @@ lent steps outputs bytes stepsRead outputsRead scratch values figures =
 
 -- a sheet, a method and a parameter
 module _ (p q : ℕ) (amounts : List ℕ) (method k : ℕ) where
-  -- "exactly the n pairs and q outputs that compile filled"
+  -- Spec 7.3: what compile made, which write gets
   abbrev pub compiled : Chain
   compiled = chainOf p q amounts method k
 
-  -- "exactly the bytes that write counted"
+  -- Spec 7.3: the bytes that write counted, which read gets
   abbrev pub written : List ℕ
   written = fileOf edition1 p (compiled .steps) (compiled .outputs)
 
@@ -55,7 +55,7 @@ module _ (p q : ℕ) (amounts : List ℕ) (method k : ℕ) where
     abbrev pub reads : Verdict
     reads = readRule edition1 written (length (l .stepsRead) / 2) (length (l .outputsRead))
 
-    -- "Check and run get the p that read returned and exactly the n pairs and q outputs that read filled; check also gets the same sheet."
+    -- Spec 7.3: check and run get what read returned and made, and check the sheet
     abbrev pub checks : Verdict
     checks = verifyRule (columnsOf written) (stepsOf edition1 written) (outputsOf edition1 written) amounts (length (l .scratch))
 

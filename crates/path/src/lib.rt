@@ -35,9 +35,23 @@ pub fn sheet_to_figures(
     values: &mut [u32],
     figures: &mut [u32],
 ) -> Figured
-    ensures { λ r. ⌜ figuredOf r ≡ pathAnswer p q (now (amounts .entry)) method k (lent (now (steps .entry)) (now (outputs .entry)) (now (bytes .entry)) (now (received .entry)) (now (results .entry)) (now (scratch .entry)) (now (values .entry)) (now (figures .entry))) m (now (bases .entry)) ⌝ }
-    ensures { λ r. ⌜ lent (now (steps .exit)) (now (outputs .exit)) (now (bytes .exit)) (now (received .exit)) (now (results .exit)) (now (scratch .exit)) (now (values .exit)) (now (figures .exit)) ≡ pathLeaves p q (now (amounts .entry)) method k (lent (now (steps .entry)) (now (outputs .entry)) (now (bytes .entry)) (now (received .entry)) (now (results .entry)) (now (scratch .entry)) (now (values .entry)) (now (figures .entry))) m (now (bases .entry)) ⌝ }
-    ensures { λ r. ⌜ Demand3 p q (now (amounts .entry)) method k m (now (bases .entry)) (lent (now (steps .entry)) (now (outputs .entry)) (now (bytes .entry)) (now (received .entry)) (now (results .entry)) (now (scratch .entry)) (now (values .entry)) (now (figures .entry))) (figuredOf r) (lent (now (steps .exit)) (now (outputs .exit)) (now (bytes .exit)) (now (received .exit)) (now (results .exit)) (now (scratch .exit)) (now (values .exit)) (now (figures .exit))) ⌝ }
+    ensures { λ r. ⌜ figuredOf r
+        ≡ pathAnswer p q (now (amounts .entry)) method k
+        (lent (now (steps .entry)) (now (outputs .entry)) (now (bytes .entry)) (now (received .entry)) (now (results .entry))
+        (now (scratch .entry)) (now (values .entry)) (now (figures .entry)))
+        m (now (bases .entry)) ⌝ }
+    ensures { λ r. ⌜ lent (now (steps .exit)) (now (outputs .exit)) (now (bytes .exit)) (now (received .exit)) (now (results .exit))
+        (now (scratch .exit)) (now (values .exit)) (now (figures .exit))
+        ≡ pathLeaves p q (now (amounts .entry)) method k
+        (lent (now (steps .entry)) (now (outputs .entry)) (now (bytes .entry)) (now (received .entry)) (now (results .entry))
+        (now (scratch .entry)) (now (values .entry)) (now (figures .entry)))
+        m (now (bases .entry)) ⌝ }
+    ensures { λ r. ⌜ Demand3 p q (now (amounts .entry)) method k m (now (bases .entry))
+        (lent (now (steps .entry)) (now (outputs .entry)) (now (bytes .entry)) (now (received .entry)) (now (results .entry))
+        (now (scratch .entry)) (now (values .entry)) (now (figures .entry)))
+        (figuredOf r)
+        (lent (now (steps .exit)) (now (outputs .exit)) (now (bytes .exit)) (now (received .exit)) (now (results .exit))
+        (now (scratch .exit)) (now (values .exit)) (now (figures .exit))) ⌝ }
 {
     match compile::compile(p, q, amounts, method, k, steps, outputs) {
         Compiled::Refused(number, place) => Figured::Refused(number, place),

@@ -63,7 +63,8 @@ pub record StepsLeft (whole : Verdict) (bytes : List ℕ) (p w n c s : ℕ) : Ty
   pub room : FieldsWithin bytes c w (2 * (n - s))
   pub same : whole ≡ stepsRule p (s + 1) (pairs (fieldsAt bytes c w (2 * (n - s))))
 
-pub steps-start : (bytes : List ℕ) (p at w n : ℕ) → FieldsWithin bytes at w (2 * n) → StepsLeft (stepsRule p 1 (pairs (fieldsAt bytes at w (2 * n)))) bytes p w n at 0
+pub steps-start : (bytes : List ℕ) (p at w n : ℕ) → FieldsWithin bytes at w (2 * n)
+    → StepsLeft (stepsRule p 1 (pairs (fieldsAt bytes at w (2 * n)))) bytes p w n at 0
 steps-start bytes p at w n ok =
     let e : n - 0 ≡ n = omega arith in
     record { some-left = omega arith; room = rw e ok; same = rw e }
@@ -99,8 +100,10 @@ module _ (whole : Verdict) (bytes : List ℕ) (p w n c s : ℕ) (inv : StepsLeft
             let k : ℕ = 2 * (n - (s + 1)) in
             let e : p + (s + 1) ≡ p + s + 1 = omega arith in
             inv .same ∙ ap (λ (i : ℕ). stepsRule p (s + 1) (pairs (fieldsAt bytes c w i))) left
-            ∙ ap₂ (λ (i v : ℕ). stepRule (p + (s + 1)) (s + 1) (by v (fieldAt bytes i w)) then stepsRule p (suc (s + 1)) (pairs (fieldsAt bytes (i + w) w k))) (sym (one .moved)) (sym (one .is))
-            ∙ ap₂ (λ (i v : ℕ). stepRule (p + (s + 1)) (s + 1) (by a v) then stepsRule p (suc (s + 1)) (pairs (fieldsAt bytes i w k))) (sym (other .moved)) (sym (other .is))
+            ∙ ap₂ (λ (i v : ℕ). stepRule (p + (s + 1)) (s + 1) (by v (fieldAt bytes i w)) then stepsRule p (suc (s + 1))
+            (pairs (fieldsAt bytes (i + w) w k))) (sym (one .moved)) (sym (one .is))
+            ∙ ap₂ (λ (i v : ℕ). stepRule (p + (s + 1)) (s + 1) (by a v) then stepsRule p (suc (s + 1)) (pairs (fieldsAt bytes i w k)))
+            (sym (other .moved)) (sym (other .is))
             ∙ ap₂ (λ (i v : ℕ). stepRule v (s + 1) (by a b) then stepsRule p i (pairs (fieldsAt bytes next w k))) (sym (add-one (s + 1))) e
 
         pub step-bad : (number place : ℕ) → j ≡ Refused number place → refused number place ≡ whole

@@ -1,17 +1,18 @@
 -- The read rule is the header's rules and then the body's, by the extent that the header gives; each judge's verdict decides its half, and the lists read are the chain's.
 use mathlib.Core.Path.{_≡_, refl, sym, ap, _∙_, subst}
 use mathlib.Core.List.{List, [], _∷_}
-use Prim.Native.Nat.{ℕ, _+_, _-_, _*_, _/_, _^_, _≤_, _<_}
+use Prim.Native.Nat.{ℕ, _+_, _-_, _*_, _/_, _≤_, _<_}
 use native.Mathlib.Omega.{arith}
 use lib.ListN.{length}
 use Rattle.chain.specs.Tests.{_<?_, _≠?_, _or_}
 use Rattle.chain.specs.Verdict.{Verdict, fine, refused, _then_, refuseIf, Answer, done, refusal, answer, onFine}
 use Rattle.chain.specs.Judgement.{verdictOf}
 use Rattle.chain.specs.Written.{over}
-use Rattle.chain.specs.Chain.{pairs, flat, lengthRule, stepsRule, outputsRule, chainRule}
+use Rattle.chain.specs.Chain.{flat, lengthRule, stepsRule, outputsRule, chainRule}
 use Rattle.chain.specs.declared.Judgement.{Judgement}
 use Rattle.chain.specs.declared.Judgement.the-variants as judged
-use Rattle.chain.proofs.Rules.{stop, pass, then-fine, then-assoc, refuseIf-fine, neither, not-lt, not-ne, told-fine, told-refused, answer-refused, answer-done, kept, renewed}
+use Rattle.chain.proofs.Rules.{stop, pass, then-fine, then-assoc, refuseIf-fine, neither, not-lt, not-ne, told-fine, told-refused, answer-refused}
+use Rattle.chain.proofs.Rules.{answer-done, kept, renewed}
 use Rattle.chain.proofs.Pairs.{length-pairs, flat-pairs}
 use Rattle.chain.proofs.Sizes.{length-fits}
 use Rattle.bits.specs.Bits.{bytesFor, fieldAt, fieldsAt}
@@ -21,13 +22,13 @@ use Rattle.fields.specs.Inner.{FieldsRoom}
 use Rattle.layout.specs.declared.Layout.{Layout}
 use Rattle.layout.specs.declared.Extent.{Extent}
 use Rattle.layout.specs.File.{columnsOf, payslipsOf, lengthOf, stepsOf, outputsOf, readRule, readAnswer, readSteps, readOutputs}
-use Rattle.layout.specs.Inner.{Sound, Sized, extentOf}
+use Rattle.layout.specs.Inner.{SoundLayout, Sized, extentOf}
 use Rattle.layout.proofs.Lengths.{top-low, width-low, count-parts, count-fits}
 use Rattle.layout.proofs.Readable.{header-sized}
 use Rattle.reading.specs.declared.Header.{Header}
 use Rattle.reading.specs.declared.Heading.{Heading}
 use Rattle.reading.specs.declared.Heading.the-variants as heading
-use Rattle.reading.specs.Inner.{headerIn, extentIn, headerRule, headed, Proper, Contained, stepsIn, outputsIn, bodyRule, BodyRead, FileRead, ListsTaken}
+use Rattle.reading.specs.Inner.{headerIn, extentIn, headerRule, headed, Proper, Contained, fileSteps, fileOutputs, bodyRule, BodyRead, FileRead, ListsTaken}
 
 -- the header's rules, in terms of what was read
 module _ (L : Layout) (bytes : List ℕ) (h : Header) (is : h ≡ headerIn bytes (L .bits)) where
@@ -52,7 +53,7 @@ module _ (L : Layout) (bytes : List ℕ) (r : Heading) (told : headed L bytes r)
   pub found : (x : Extent) → r ≡ heading.Found x → (fine ≡ headerRule L bytes) × (x ≡ extentIn L bytes)
   found x e = subst (headed L bytes) e told
 
-  pub found-proper : Sound L → (x : Extent) → r ≡ heading.Found x → Proper x
+  pub found-proper : SoundLayout L → (x : Extent) → r ≡ heading.Found x → Proper x
   unfolding headerRule
   found-proper sound x e =
       let f = found x e in
@@ -68,24 +69,24 @@ module _ (L : Layout) (bytes : List ℕ) (r : Heading) (told : headed L bytes r)
 
 -- the body, by its extent
 module _ (bytes : List ℕ) (x : Extent) where
-  steps-count : length (stepsIn bytes x) ≡ x .n
+  steps-count : length (fileSteps bytes x) ≡ x .n
   steps-count =
       length-pairs (fieldsAt bytes (x .start) (x .width) (2 * x .n)) ∙ omega (arith, length-fieldsAt bytes (x .start) (x .width) (2 * x .n))
 
-  flat-steps : flat (stepsIn bytes x) ≡ fieldsAt bytes (x .start) (x .width) (2 * x .n)
+  flat-steps : flat (fileSteps bytes x) ≡ fieldsAt bytes (x .start) (x .width) (2 * x .n)
   flat-steps = flat-pairs (x .n) _ (length-fieldsAt bytes (x .start) (x .width) (2 * x .n))
 
-  module _ (j : Judgement) (told : verdictOf j ≡ stepsRule (x .p) 1 (stepsIn bytes x)) where
-    in-order : chainRule (x .p) (stepsIn bytes x) (outputsIn bytes x)
-        ≡ (stepsRule (x .p) 1 (stepsIn bytes x) then outputsRule (x .p + x .n) 1 (outputsIn bytes x))
+  module _ (j : Judgement) (told : verdictOf j ≡ stepsRule (x .p) 1 (fileSteps bytes x)) where
+    in-order : chainRule (x .p) (fileSteps bytes x) (fileOutputs bytes x)
+        ≡ (stepsRule (x .p) 1 (fileSteps bytes x) then outputsRule (x .p + x .n) 1 (fileOutputs bytes x))
     unfolding chainRule
-    in-order = ap (λ (k : ℕ). stepsRule (x .p) 1 (stepsIn bytes x) then outputsRule (x .p + k) 1 (outputsIn bytes x)) steps-count
+    in-order = ap (λ (k : ℕ). stepsRule (x .p) 1 (fileSteps bytes x) then outputsRule (x .p + k) 1 (fileOutputs bytes x)) steps-count
 
-    pub chain-bad : (k s : ℕ) → j ≡ judged.Refused k s → refused k s ≡ chainRule (x .p) (stepsIn bytes x) (outputsIn bytes x)
+    pub chain-bad : (k s : ℕ) → j ≡ judged.Refused k s → refused k s ≡ chainRule (x .p) (fileSteps bytes x) (fileOutputs bytes x)
     chain-bad k s e = stop _ _ k s (told-refused j _ k s told e) ∙ sym in-order
 
-    pub chain-rest : (v : Verdict) → j ≡ judged.Fine → v ≡ outputsRule (x .p + x .n) 1 (outputsIn bytes x)
-        → v ≡ chainRule (x .p) (stepsIn bytes x) (outputsIn bytes x)
+    pub chain-rest : (v : Verdict) → j ≡ judged.Fine → v ≡ outputsRule (x .p + x .n) 1 (fileOutputs bytes x)
+        → v ≡ chainRule (x .p) (fileSteps bytes x) (fileOutputs bytes x)
     chain-rest v e is = pass _ _ v (told-fine j _ told e) is ∙ sym in-order
 
   module _ (ok : Proper x) where
@@ -103,7 +104,7 @@ module _ (bytes : List ℕ) (x : Extent) where
         ≡ (refuseIf (length bytes ≠? bytesFor (x .total)) 6 0
         then refuseIf (room <? x .n or places <? x .q) 5 0
         then refuseIf (f ≠? 0) 8 0
-        then chainRule (x .p) (stepsIn bytes x) (outputsIn bytes x))
+        then chainRule (x .p) (fileSteps bytes x) (fileOutputs bytes x))
         → v ≡ bodyRule bytes x room places
     unfolding bodyRule
     body-is f room places is v e = e ∙ rw is

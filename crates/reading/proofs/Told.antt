@@ -46,7 +46,8 @@ module _ (L : Layout) (bytes steps outputs : List ℕ) (r : Reading) (answered :
     unfolding readAnswer
     sizes = told-values _ _ _ (sym (ap readOf is) ∙ answered)
 
-    module _ (steps′ outputs′ : List ℕ) (es : steps′ ≡ readSteps L bytes (length outputs) steps) (eo : outputs′ ≡ readOutputs L bytes (length steps / 2) outputs) where
+    module _ (steps′ outputs′ : List ℕ) (es : steps′ ≡ readSteps L bytes (length outputs) steps)
+        (eo : outputs′ ≡ readOutputs L bytes (length steps / 2) outputs) where
       new-steps : steps′ ≡ over (flat (stepsOf L bytes)) steps
       unfolding readSteps
       new-steps = es ∙ sym (renewed _ _ steps _ read-passes refl)

@@ -57,11 +57,11 @@ pub record Contained (bytes : List ℕ) (x : Extent) : Type 0 where
 
 -- the chain that stands in bytes by an extent
 module _ (bytes : List ℕ) (x : Extent) where
-  abbrev pub stepsIn : List Step
-  stepsIn = pairs (fieldsAt bytes (x .start) (x .width) (2 * x .n))
+  abbrev pub fileSteps : List Step
+  fileSteps = pairs (fieldsAt bytes (x .start) (x .width) (2 * x .n))
 
-  abbrev pub outputsIn : List ℕ
-  outputsIn = fieldsAt bytes (x .start + 2 * x .n * x .width) (x .width) (x .q)
+  abbrev pub fileOutputs : List ℕ
+  fileOutputs = fieldsAt bytes (x .start + 2 * x .n * x .width) (x .width) (x .q)
 
   -- the reader's rules after the header's: 6, 5, 8, steps, 12
   unfoldable pub bodyRule : ℕ → ℕ → Verdict
@@ -69,13 +69,13 @@ module _ (bytes : List ℕ) (x : Extent) where
       refuseIf (length bytes ≠? bytesFor (x .total)) 6 0
       then refuseIf (pairsLent <? x .n or outputsLent <? x .q) 5 0
       then refuseIf (fieldAt bytes (x .total) (8 * length bytes - x .total) ≠? 0) 8 0
-      then chainRule (x .p) stepsIn outputsIn
+      then chainRule (x .p) fileSteps fileOutputs
 
   -- what reading by an extent answers and leaves
   pub record BodyRead (steps outputs : List ℕ) (a : Answer) (steps′ outputs′ : List ℕ) : Type 0 where
     pub answered : a ≡ answer (bodyRule (length steps / 2) (length outputs)) (x .p ∷ x .q ∷ x .n ∷ [])
-    pub steps-left : steps′ ≡ onFine (bodyRule (length steps / 2) (length outputs)) (over (flat stepsIn) steps) steps
-    pub outputs-left : outputs′ ≡ onFine (bodyRule (length steps / 2) (length outputs)) (over outputsIn outputs) outputs
+    pub steps-left : steps′ ≡ onFine (bodyRule (length steps / 2) (length outputs)) (over (flat fileSteps) steps) steps
+    pub outputs-left : outputs′ ≡ onFine (bodyRule (length steps / 2) (length outputs)) (over fileOutputs outputs) outputs
 
 -- what reading in a layout answers and leaves
 pub record FileRead (L : Layout) (bytes steps outputs : List ℕ) (a : Answer) (steps′ outputs′ : List ℕ) : Type 0 where

@@ -7,9 +7,9 @@ ghost use Rattle.chain.specs.Chain.{stepsRule, outputsRule, chainRule};
 ghost use Rattle.fields.specs.Inner.{FieldsRoom};
 ghost use Rattle.layout.specs.Layout.{edition1};
 ghost use Rattle.layout.specs.File.{readAnswer, readSteps, readOutputs};
-ghost use Rattle.layout.specs.Inner.{Sound};
+ghost use Rattle.layout.specs.Inner.{SoundLayout};
 ghost use Rattle.reading.specs.Answers.{readOf};
-ghost use Rattle.reading.specs.Inner.{HeaderRoom, headerIn, headed, Proper, Contained, stepsIn, outputsIn, bodyRule, BodyRead, FileRead, ListsTaken};
+ghost use Rattle.reading.specs.Inner.{HeaderRoom, headerIn, headed, Proper, Contained, fileSteps, fileOutputs, bodyRule, BodyRead, FileRead, ListsTaken};
 use bits::BitReader;
 use bits::Cursor;
 use chain::Judgement;
@@ -59,7 +59,7 @@ fn take_header(bytes: &[u8], bits: usize) -> Header
 
 // 6 (under 4 bytes), 7, 4; then the width is found.
 fn judge_header(layout: Layout, bytes: &[u8]) -> Heading
-    requires { ⌜ Sound layout ⌝ }
+    requires { ⌜ SoundLayout layout ⌝ }
     ensures { λ r. ⌜ headed layout (now (bytes .entry)) r ⌝ }
 {
     if bytes.len() < 4 {
@@ -78,7 +78,7 @@ fn judge_header(layout: Layout, bytes: &[u8]) -> Heading
 // The steps of a file, in order: 9, 10, 11.
 fn judge_steps(bytes: &[u8], x: Extent) -> Judgement
     requires { ⌜ Contained (now bytes) x ⌝ }
-    ensures { λ r. ⌜ verdictOf r ≡ stepsRule (x .p) 1 (stepsIn (now (bytes .entry)) x) ⌝ }
+    ensures { λ r. ⌜ verdictOf r ≡ stepsRule (x .p) 1 (fileSteps (now (bytes .entry)) x) ⌝ }
 {
     let n = x.n;
     let mut c = Cursor { at: x.start };
@@ -105,7 +105,7 @@ fn judge_steps(bytes: &[u8], x: Extent) -> Judgement
 // The outputs of a file: 12.
 fn judge_outputs(bytes: &[u8], x: Extent) -> Judgement
     requires { ⌜ Contained (now bytes) x ⌝ }
-    ensures { λ r. ⌜ verdictOf r ≡ outputsRule (x .p + x .n) 1 (outputsIn (now (bytes .entry)) x) ⌝ }
+    ensures { λ r. ⌜ verdictOf r ≡ outputsRule (x .p + x .n) 1 (fileOutputs (now (bytes .entry)) x) ⌝ }
 {
     let q = x.q;
     let top = x.p + x.n;
@@ -129,7 +129,7 @@ fn judge_outputs(bytes: &[u8], x: Extent) -> Judgement
 // The chain of a file: steps, then 12.
 fn judge_chain(bytes: &[u8], x: Extent) -> Judgement
     requires { ⌜ Contained (now bytes) x ⌝ }
-    ensures { λ r. ⌜ verdictOf r ≡ chainRule (x .p) (stepsIn (now (bytes .entry)) x) (outputsIn (now (bytes .entry)) x) ⌝ }
+    ensures { λ r. ⌜ verdictOf r ≡ chainRule (x .p) (fileSteps (now (bytes .entry)) x) (fileOutputs (now (bytes .entry)) x) ⌝ }
 {
     match judge_steps(bytes, x) {
         Judgement::Refused(number, place) => Judgement::Refused(number, place),
@@ -171,7 +171,8 @@ fn take_lists(
     outputs: &mut [u32],
 )
     requires { ⌜ FieldsRoom (now bytes) at w (2 * n) (now steps) × FieldsRoom (now bytes) (at + 2 * n * w) w q (now outputs) ⌝ }
-    ensures { λ _. ⌜ ListsTaken (now (bytes .entry)) at w n q (now (steps .entry)) (now (outputs .entry)) (now (steps .exit)) (now (outputs .exit)) ⌝ }
+    ensures { λ _. ⌜ ListsTaken (now (bytes .entry)) at w n q (now (steps .entry)) (now (outputs .entry)) (now (steps .exit))
+        (now (outputs .exit)) ⌝ }
 {
     let start = BitReader {
         bytes: bytes,
@@ -184,7 +185,8 @@ fn take_lists(
 // Reads the chain that stands in bytes by an extent. Everything is judged before anything is stored.
 fn read_body(x: Extent, bytes: &[u8], steps: &mut [u32], outputs: &mut [u32]) -> Reading
     requires { ⌜ Proper x ⌝ }
-    ensures { λ r. ⌜ BodyRead (now (bytes .entry)) x (now (steps .entry)) (now (outputs .entry)) (readOf r) (now (steps .exit)) (now (outputs .exit)) ⌝ }
+    ensures { λ r. ⌜ BodyRead (now (bytes .entry)) x (now (steps .entry)) (now (outputs .entry)) (readOf r)
+        (now (steps .exit)) (now (outputs .exit)) ⌝ }
 {
     match judge_body(bytes, x, steps.len() / 2, outputs.len()) {
         Judgement::Refused(number, place) => Reading::Refused(number, place),
@@ -201,8 +203,9 @@ fn read_body(x: Extent, bytes: &[u8], steps: &mut [u32], outputs: &mut [u32]) ->
 
 // The header is decoded once, and all else is read by the extent that it gives.
 fn read_as(layout: Layout, bytes: &[u8], steps: &mut [u32], outputs: &mut [u32]) -> Reading
-    requires { ⌜ Sound layout ⌝ }
-    ensures { λ r. ⌜ FileRead layout (now (bytes .entry)) (now (steps .entry)) (now (outputs .entry)) (readOf r) (now (steps .exit)) (now (outputs .exit)) ⌝ }
+    requires { ⌜ SoundLayout layout ⌝ }
+    ensures { λ r. ⌜ FileRead layout (now (bytes .entry)) (now (steps .entry)) (now (outputs .entry)) (readOf r)
+        (now (steps .exit)) (now (outputs .exit)) ⌝ }
 {
     match judge_header(layout, bytes) {
         Heading::Refused(number, place) => Reading::Refused(number, place),

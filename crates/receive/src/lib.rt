@@ -16,7 +16,9 @@ pub fn receive(
     values: &mut [u32],
     figures: &mut [u32],
 ) -> Ran
-    ensures { λ r. ⌜ Received p (pairs (now (steps .entry))) (now (outputs .entry)) (now (amounts .entry)) m (now (bases .entry)) (now (scratch .entry)) (now (values .entry)) (now (figures .entry)) (ranOf r) (now (scratch .exit)) (now (values .exit)) (now (figures .exit)) ⌝ }
+    ensures { λ r. ⌜ Received p (pairs (now (steps .entry))) (now (outputs .entry)) (now (amounts .entry)) m
+        (now (bases .entry)) (now (scratch .entry)) (now (values .entry)) (now (figures .entry)) (ranOf r)
+        (now (scratch .exit)) (now (values .exit)) (now (figures .exit)) ⌝ }
 {
     match verify::verify(p, steps, outputs, amounts, scratch) {
         Verified::Refused(number, place) => Ran::Refused(number, place),

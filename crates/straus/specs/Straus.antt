@@ -1,4 +1,4 @@
--- Method 1 (document 01): "Straus (Brauer where p = 1), parameter k".
+-- Method 1, Straus, with parameter k (Spec 3.5).
 use mathlib.Core.List.{List}
 use Prim.Native.Nat.{ℕ, zero, suc, _+_, _-_, _*_, _^_}
 use Rattle.chain.specs.Chain.{Chain}
@@ -10,7 +10,7 @@ use Rattle.products.specs.Product.{Made, made, times, squared, payslips}
 use Rattle.tables.specs.Table.{entry, table}
 use Rattle.methods.specs.Method.{Method}
 
--- "parameter k, 1 to 5, with p times k at most 10"
+-- Spec 3: the largest k, and the largest p times k
 abbrev pub strausMost : ℕ
 strausMost = 5
 
@@ -21,23 +21,23 @@ strausMostBits = 10
 abbrev pub bases : ℕ → List ℕ
 bases p = listTo p (λ c. c + 1)
 
--- "Table": every vector with digits below 2^k, after the bases
+-- Spec 3.5: the table over the bases
 abbrev pub strausTable : ℕ → ℕ → List Step
 strausTable p k = table k (bases p) (p + 1) (2 ^ (p * k))
 
--- "Start at the table value of the top digits; for each lower digit square k times, then multiply by the table value": the upper n of J digits,
+-- Spec 3.5: squared k times and multiplied by an entry, digit after digit from the top: the upper n of J digits,
 -- e j being the table value for digit j. The start is a product with the empty one, and so a copy, as is one with a zero digit vector.
 abbrev pub horner : ℕ → ℕ → (ℕ → ℕ) → ℕ → List Step → ℕ → Made
 horner p k e J before zero = made before 0
 horner p k e J before (suc n) = times p (squared p k (horner p k e J before n)) (e (J - suc n))
 
 module _ (p : ℕ) (amounts : List ℕ) (k : ℕ) where
-  -- "let J be the base-2^k digits of its largest amount", for payslip i; J is 0 for a zero payslip
+  -- Spec 3.5: J, for payslip i; 0 for a payslip of zeros
   unfoldable pub strausDigits : ℕ → ℕ
   unfolding digitCount
   strausDigits i = digitCount k (maxTo p (amount p amounts i))
 
-  -- the vector of its digits with weight 2^(kj): "column 1 having weight 1, column c weight 2^(k(c−1))"
+  -- Spec 3.4, 3.5: the entry of its digits with weight 2^(kj), one digit for each column, the first column lowest
   abbrev pub digitVector : ℕ → ℕ → ℕ
   digitVector i j = sumTo p (λ c. digit k (amount p amounts i c) j * 2 ^ (k * c))
 
@@ -46,7 +46,7 @@ module _ (p : ℕ) (amounts : List ℕ) (k : ℕ) where
       let J = strausDigits i in
       horner p k (λ j. entry k (bases p) (p + 1) (digitVector i j)) J before J
 
-  -- "for each nonzero payslip (J−1)k and its nonzero lower digit vectors". A zero payslip has J = 0 and adds nothing.
+  -- Spec 3.5: the steps of payslip i; of a payslip of zeros J is 0, and there is none
   abbrev pub strausPayslipCount : ℕ → ℕ
   strausPayslipCount i =
       let J = strausDigits i in
@@ -56,11 +56,11 @@ module _ (p q : ℕ) (amounts : List ℕ) (k : ℕ) where
   unfoldable pub straus : Chain
   straus = payslips (strausPayslip p amounts k) (strausTable p k) q
 
-  -- "Count: 2^(pk) − p − 1, plus for each nonzero payslip (J−1)k and its nonzero lower digit vectors."
+  -- Spec 3.5: the count
   unfoldable pub strausCount : ℕ
   strausCount = 2 ^ (p * k) - p - 1 + sumTo q (strausPayslipCount p amounts k)
 
-  -- "Ceiling: 2^(pk) − p − 1 + sum over nonzero payslips of (J−1)(k+1)."
+  -- Spec 3.5: the ceiling
   unfoldable pub strausCeiling : ℕ
   strausCeiling = 2 ^ (p * k) - p - 1 + sumTo q (λ i. (strausDigits p amounts k i - 1) * (k + 1))
 

@@ -1,4 +1,4 @@
--- A table of products of some inputs (document 01, methods 1 and 3). An entry is a vector with a digit below 2^k for each input; its number t has
+-- A table of products of some inputs (Spec 3.4). An entry is a vector with a digit below 2^k for each input; its number t has
 -- weight 1 for the first input and 2^(kj) for the one at place j, counted from 0. Straus's table has the bases for inputs; a group of the
 -- partition method has its members, and k = 1.
 use mathlib.Core.Bool.{Bool, true, false, cond}
@@ -22,7 +22,7 @@ entry k inputs at t =
     (cond (isUnit k t) (getD inputs (digitCount k t - 1) 0)
     (at + t - digitCount k t - 1))
 
--- "its lowest nonzero column": the place of the lowest digit of t that is not 0, from place j on, as far as the first argument allows
+-- Spec 3.4: the place of the lowest digit of t that is not 0, from place j on, as far as the first argument allows
 abbrev pub lowestFrom : ℕ → ℕ → ℕ → ℕ → ℕ
 lowestFrom zero k t j = j
 lowestFrom (suc f) k t j = elim (digit k t j =? 0) [ true ↦ lowestFrom f k t (suc j) | false ↦ j ]
@@ -30,14 +30,14 @@ lowestFrom (suc f) k t j = elim (digit k t j =? 0) [ true ↦ lowestFrom f k t (
 abbrev pub lowest : ℕ → ℕ → ℕ
 lowest k t = lowestFrom (digitCount k t) k t 0
 
--- "every vector that is neither zero nor a unit is made from itself less one unit of its lowest nonzero column, and that base"
+-- Spec 3.4: the step of entry t, from the entry with one less in its lowest digit that is not 0, and the input of that digit
 unfoldable pub tableNext : ℕ → List ℕ → ℕ → ℕ → List Step → List Step
 unfolding entry
 tableNext k inputs at t before =
     cond (t =? 0 or isUnit k t) before
     (before ++ ordered (entry k inputs at (t - 2 ^ (k * lowest k t))) (getD inputs (lowest k t) 0) ∷ [])
 
--- "in rising t": the steps of the entries below t
+-- Spec 3.4: the steps of the entries below t, in rising t
 abbrev pub table : ℕ → List ℕ → ℕ → ℕ → List Step
 table k inputs at zero = []
 table k inputs at (suc t) = tableNext k inputs at t (table k inputs at t)

@@ -1,1 +1,1 @@
-// The trials, samples and examples of document 01, held against the definitions of the other crates. There is no code here.
+// The worked examples and further rows of the specification, computed by the definitions of the other crates. There is no code here.

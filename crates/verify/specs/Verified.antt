@@ -1,4 +1,4 @@
--- What the code's `Verified` says in document 01's terms: for each of its cases the answer.
+-- What each case of the code's `Verified` says (Spec 10.6).
 use mathlib.Core.List.{[]}
 use Rattle.chain.specs.Verdict.{Answer, done, refusal}
 use Rattle.verify.specs.declared.Verified.{Verified}

@@ -1,4 +1,4 @@
--- The check (document 01, "Check"): "A chain is held against a sheet, whoever made it."
+-- The check of a chain against a sheet (Spec 4).
 use mathlib.Core.Bool.{cond}
 use mathlib.Core.List.{List, [], _∷_}
 use Prim.Native.Nat.{ℕ, zero, suc, _+_, min}
@@ -16,7 +16,7 @@ earlier zero b = b
 earlier (suc a) zero = suc a
 earlier (suc a) (suc b) = min (suc a) (suc b)
 
--- the earliest of the places f 0 .. f (n - 1)
+-- Spec 10.3: the earliest of the places f 0 .. f (n - 1)
 abbrev pub earliest : ℕ → (ℕ → ℕ) → ℕ
 earliest zero f = 0
 earliest (suc n) f = earlier (earliest n f) (f n)
@@ -39,19 +39,19 @@ abbrev pub firstOther : ℕ → ℕ → List ℕ → List ℕ → ℕ → List �
 firstOther p c amounts es i [] = 0
 firstOther p c amounts es i (o ∷ r) = otherOr (getD es o 0) (amount p amounts i c) (suc i) (firstOther p c amounts es (suc i) r)
 
--- 13, "exponent too large": the first step with one, over all columns; also where no output uses that value
+-- Spec 4, 10.3: 13 at the first step with an exponent too large in any column; also where no output uses that value
 unfoldable pub exponentsRule : ℕ → List Step → Verdict
 exponentsRule p steps = refuseAt 13 (earliest p (λ c. firstOver 1 (drop (p + 1) (exponents p c steps))))
 
--- 14, "an output's exponents are not its payslip": the first payslip, over all columns
+-- Spec 4, 10.3: 14 at the first payslip that differs from its output in any column
 unfoldable pub payslipsRule : ℕ → List ℕ → List Step → List ℕ → Verdict
 payslipsRule p amounts steps outputs = refuseAt 14 (earliest p (λ c. firstOther p c amounts (exponents p c steps) 0 outputs))
 
--- "Scratch of p + n + 1 numbers is lent."
+-- Spec 4: how much scratch is needed
 abbrev pub scratchSize : ℕ → ℕ → ℕ
 scratchSize p n = p + n + 1
 
--- "check 1, 4, 2, steps, 12, 5": what is found before the scratch is used; the last argument is how many numbers are lent
+-- Spec 10.2: what is found before the scratch is used: 1, 4, 2, steps, 12, 5; the last argument is how many numbers are lent
 unfoldable pub fittingRule : ℕ → List Step → List ℕ → List ℕ → ℕ → Verdict
 fittingRule p steps outputs amounts scratch =
     shapeRule mostSteps p (length outputs) (length steps)
@@ -59,18 +59,18 @@ fittingRule p steps outputs amounts scratch =
     then chainRule p steps outputs
     then refuseIf (scratch <? scratchSize p (length steps)) 5 0
 
--- "13, 14"
+-- Spec 10.2: and then 13, 14
 unfoldable pub verifyRule : ℕ → List Step → List ℕ → List ℕ → ℕ → Verdict
 verifyRule p steps outputs amounts scratch =
     fittingRule p steps outputs amounts scratch
     then exponentsRule p steps
     then payslipsRule p amounts steps outputs
 
--- "On success .. the check [returns] that the chain passed."
+-- Spec 10.6: that the chain passed
 unfoldable pub verifyAnswer : ℕ → List Step → List ℕ → List ℕ → ℕ → Answer
 verifyAnswer p steps outputs amounts scratch = answer (verifyRule p steps outputs amounts scratch) []
 
--- "on 13, 14 and passing its first p + n + 1 cells are 0", else untouched
+-- Spec 10.5: the scratch is cleared on 13, 14 and passing, else as it was
 unfoldable pub verifyScratch : ℕ → List Step → List ℕ → List ℕ → List ℕ → List ℕ
 verifyScratch p steps outputs amounts old =
     onFine (fittingRule p steps outputs amounts (length old)) (over (replicate (scratchSize p (length steps)) 0) old) old

@@ -13,7 +13,7 @@ ghost use Rattle.verify.specs.Verified.{verifiedOf};
 ghost use Rattle.verify.specs.Inner.{SummedUp, Held};
 use chain::Judgement;
 
-// What the check answers: the chain passed, or a refusal with its number in document 01 and its place, 0 for none.
+// What the check answers: the chain passed, or a refusal with its number and its place, 0 for none.
 pub enum Verified {
     Passed,
     Refused(u32, usize),

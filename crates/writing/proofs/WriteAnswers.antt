@@ -1,7 +1,7 @@
 -- The write rule is two rules in a row, the shape's and the rest's, each judged by one call; whichever refuses first is the answer, and else the file is over the bytes.
 use mathlib.Core.Path.{_≡_, refl, sym, ap, _∙_}
 use mathlib.Core.List.{List, [], _∷_}
-use Prim.Native.Nat.{ℕ, _/_, _≤_}
+use Prim.Native.Nat.{ℕ, _/_}
 use lib.ListN.{length}
 use Rattle.chain.specs.Tests.{_<?_}
 use Rattle.chain.specs.Verdict.{Verdict, fine, refused, _then_, refuseIf, done, refusal}
@@ -16,7 +16,7 @@ use Rattle.chain.proofs.Sizes.{shape-fits}
 use Rattle.layout.specs.declared.Layout.{Layout}
 use Rattle.layout.specs.declared.Extent.{Extent}
 use Rattle.layout.specs.File.{byteCount, fileOf, heldRule, writeRule, writeAnswer, writeBytes}
-use Rattle.layout.specs.Inner.{Sound, Sized, extentOf}
+use Rattle.layout.specs.Inner.{SoundLayout, Sized, extentOf}
 use Rattle.writing.specs.Inner.{ToWrite, Wrote}
 
 module _ (L : Layout) (p : ℕ) (l o old : List ℕ) where
@@ -72,7 +72,7 @@ module _ (L : Layout) (p : ℕ) (l o old : List ℕ) where
         unfolding rest
         passed e = pass _ _ _ (told-fine j _ told ok) (told-fine i _ told-rest e) ∙ sym (in-order count is)
 
-        pub to-write : Sound L → (s : Extent) → s ≡ extentOf L p q n → i ≡ Fine → ToWrite L s l o (length old)
+        pub to-write : SoundLayout L → (s : Extent) → s ≡ extentOf L p q n → i ≡ Fine → ToWrite L s l o (length old)
         to-write sound s e fine-rest =
             record {
               sound = sound;

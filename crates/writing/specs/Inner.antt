@@ -8,18 +8,18 @@ use Rattle.chain.specs.Chain.{pairs}
 use Rattle.layout.specs.declared.Layout.{Layout}
 use Rattle.layout.specs.declared.Extent.{Extent}
 use Rattle.layout.specs.File.{writeRule, writeAnswer, writeBytes}
-use Rattle.layout.specs.Inner.{Sound, Sized, extentOf}
+use Rattle.layout.specs.Inner.{SoundLayout, Sized, extentOf}
 
 -- a header that may be put into bytes
 pub record HeaderFill (L : Layout) (s : Extent) (bytes : List ℕ) : Type 0 where
-  pub sound : Sound L
+  pub sound : SoundLayout L
   pub sized : Sized L (s .p) (s .q) (s .n)
   pub q-some : 1 ≤ s .q
   pub room : 4 ≤ length bytes
 
 -- a chain that may be written, and its shape
 pub record ToWrite (L : Layout) (s : Extent) (l o : List ℕ) (lent : ℕ) : Type 0 where
-  pub sound : Sound L
+  pub sound : SoundLayout L
   pub extent : s ≡ extentOf L (s .p) (length o) (length l / 2)
   pub accepted : writeRule L (s .p) (pairs l) o lent ≡ fine
 

@@ -10,7 +10,7 @@ ghost use Rattle.chain.specs.Chain.{mostColumns, pairs, chainRule};
 ghost use Rattle.bits.specs.Inner.{FieldStored};
 ghost use Rattle.layout.specs.Layout.{edition1};
 ghost use Rattle.layout.specs.File.{headerBits, headerSize, fileOf, writeAnswer, writeBytes};
-ghost use Rattle.layout.specs.Inner.{Sound};
+ghost use Rattle.layout.specs.Inner.{SoundLayout};
 ghost use Rattle.writing.specs.Answers.{writtenOf};
 ghost use Rattle.writing.specs.Inner.{HeaderFill, ToWrite, Wrote};
 use bits::Cursor;
@@ -64,7 +64,7 @@ fn put_chain(layout: Layout, s: Extent, steps: &[u32], outputs: &[u32], bytes: &
 
 // The width is found once the sizes are judged, and nothing is stored before all is.
 fn write_as(layout: Layout, p: usize, steps: &[u32], outputs: &[u32], bytes: &mut [u8]) -> Written
-    requires { ⌜ Sound layout ⌝ }
+    requires { ⌜ SoundLayout layout ⌝ }
     ensures { λ r. ⌜ Wrote layout p (now (steps .entry)) (now (outputs .entry)) (now (bytes .entry)) (writtenOf r) (now (bytes .exit)) ⌝ }
 {
     match chain::judge_shape(layout.limit, p, outputs.len(), steps.len() / 2) {

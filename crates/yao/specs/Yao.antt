@@ -1,4 +1,4 @@
--- Method 2 (document 01): "Yao, parameter k" (lemma 1 of source document 003).
+-- Method 2, Yao, with parameter k (Spec 3.6).
 use mathlib.Core.Bool.{cond}
 use mathlib.Core.List.{List}
 use Prim.Native.Nat.{ℕ, zero, suc, _+_, _-_, _*_, _^_}
@@ -12,7 +12,7 @@ use Rattle.products.specs.Product.{Made, made, times, payslips}
 use Rattle.methods.specs.Powers.{largestIn, squarings, powerOf}
 use Rattle.methods.specs.Method.{Method}
 
--- "parameter k, 1 to 8"
+-- Spec 3: the largest k
 abbrev pub yaoMost : ℕ
 yaoMost = 8
 
@@ -21,7 +21,7 @@ unfoldable pub gatherOne : ℕ → ℕ → ℕ → Made → ℕ → Made
 unfolding times
 gatherOne p x d b power = cond (x =? d) (times p b power) b
 
--- "multiply b by each power whose digit is d, lowest i first": those of i below n, for an amount x
+-- Spec 3.6: b times each power whose digit of x is d, in rising i: those of i below n
 abbrev pub gather : ℕ → ℕ → (ℕ → ℕ) → ℕ → ℕ → ℕ → Made → Made
 gather p k power x d zero b = b
 gather p k power x d (suc n) b = gatherOne p (digit k x n) d (gather p k power x d n b) (power n)
@@ -32,7 +32,7 @@ pub record Sweep : Type 0 where
   pub a : ℕ
   pub b : ℕ
 
--- "for d from 2^k − 1 down to 1, multiply b by each power whose digit is d, lowest i first, then a by b": the first n such d
+-- Spec 3.6: for each d from the largest digit down b takes up its powers and then a takes up b: the first n of these d
 abbrev pub sweep : ℕ → ℕ → (ℕ → ℕ) → ℕ → ℕ → List Step → ℕ → Sweep
 sweep p k power J x before zero = record { steps = before; a = 0; b = 0 }
 sweep p k power J x before (suc n) =
@@ -41,21 +41,21 @@ sweep p k power J x before (suc n) =
     let a = times p (made (b .steps) (r .a)) (b .value) in
     record { steps = a .steps; a = a .value; b = b .value }
 
--- "An amount with z nonzero digits, the largest h, costs z + h − 2." 0 costs nothing.
+-- Spec 3.6: the steps of an amount: its digits that are not 0 and the largest of them, less 2; 0 has none
 abbrev pub amountCount : ℕ → ℕ → ℕ → ℕ
 amountCount k J x = sumTo J (λ j. sign (digit k x j)) + maxTo J (λ j. digit k x j) - 2
 
--- "for each nonzero payslip its nonzero amounts less 1"
+-- Spec 3.6: the amounts of a payslip that are not 0, less 1
 abbrev pub yaoJoins : ℕ → List ℕ → ℕ → ℕ
 yaoJoins p amounts i = sumTo p (λ c. sign (amount p amounts i c)) - 1
 
 module _ (p q : ℕ) (amounts : List ℕ) (k : ℕ) where
-  -- "For each column, J digits in its largest amount (J = 0 if all are 0)"
+  -- Spec 3.6: J, for column c
   unfoldable pub yaoDigits : ℕ → ℕ
   unfolding digitCount
   yaoDigits c = digitCount k (largestIn p q amounts c)
 
-  -- "the base's powers 2^(ki) for i below J by repeated squaring, (J−1)k steps, none if J = 0"
+  -- Spec 3.6: how often the base of column c is squared
   abbrev pub yaoSquarings : ℕ → ℕ
   yaoSquarings c = (yaoDigits c - 1) * k
 
@@ -63,7 +63,7 @@ module _ (p q : ℕ) (amounts : List ℕ) (k : ℕ) where
   abbrev pub yaoPower : ℕ → ℕ → ℕ
   yaoPower c i = powerOf p yaoSquarings c (k * i)
 
-  -- "column by column": the first columns of payslip i. "Each nonzero column's a is multiplied, when made, into the payslip's product."
+  -- Spec 3.6: the product of payslip i after its first columns, each multiplied in when it is made
   abbrev pub yaoPayslip : ℕ → List Step → ℕ → Made
   yaoPayslip i before zero = made before 0
   yaoPayslip i before (suc c) =
@@ -78,11 +78,11 @@ module _ (p q : ℕ) (amounts : List ℕ) (k : ℕ) where
   abbrev pub yaoPayslipCount : ℕ → ℕ
   yaoPayslipCount i = sumTo p (λ c. amountCount k (yaoDigits c) (amount p amounts i c)) + yaoJoins p amounts i
 
-  -- "Count: squarings, those, and for each nonzero payslip its nonzero amounts less 1."
+  -- Spec 3.6: the count
   unfoldable pub yaoCount : ℕ
   yaoCount = sumTo p yaoSquarings + sumTo q yaoPayslipCount
 
-  -- "Ceiling: the same with J + 2^k − 3 for each nonzero amount."
+  -- Spec 3.6: the ceiling
   unfoldable pub yaoCeiling : ℕ
   yaoCeiling =
       sumTo p yaoSquarings

@@ -62,7 +62,8 @@ returns-3 c =
     let two = three .before .before in
     let one = two .before .before in
     let a = one .before .before .args in
-    stored-three (now (a .buf)) (a .i) (a .count) (a .head) (a .x) _ (omega arith) (one .low-byte .ensures) _ (two .low-byte2 .ensures) _ (three .low-byte3 .ensures) (omega arith)
+    stored-three (now (a .buf)) (a .i) (a .count) (a .head) (a .x) _ (omega arith) (one .low-byte .ensures) _ (two .low-byte2 .ensures) _
+    (three .low-byte3 .ensures) (omega arith)
 
 low-byte-requires-4 : tie.Need-low-byte-requires-4
 low-byte-requires-4 c κs = search needs
@@ -82,7 +83,8 @@ returns-4 c =
     let two = three .before .before in
     let one = two .before .before in
     let a = one .before .before .args in
-    stored-four (now (a .buf)) (a .i) (a .count) (a .head) (a .x) _ (omega arith) (one .low-byte .ensures) _ (two .low-byte2 .ensures) _ (three .low-byte3 .ensures) _
+    stored-four (now (a .buf)) (a .i) (a .count) (a .head) (a .x) _ (omega arith) (one .low-byte .ensures) _ (two .low-byte2 .ensures) _
+    (three .low-byte3 .ensures) _
     (c .low-byte4 .ensures)
     (omega arith)
 

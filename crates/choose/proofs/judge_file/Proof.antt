@@ -30,7 +30,8 @@ read-file c =
     let s = r .before .before .before .before .before .before .before .before in
     let a = s .args in
     let e = r .read .ensures in
-    read-good edition1 (now (a .bytes)) (now (a .steps)) (now (a .outputs)) (s .pre .pairs-enough) (s .pre .outputs-enough) _ (e .0) _ _ _ (c .columns .given .1) _ _ (e .1 .0) (e .1 .1)
+    read-good edition1 (now (a .bytes)) (now (a .steps)) (now (a .outputs)) (s .pre .pairs-enough) (s .pre .outputs-enough) _ (e .0) _ _ _
+    (c .columns .given .1) _ _ (e .1 .0) (e .1 .1)
 
 same-length : tie.Need-same-length
 same-length c = search needs
@@ -115,7 +116,8 @@ returns-4 c =
     let k = e .before .before .before in
     let s = k .before .before .before .before .before .before .before .before .before .before .before .before .before .before in
     refusal-says _ _ _ _ _ _
-    (not-held _ _ _ _ _ _ _ _ _ (read-file k) (e .before .if1 .left) (e .if2 .left) _ (s .pre .numbers-enough) _ (v .verify .ensures .0) _ _ (c .before .number2 .given .1))
+    (not-held _ _ _ _ _ _ _ _ _ (read-file k) (e .before .if1 .left) (e .if2 .left) _ (s .pre .numbers-enough) _ (v .verify .ensures .0) _ _
+    (c .before .number2 .given .1))
 
 same-length-10 : tie.Need-same-length-10
 same-length-10 c = search needs

@@ -1,6 +1,5 @@
 -- A walk by hand: the reader is taken apart for `take_fields`, and a reader of the same bytes is made at the cursor handed back.
 -- All that the proof knows of `take_fields` is that it meets its contract. What `out` owns is passed on to it as it came, and not needed after.
--- Assumes nothing.
 use mathlib.Core.Path.{_≡_, refl, ap}
 use mathlib.Core.List.{List, [], _∷_}
 use Prim.Native.Nat.{ℕ, _<_, _^_}
@@ -18,9 +17,11 @@ use prog.Wp.{Heap, Calls, Loops, WpFn, Tables}
 use ghost.Atoms.{Atoms}
 use contract.Monad.{Fun, fact}
 use contract.Running.{givenOf, tables, tablesOf}
-use types.Kit.{Given, Item, mean, ‵, raw, _⊛_, ⋆, some, later, _$_, _∵_, !, qed, by, move, keep, group, drop, use1, split, pick, rewrite, fsplit, fjoin, feqL, suffices, frame, await, done}
+use types.Kit.{Given, Item, mean, ‵, raw, _⊛_, ⋆, some, later, _$_, _∵_, !, qed, by, move, keep, group, drop, use1, split, pick, rewrite, fsplit}
+use types.Kit.{fjoin, feqL, suffices, frame, await, done}
 use types.Part.{agg, whole, sub, look-in}
-use types.Run.{look, init, forget, stop, hop, fld, from, load, addr, of-opd, and-then, no-more, assigns, land, returns, enter, alloc1, alloc0, params1, pass1, pass0, free1, free0}
+use types.Run.{look, init, forget, stop, hop, fld, from, load, addr, of-opd, and-then, no-more, assigns, land, returns, enter, alloc1, alloc0}
+use types.Run.{params1, pass1, pass0, free1, free0}
 use sound.WpLaws.{FmC, fmOf, WpFn-mono}
 use denote.RattleType.{owns}
 use denote.Laws.{Is, shows}
@@ -109,12 +110,29 @@ module _ {M : Type 1} (𝓤 : URA M) (H : Heap 𝓤) (A : Atoms 𝓤) (W : Given
   passed = (s, (record { at = at }, (w, (n, (x, tt)))))
 
   abbrev to-take : Take 𝓤 H A mem run .Ghost
-  to-take = (((κ, (κ₁, tt)), (q, (q₁, tt)), tt, passed, (bytesVal s ∷ [], (P′.lowered (record { at = at }) ∷ [], (vint w64 w ∷ [], (vint w64 n ∷ [], (vx ∷ [], tt)))))), tt)
+  to-take = (
+    (
+      (κ, (κ₁, tt)),
+      (q, (q₁, tt)),
+      tt,
+      passed,
+      (
+        bytesVal s ∷ [],
+        (
+          P′.lowered
+              (record { at = at }) ∷ [],
+          (vint w64 w ∷ [], (vint w64 n ∷ [], (vx ∷ [], tt))),
+        ),
+      ),
+    ),
+    tt,
+  )
 
   asks-take : FieldsRoom (now s) at w n (now x) → ent 𝓤 (⋆ 𝓤 H A (Tokens ∷ ‵ Out ∷ ‵ (Bytes κ s) ∷ [])) (Take 𝓤 H A mem run .pre to-take)
   asks-take room =
       qed W (Tokens ∷ ‵ Out ∷ ‵ (Bytes κ s) ∷ []) ∵ says ! room $ frame ! $ nothing ! $ move ! (1 ∷ 0 ∷ []) $ fjoin ! $
-      owned ! usize (Is usize) (uint-makes 𝓤 H A W w64) n _ (refl, n-fits) $ fjoin ! $ owned ! usize (Is usize) (uint-makes 𝓤 H A W w64) w _ (refl, w-fits) $ fjoin ! $
+      owned ! usize (Is usize) (uint-makes 𝓤 H A W w64) n _ (refl, n-fits) $ fjoin ! $
+      owned ! usize (Is usize) (uint-makes 𝓤 H A W w64) w _ (refl, w-fits) $ fjoin ! $
       has-cursor ! at at-fits $ fjoin ! $ move ! (1 ∷ 0 ∷ []) $ fjoin ! $ done !
 
   abbrev Found : Cursor → List ℕ → Type 0
@@ -124,48 +142,73 @@ module _ {M : Type 1} (𝓤 : URA M) (H : Heap 𝓤) (A : Atoms 𝓤) (W : Given
       → ent 𝓤 (⋆ 𝓤 H A (Tokens ∷ ‵ (finally u32 (x .name) new) ∷ ‵ (Bytes κ s) ∷ [])) (Post (B′.lowered (readerAt s (c .at))))
   exits c new e len fits =
       qed W (Tokens ∷ ‵ (finally u32 (x .name) new) ∷ ‵ (Bytes κ s) ∷ []) ∵
-      suffices ! _ (ends-at 𝓤 H A this.ended stayed (this.clauses 𝓤 H A mem run) W (((κ, (κ₁, tt)), (q, (q₁, tt)), tt, a, vs), tt) (B′.lowered (readerAt s (c .at))) (readerAt s (c .at)) (tt, (tt, (tt, (new, tt)))) (tt, (tt, (tt, (len, tt))))) $ says ! (e, refl) $
-      frame ! $ nothing ! $ move ! (1 ∷ 0 ∷ []) $ fjoin ! $ nothing ! $ fjoin ! $ nothing ! $ fjoin ! $ nothing ! $ fjoin ! $ frame ! $ by ! (reader-own 𝓤 H A κ s (c .at) W fits)
+      suffices ! _ (ends-at 𝓤 H A this.ended stayed (this.clauses 𝓤 H A mem run) W (((κ, (κ₁, tt)), (q, (q₁, tt)), tt, a, vs), tt)
+      (B′.lowered (readerAt s (c .at))) (readerAt s (c .at)) (tt, (tt, (tt, (new, tt)))) (tt, (tt, (tt, (len, tt))))) $ says ! (e, refl) $
+      frame ! $ nothing ! $ move ! (1 ∷ 0 ∷ []) $ fjoin ! $ nothing ! $ fjoin ! $ nothing ! $ fjoin ! $ nothing ! $ fjoin ! $ frame ! $
+      by ! (reader-own 𝓤 H A κ s (c .at) W fits)
 
   module _ (C : Calls 𝓤 H) (Λ : Loops 𝓤 H) (fm : FmC 𝓤 H (W .laws) C) (known : Triple 𝓤 (C #fields·take-fields) (Take 𝓤 H A mem run)) where
     walk : Holds (hasTy (B′.mir (named 0)) mach) × WT mach → Room u32 (length (x .now)) → FieldsRoom (now s) at w n (now x)
         → ent 𝓤 (onEntry 𝓤 H A this.signature (κ, (κ₁, tt)) (q, (q₁, tt)) a vs) (WpFn 𝓤 H C Λ code.function args Post)
     walk wt g room =
-        qed W (raw (onEntry 𝓤 H A this.signature (κ, (κ₁, tt)) (q, (q₁, tt)) a vs) ∷ []) ∵ use1 W (Tokens ⊛ ‵ Out ⊛ ‵ (Bytes κ s) ⊛ ‵ (Bytes κ s)) apart $ enter ! C Λ code.function args _ $
-        alloc1 ! (λ l₀. alloc1 ! (λ l₁. alloc1 ! (λ l₂. alloc1 ! (λ l₃. alloc1 ! (λ l₄. alloc1 ! (λ l₅. alloc1 ! (λ l₆. alloc1 ! (λ l₇. alloc1 ! (λ l₈. alloc1 ! (λ l₉. alloc1 ! (λ l₁₀. alloc0 ! $ params1 ! $
-        pass1 ! (init ! 18 refl wt) $ pass1 ! (init ! 16 refl (tt, record { fits = w-fits })) $ pass1 ! (init ! 14 refl (tt, record { fits = n-fits })) $ pass1 ! (init ! 12 refl (tt, (tt, (record { fits = g .0 }, tt)))) $ pass0 ! $
+        qed W (raw (onEntry 𝓤 H A this.signature (κ, (κ₁, tt)) (q, (q₁, tt)) a vs) ∷ []) ∵ use1 W
+        (Tokens ⊛ ‵ Out ⊛ ‵ (Bytes κ s) ⊛ ‵ (Bytes κ s)) apart $ enter ! C Λ code.function args _ $
+        alloc1 ! (λ l₀. alloc1 ! (λ l₁. alloc1 ! (λ l₂. alloc1 !
+        (λ l₃. alloc1 ! (λ l₄. alloc1 ! (λ l₅. alloc1 ! (λ l₆. alloc1 ! (λ l₇. alloc1 ! (λ l₈. alloc1 ! (λ l₉. alloc1 ! (λ l₁₀. alloc0 ! $ params1 ! $
+        pass1 ! (init ! 18 refl wt) $ pass1 ! (init ! 16 refl (tt, record { fits = w-fits })) $
+        pass1 ! (init ! 14 refl (tt, record { fits = n-fits })) $ pass1 ! (init ! 12 refl (tt, (tt, (record { fits = g .0 }, tt)))) $ pass0 ! $
         -- [_10; …; _0; …; the tokens, out's and the bytes' twice]: the reader is taken apart, and `take_fields` is called
         assigns ! (of-opd ! (load ! (from ! (fld ! refl (stop !))) (look-in ! 18 (sub ! 0 refl (whole !))))) (from ! (stop !)) (init ! 8 refl (tt, wt .1 .0)) $
         assigns ! (of-opd ! (load ! (from ! (fld ! refl (stop !))) (look-in ! 18 (sub ! 1 refl (whole !))))) (from ! (stop !)) (init ! 6 refl (tt, wt .1 .1 .0)) $
         assigns ! (addr ! (from ! (fld ! refl (hop ! (look-in ! 12 (sub ! 0 refl (whole !))) (stop !))))) (from ! (stop !)) (init ! 4 refl (tt, tt)) $
-        assigns ! (agg ! (and-then ! (load ! (from ! (stop !)) (look ! 4 refl)) (and-then ! (load ! (from ! (fld ! refl (stop !))) (look-in ! 12 (sub ! 1 refl (whole !)))) (no-more !)))) (from ! (stop !)) (init ! 2 refl (tt, (tt, (record { fits = g .0 }, tt)))) $
-        move ! (22 ∷ []) $ split ! $ move ! (1 ∷ []) $ split ! $ move ! (1 ∷ []) $ split ! $ move ! (3 ∷ 2 ∷ 0 ∷ []) $ group ! 3 $ use1 W (raw (Take 𝓤 H A mem run .pre to-take)) (asks-take room) $
+        assigns ! (agg ! (and-then ! (load ! (from ! (stop !)) (look ! 4 refl))
+        (and-then ! (load ! (from ! (fld ! refl (stop !))) (look-in ! 12 (sub ! 1 refl (whole !)))) (no-more !)))) (from ! (stop !))
+        (init ! 2 refl (tt, (tt, (record { fits = g .0 }, tt)))) $
+        move ! (22 ∷ []) $ split ! $ move ! (1 ∷ []) $ split ! $ move ! (1 ∷ []) $ split ! $ move ! (3 ∷ 2 ∷ 0 ∷ []) $ group ! 3 $
+        use1 W (raw (Take 𝓤 H A mem run .pre to-take)) (asks-take room) $
         -- [what `take_fields` asks; the bytes'; _10; …]
         calls-at ! fm (Take 𝓤 H A mem run) known to-take
-        (and-then ! (load ! (from ! (stop !)) (look ! 10 refl)) (and-then ! (load ! (from ! (stop !)) (look ! 8 refl)) (and-then ! (load ! (from ! (stop !)) (look ! 18 refl)) (and-then ! (load ! (from ! (stop !)) (look ! 16 refl)) (and-then ! (load ! (from ! (stop !)) (look ! 4 refl)) (no-more !)))))) (λ u.
-        use1 W (later (some (λ (c : Cursor). (Tokens ⊛ ‵ (P.the-row .own c (u ∷ []))) ⊛ raw (ensured 𝓤 H A take.ended (take.clauses 𝓤 H A mem run) (κ, (κ₁, tt)) passed tt c)))) (id⊢ 𝓤 _) $ await ! tt $ pick ! (λ c.
-        split ! $ move ! (1 ∷ []) $ use1 W (some (λ (ws : Unit {0} × (Unit {0} × (Unit {0} × (Unit {0} × (List ℕ × Unit {0}))))). ‵ (lasts take.ended (κ, (κ₁, tt)) passed ws) ⊛ raw (fact 𝓤 (Found c (ws .1 .1 .1 .1 .0))))) (id⊢ 𝓤 _) $ pick ! (λ ws.
-        split ! $ move ! (1 ∷ []) $ heard ! (Found c (ws .1 .1 .1 .1 .0)) (λ e. fsplit ! $ drop ! $ fsplit ! $ drop ! $ fsplit ! $ drop ! $ fsplit ! $ drop ! $ fsplit ! $ fsplit ! $ move ! (1 ∷ []) $ feqL ! (λ len.
+        (and-then ! (load ! (from ! (stop !)) (look ! 10 refl))
+        (and-then ! (load ! (from ! (stop !)) (look ! 8 refl))
+        (and-then ! (load ! (from ! (stop !)) (look ! 18 refl))
+        (and-then ! (load ! (from ! (stop !)) (look ! 16 refl)) (and-then ! (load ! (from ! (stop !)) (look ! 4 refl)) (no-more !)))))) (λ u.
+        use1 W (later (some (λ (c : Cursor). (Tokens ⊛ ‵ (P.the-row .own c (u ∷ []))) ⊛ raw (ensured 𝓤 H A take.ended (take.clauses 𝓤 H A mem run)
+        (κ, (κ₁, tt)) passed tt c)))) (id⊢ 𝓤 _) $ await ! tt $ pick ! (λ c.
+        split ! $ move ! (1 ∷ []) $ use1 W (some (λ (ws : Unit {0} × (Unit {0} × (Unit {0} × (Unit {0} × (List ℕ × Unit {0}))))). ‵ (lasts take.ended
+        (κ, (κ₁, tt)) passed ws) ⊛ raw (fact 𝓤 (Found c (ws .1 .1 .1 .1 .0))))) (id⊢ 𝓤 _) $ pick ! (λ ws.
+        split ! $ move ! (1 ∷ []) $ heard ! (Found c (ws .1 .1 .1 .1 .0))
+        (λ e. fsplit ! $ drop ! $ fsplit ! $ drop ! $ fsplit ! $ drop ! $ fsplit ! $ drop ! $ fsplit ! $ fsplit ! $ move ! (1 ∷ []) $ feqL ! (λ len.
         -- [the last list; true; the tokens and the cursor; the bytes'; _10; …]
         move ! (2 ∷ []) $ split ! $ move ! (1 ∷ []) $ peeks ! P.the-row (Is P.the-row) (shows 𝓤 H A P.the-row) c (u ∷ []) (λ is.
         land ! (from ! (stop !)) (init ! 15 refl (LL.lawful P.the-type P′.the-laws 𝓤 H A W .typed c _ is .0)) $ drop ! $
         rewrite ! 14 (λ (v : Val). ‵ (fat fullShare P′.mir l₅ 0 v)) (ap only (LL.tells P.the-type P′.the-laws c _ is)) refl $
         -- [the tokens; the last list; true; the bytes'; _10; …; _0; …]: the reader past the fields is made
         assigns ! (of-opd ! (load ! (from ! (fld ! refl (stop !))) (look-in ! 22 (sub ! 0 refl (whole !))))) (from ! (stop !)) (init ! 4 refl (tt, wt .1 .0)) $
-        assigns ! (agg ! (and-then ! (load ! (from ! (stop !)) (look ! 4 refl)) (and-then ! (load ! (from ! (stop !)) (look ! 14 refl)) (no-more !)))) (from ! (stop !)) (init ! 24 refl (tt, (wt .1 .0, ((record { fits = cursor-fits c u is }, tt), tt)))) $
-        returns ! (look ! 24 refl) $ forget ! 4 refl $ forget ! 6 refl $ forget ! 8 refl $ forget ! 10 refl $ forget ! 12 refl $ forget ! 14 refl $ forget ! 16 refl $ forget ! 18 refl $ forget ! 20 refl $ forget ! 22 refl $ forget ! 24 refl $
-        move ! (24 ∷ 25 ∷ []) $ free1 ! $ move ! (22 ∷ 23 ∷ []) $ free1 ! $ move ! (20 ∷ 21 ∷ []) $ free1 ! $ move ! (18 ∷ 19 ∷ []) $ free1 ! $ move ! (16 ∷ 17 ∷ []) $ free1 ! $ move ! (14 ∷ 15 ∷ []) $ free1 ! $
-        move ! (12 ∷ 13 ∷ []) $ free1 ! $ move ! (10 ∷ 11 ∷ []) $ free1 ! $ move ! (8 ∷ 9 ∷ []) $ free1 ! $ move ! (6 ∷ 7 ∷ []) $ free1 ! $ move ! (4 ∷ 5 ∷ []) $ free1 ! $ free0 ! $
+        assigns ! (agg ! (and-then ! (load ! (from ! (stop !)) (look ! 4 refl))
+        (and-then ! (load ! (from ! (stop !)) (look ! 14 refl)) (no-more !)))) (from ! (stop !))
+        (init ! 24 refl (tt, (wt .1 .0, ((record { fits = cursor-fits c u is }, tt), tt)))) $
+        returns ! (look ! 24 refl) $ forget ! 4 refl $ forget ! 6 refl $ forget ! 8 refl $ forget ! 10 refl $ forget ! 12 refl $ forget ! 14 refl $
+        forget ! 16 refl $ forget ! 18 refl $ forget ! 20 refl $ forget ! 22 refl $ forget ! 24 refl $
+        move ! (24 ∷ 25 ∷ []) $ free1 ! $ move ! (22 ∷ 23 ∷ []) $ free1 ! $ move ! (20 ∷ 21 ∷ []) $ free1 ! $ move ! (18 ∷ 19 ∷ []) $ free1 ! $
+        move ! (16 ∷ 17 ∷ []) $ free1 ! $ move ! (14 ∷ 15 ∷ []) $ free1 ! $
+        move ! (12 ∷ 13 ∷ []) $ free1 ! $ move ! (10 ∷ 11 ∷ []) $ free1 ! $ move ! (8 ∷ 9 ∷ []) $ free1 ! $ move ! (6 ∷ 7 ∷ []) $ free1 ! $
+        move ! (4 ∷ 5 ∷ []) $ free1 ! $ free0 ! $
         keep ! (0 ∷ 1 ∷ 3 ∷ []) $ by ! (exits c (ws .1 .1 .1 .1 .0) e len (cursor-fits c u is)))))))))))))))))))
 
-module _ {M : Type 1} (𝓤 : URA M) (H : Heap 𝓤) (A : Atoms 𝓤) (W : Given 𝓤 H A) (mem : Memory → SProp 𝓤) (run : Routine → Fun 𝓤) (𝓣 : Tables 𝓤 H) (known : Triple 𝓤 (𝓣 .C #fields·take-fields) (Take 𝓤 H A mem run)) where
+module _ {M : Type 1} (𝓤 : URA M) (H : Heap 𝓤) (A : Atoms 𝓤) (W : Given 𝓤 H A) (mem : Memory → SProp 𝓤) (run : Routine → Fun 𝓤) (𝓣 : Tables 𝓤 H)
+    (known : Triple 𝓤 (𝓣 .C #fields·take-fields) (Take 𝓤 H A mem run)) where
   this-walks : Walks 𝓤 H A this.ended stayed (WpFn 𝓤 H (𝓣 .C) (𝓣 .Λ) code.function) (this.clauses 𝓤 H A mem run)
   this-walks = walked 𝓤 H A this.ended stayed (this.clauses 𝓤 H A mem run) (WpFn 𝓤 H (𝓣 .C) (𝓣 .Λ) code.function)
       (λ κs. (LL.vals (B.the-type (lifetime (κs .0))) (B′.the-laws (lifetime (κs .0))), (uint-vals w64, (uint-vals w64, (slice-vals, tt)))))
-      (λ κs. (LL.tells (B.the-type (lifetime (κs .0))) (B′.the-laws (lifetime (κs .0))), (uint-tells w64, (uint-tells w64, (mut-slice-tells (named 1) (κs .1 .0) u32, tt)))))
+      (λ κs. (
+        LL.tells (B.the-type (lifetime (κs .0))) (B′.the-laws
+            (lifetime (κs .0))),
+        (uint-tells w64, (uint-tells w64, (mut-slice-tells (named 1) (κs .1 .0) u32, tt))),
+      ))
       (λ κs qs bounds a g are.
       let wt = LL.lawful (B.the-type (lifetime (κs .0))) (B′.the-laws (lifetime (κs .0))) 𝓤 H A W .typed (a .0) _ (are .0) .0 in
-      needs 𝓤 _ _ (walk 𝓤 H A W mem run (κs .0) (κs .1 .0) (qs .0) (qs .1 .0) (a .0 .bytes) (a .0 .cursor .at) (a .1 .0) (a .1 .1 .0) (a .1 .1 .1 .0) (wt .1 .1 .0 .0 .fits) (are .1 .0 .1) (are .1 .1 .0 .1)
+      needs 𝓤 _ _ (walk 𝓤 H A W mem run (κs .0) (κs .1 .0) (qs .0) (qs .1 .0) (a .0 .bytes) (a .0 .cursor .at) (a .1 .0) (a .1 .1 .0) (a .1 .1 .1 .0)
+      (wt .1 .1 .0 .0 .fits) (are .1 .0 .1) (are .1 .1 .0 .1)
       (𝓣 .C) (𝓣 .Λ) (fmOf 𝓤 H (W .laws) 𝓣) known wt (are .1 .1 .1 .0 .0 .1)))
 
 this-meets : {M : Type 1} (𝓤 : URA M) (H : Heap 𝓤) (A : Atoms 𝓤) (W : Given 𝓤 H A) (mem : Memory → SProp 𝓤) (run : Routine → Fun 𝓤) (𝓣 : Tables 𝓤 H)

@@ -1,6 +1,5 @@
 -- A walk by hand: a local array is lent to `flatten_some` and then to `run_front`, and what the front answers is what the whole would answer (`TooLong`).
--- What `outputs`, `m`, `bases`, `values` and `figures` own is passed on to `run_front` as it came, and not needed after. All that the proof knows of the two callees is their contracts.
--- Assumes nothing.
+-- What the other parameters own is passed on to `run_front` as it came. All that the proof knows of the two callees is their contracts.
 use mathlib.Core.Path.{_≡_, refl, sym, ap, _∙_}
 use mathlib.Core.List.{List, [], _∷_}
 use Prim.Native.Nat.{ℕ, _*_, _≤_, _<_, _^_}
@@ -18,9 +17,11 @@ use prog.Wp.{Heap, Calls, Loops, WpFn, Tables}
 use ghost.Atoms.{Atoms}
 use contract.Monad.{Fun, fact}
 use contract.Running.{givenOf, tables, tablesOf}
-use types.Kit.{Given, Item, ‵, raw, some, later, _⊛_, ⋆, _$_, _∵_, !, qed, by, move, keep, group, drop as dropᴷ, use1, use2, use3, split, join, pick, rewrite, fsplit, fjoin, feqL, suffices, frame, await, done}
+use types.Kit.{Given, Item, ‵, raw, some, later, _⊛_, ⋆, _$_, _∵_, !, qed, by, move, keep, group, drop as dropᴷ, use1, use2, use3, split, join, pick}
+use types.Kit.{rewrite, fsplit, fjoin, feqL, suffices, frame, await, done}
 use types.Part.{agg, rep, whole, sub, look-in}
-use types.Run.{look, init, forget, stop, hop, fld, from, load, lit, addr, and-then, no-more, assigns, land, returns, enter, alloc1, alloc0, params1, pass1, pass0, free1, free0}
+use types.Run.{look, init, forget, stop, hop, fld, from, load, lit, addr, and-then, no-more, assigns, land, returns, enter, alloc1, alloc0, params1}
+use types.Run.{pass1, pass0, free1, free0}
 use types.Tokens.{lft-new, lft-end}
 use sound.WpLaws.{FmC, fmOf, WpFn-mono}
 use denote.RattleType.{owns}
@@ -96,7 +97,8 @@ abbrev Front : {M : Type 1} (𝓤 : URA M) (H : Heap 𝓤) (A : Atoms 𝓤) (at-
 Front 𝓤 H A at-mem run = tripleOf 𝓤 H A front.signature (front.spec 𝓤 H A at-mem run)
 
 module _ {M : Type 1} (𝓤 : URA M) (H : Heap 𝓤) (A : Atoms 𝓤) (W : Given 𝓤 H A) (at-mem : Memory → SProp 𝓤) (run : Routine → Fun 𝓤)
-    (κ κ₁ κ₂ κ₃ κ₄ : Lft) (q q₁ q₂ q₃ q₄ : Share) (p : ℕ) (x : RefT (List Step)) (x₁ : RefT (List ℕ)) (m : ℕ) (x₂ x₃ x₄ : RefT (List ℕ)) (p-fits : p < 2 ^ 64) (m-fits : m < 2 ^ 32) where
+    (κ κ₁ κ₂ κ₃ κ₄ : Lft) (q q₁ q₂ q₃ q₄ : Share) (p : ℕ) (x : RefT (List Step)) (x₁ : RefT (List ℕ)) (m : ℕ) (x₂ x₃ x₄ : RefT (List ℕ))
+    (p-fits : p < 2 ^ 64) (m-fits : m < 2 ^ 32) where
   abbrev val : RefT (List ℕ) → Val
   val y = sliceVal (y .ptr) (length (y .now))
 
@@ -120,7 +122,8 @@ module _ {M : Type 1} (𝓤 : URA M) (H : Heap 𝓤) (A : Atoms 𝓤) (W : Given
   Tokens = ‵ (flft κ₁ q₁) ⊛ ‵ (flft κ₂ q₂) ⊛ ‵ (flft κ₃ q₃) ⊛ ‵ (flft κ₄ q₄) ⊛ ‵ ftrue
 
   abbrev Rest : Fml
-  Rest = owns (ShrSlice (named 1) κ₁ u32 ∷ u32 ∷ ShrSlice (named 2) κ₂ u32 ∷ MutSlice (named 3) κ₃ u32 ∷ MutSlice (named 4) κ₄ u32 ∷ []) (x₁, (m, (x₂, (x₃, (x₄, tt))))) (at .1 .1)
+  Rest = owns (ShrSlice (named 1) κ₁ u32 ∷ u32 ∷ ShrSlice (named 2) κ₂ u32 ∷ MutSlice (named 3) κ₃ u32 ∷ MutSlice (named 4) κ₄ u32 ∷ [])
+      (x₁, (m, (x₂, (x₃, (x₄, tt))))) (at .1 .1)
 
   -- the contract's three facts, of the result r and the last lists vs of `values` and fs of `figures`, for the steps s
   module _ (s : List Step) where
@@ -133,13 +136,16 @@ module _ {M : Type 1} (𝓤 : URA M) (H : Heap 𝓤) (A : Atoms 𝓤) (W : Given
     abbrev Figured : List ℕ → Type 0
     Figured fs = fs ≡ runFigures p s (x₁ .now) m (x₂ .now) (length (x₃ .now)) (x₄ .now)
 
-  exits : (w : Val) (r : Ran) (vs fs : List ℕ) → Answered (x .now) r → Valued (x .now) vs → Figured (x .now) fs → length vs ≡ length (x₃ .now) → length fs ≡ length (x₄ .now)
+  exits : (w : Val) (r : Ran) (vs fs : List ℕ) → Answered (x .now) r → Valued (x .now) vs → Figured (x .now) fs → length vs ≡ length (x₃ .now)
+      → length fs ≡ length (x₄ .now)
       → ent 𝓤 (⋆ 𝓤 H A (‵ (flft κ q) ∷ Tokens ∷ ‵ (finally u32 (x₃ .name) vs) ∷ ‵ (finally u32 (x₄ .name) fs) ∷ ‵ (E.the-row .own r (w ∷ [])) ∷ [])) (Post w)
   exits w r vs fs e₁ e₂ e₃ len₃ len₄ =
       qed W (‵ (flft κ q) ∷ Tokens ∷ ‵ (finally u32 (x₃ .name) vs) ∷ ‵ (finally u32 (x₄ .name) fs) ∷ ‵ (E.the-row .own r (w ∷ [])) ∷ []) ∵
-      suffices ! _ (ends-saying 𝓤 H A this.ended stayed (this.clauses 𝓤 H A at-mem run) W (((κ, (κ₁, (κ₂, (κ₃, (κ₄, tt))))), (q, (q₁, (q₂, (q₃, (q₄, tt))))), tt, a, at), tt) w r
+      suffices ! _ (ends-saying 𝓤 H A this.ended stayed (this.clauses 𝓤 H A at-mem run) W
+      (((κ, (κ₁, (κ₂, (κ₃, (κ₄, tt))))), (q, (q₁, (q₂, (q₃, (q₄, tt))))), tt, a, at), tt) w r
       (tt, (tt, (tt, (tt, (tt, (vs, (fs, tt))))))) (tt, (tt, (tt, (tt, (tt, (len₃, (len₄, tt))))))) (three-facts 𝓤 _ _ _ e₁ e₂ e₃)) $
-      join ! $ frame ! $ nothing ! $ move ! (2 ∷ 0 ∷ []) $ fjoin ! $ move ! (1 ∷ 0 ∷ []) $ fjoin ! $ nothing ! $ fjoin ! $ nothing ! $ fjoin ! $ nothing ! $ fjoin ! $ nothing ! $ fjoin ! $ nothing ! $ fjoin ! $ done !
+      join ! $ frame ! $ nothing ! $ move ! (2 ∷ 0 ∷ []) $ fjoin ! $ move ! (1 ∷ 0 ∷ []) $ fjoin ! $ nothing ! $ fjoin ! $ nothing ! $ fjoin ! $
+      nothing ! $ fjoin ! $ nothing ! $ fjoin ! $ nothing ! $ fjoin ! $ done !
 
   -- ---- the call of `run_front`, with the array in the block b at the list l, lent for ν under the name δ
   module _ (b n : ℕ) (l : List ℕ) (ν : ℕ) (δ : GName) where
@@ -149,81 +155,131 @@ module _ {M : Type 1} (𝓤 : URA M) (H : Heap 𝓤) (A : Atoms 𝓤) (W : Given
     abbrev to-front : Front 𝓤 H A at-mem run .Ghost
     to-front = (((ν ∷ [], (κ₁, (κ₂, (κ₃, (κ₄, tt))))), (fullShare, (q₁, (q₂, (q₃, (q₄, tt))))), tt, given-front, (vint w64 p ∷ [], (sliceOf b l, (vint w64 n ∷ [], at .1 .1)))), tt)
 
-    asks-front : n < 2 ^ 64 → 2 * n ≤ length l → ent 𝓤 (⋆ 𝓤 H A (‵ (flft (ν ∷ []) fullShare) ∷ Tokens ∷ ‵ (ShrSlice (named 0) (ν ∷ []) u32 .own (arraySlice b δ l) (sliceOf b l)) ∷ ‵ Rest ∷ [])) (Front 𝓤 H A at-mem run .pre to-front)
+    asks-front : n < 2 ^ 64 → 2 * n ≤ length l → ent 𝓤
+        (⋆ 𝓤 H A (‵ (flft (ν ∷ []) fullShare) ∷ Tokens ∷ ‵ (ShrSlice (named 0) (ν ∷ []) u32 .own (arraySlice b δ l) (sliceOf b l)) ∷ ‵ Rest ∷ []))
+        (Front 𝓤 H A at-mem run .pre to-front)
     asks-front n-fits within =
-        qed W (‵ (flft (ν ∷ []) fullShare) ∷ Tokens ∷ ‵ (ShrSlice (named 0) (ν ∷ []) u32 .own (arraySlice b δ l) (sliceOf b l)) ∷ ‵ Rest ∷ []) ∵ says ! within $ join ! $ frame ! $
+        qed W (‵ (flft (ν ∷ []) fullShare) ∷ Tokens ∷ ‵ (ShrSlice (named 0) (ν ∷ []) u32 .own (arraySlice b δ l)
+        (sliceOf b l)) ∷ ‵ Rest ∷ []) ∵ says ! within $ join ! $ frame ! $
         owned ! usize (Is usize) (uint-makes 𝓤 H A W w64) n _ (refl, n-fits) $ move ! (0 ∷ 2 ∷ []) $ fjoin ! $ move ! (1 ∷ 0 ∷ []) $ fjoin ! $
         owned ! usize (Is usize) (uint-makes 𝓤 H A W w64) p _ (refl, p-fits) $ fjoin ! $ done !
 
-  module _ (C : Calls 𝓤 H) (Λ : Loops 𝓤 H) (fm : FmC 𝓤 H (W .laws) C) (known : Triple 𝓤 (C #pairs·flatten-some) (Flatten 𝓤 H A at-mem run)) (known₂ : Triple 𝓤 (C #pairs·run-front) (Front 𝓤 H A at-mem run)) where
+  module _ (C : Calls 𝓤 H) (Λ : Loops 𝓤 H) (fm : FmC 𝓤 H (W .laws) C) (known : Triple 𝓤 (C #pairs·flatten-some) (Flatten 𝓤 H A at-mem run))
+      (known₂ : Triple 𝓤 (C #pairs·run-front) (Front 𝓤 H A at-mem run)) where
     walk : Room R (length (x .now)) → Room u32 (length (x₁ .now)) → Room u32 (length (x₂ .now)) → Room u32 (length (x₃ .now)) → Room u32 (length (x₄ .now))
         → ent 𝓤 (onEntry 𝓤 H A this.signature (κ, (κ₁, (κ₂, (κ₃, (κ₄, tt))))) (q, (q₁, (q₂, (q₃, (q₄, tt))))) a at) (WpFn 𝓤 H C Λ code.function args Post)
     unfolding zeros
     walk g g₁ g₂ g₃ g₄ =
-        qed W ((‵ (flft κ q) ⊛ Tokens) ∷ ‵ (owns (usize ∷ ShrSlice (named 0) κ R ∷ ShrSlice (named 1) κ₁ u32 ∷ u32 ∷ ShrSlice (named 2) κ₂ u32 ∷ MutSlice (named 3) κ₃ u32 ∷ MutSlice (named 4) κ₄ u32 ∷ []) a at) ∷ []) ∵
+        qed W ((‵ (flft κ q) ⊛ Tokens) ∷ ‵ (owns (usize ∷ ShrSlice (named 0) κ R ∷ ShrSlice (named 1) κ₁ u32 ∷ u32 ∷ ShrSlice
+        (named 2) κ₂ u32 ∷ MutSlice (named 3) κ₃ u32 ∷ MutSlice (named 4) κ₄ u32 ∷ []) a at) ∷ []) ∵
         split ! $ move ! (2 ∷ []) $ fsplit ! $ move ! (1 ∷ []) $ fsplit ! $
         -- [steps's; the rest; p's; κ's token; the others]
         enter ! C Λ code.function args _ $
-        alloc1 ! (λ l₀. alloc1 ! (λ l₁. alloc1 ! (λ l₂. alloc1 ! (λ l₃. alloc1 ! (λ l₄. alloc1 ! (λ l₅. alloc1 ! (λ l₆. alloc1 ! (λ l₇. alloc1 ! (λ l₈. alloc1 ! (λ l₉. alloc1 ! (λ l₁₀. alloc1 ! (λ l₁₁. alloc1 ! (λ l₁₂. alloc1 ! (λ l₁₃. alloc1 ! (λ l₁₄. alloc1 ! (λ l₁₅. alloc1 ! (λ l₁₆. alloc1 ! (λ l₁₇. alloc0 ! $ params1 ! $
-        pass1 ! (init ! 32 refl (tt, record { fits = p-fits })) $ pass1 ! (init ! 30 refl (tt, (tt, (record { fits = g .0 }, tt)))) $ pass1 ! (init ! 28 refl (tt, (tt, (record { fits = g₁ .0 }, tt)))) $ pass1 ! (init ! 26 refl (tt, record { fits = m-fits })) $
-        pass1 ! (init ! 24 refl (tt, (tt, (record { fits = g₂ .0 }, tt)))) $ pass1 ! (init ! 22 refl (tt, (tt, (record { fits = g₃ .0 }, tt)))) $ pass1 ! (init ! 20 refl (tt, (tt, (record { fits = g₄ .0 }, tt)))) $ pass0 ! $
+        alloc1 ! (λ l₀. alloc1 ! (λ l₁. alloc1 ! (λ l₂. alloc1 !
+        (λ l₃. alloc1 ! (λ l₄. alloc1 ! (λ l₅. alloc1 ! (λ l₆. alloc1 !
+        (λ l₇. alloc1 ! (λ l₈. alloc1 ! (λ l₉. alloc1 ! (λ l₁₀. alloc1 !
+        (λ l₁₁. alloc1 ! (λ l₁₂. alloc1 ! (λ l₁₃. alloc1 ! (λ l₁₄. alloc1 ! (λ l₁₅. alloc1 ! (λ l₁₆. alloc1 ! (λ l₁₇. alloc0 ! $ params1 ! $
+        pass1 ! (init ! 32 refl (tt, record { fits = p-fits })) $ pass1 ! (init ! 30 refl (tt, (tt, (record { fits = g .0 }, tt)))) $
+        pass1 ! (init ! 28 refl (tt, (tt, (record { fits = g₁ .0 }, tt)))) $ pass1 ! (init ! 26 refl (tt, record { fits = m-fits })) $
+        pass1 ! (init ! 24 refl (tt, (tt, (record { fits = g₂ .0 }, tt)))) $ pass1 ! (init ! 22 refl (tt, (tt, (record { fits = g₃ .0 }, tt)))) $
+        pass1 ! (init ! 20 refl (tt, (tt, (record { fits = g₄ .0 }, tt)))) $ pass0 ! $
         -- [_17; …; _0; …; steps's; the rest; p's; κ's token; the others]: the array is made, with what it owns
         owned ! u32 (Is u32) (uint-makes 𝓤 H A W w32) 0 (vint w32 0 ∷ []) (refl, lit< tt) $
         use1 W (‵ (Array u32 N .own zeros (arrayVal (replicate N (vint w32 0)) ∷ []))) (array-repeat 𝓤 H A W u32 (uint-copy 𝓤 H A W w32) N 0 (vint w32 0)) $
         peeks ! (Array u32 N) (Is (Array u32 N)) (shows 𝓤 H A (Array u32 N)) zeros (arrayVal (replicate N (vint w32 0)) ∷ []) (λ made.
-        assigns ! (rep ! N (lit ! tt)) (from ! (stop !)) (init ! 19 refl (array-lawful 𝓤 H A W u32 (uint-lawful 𝓤 H A W w32) N .typed zeros (arrayVal (replicate N (vint w32 0)) ∷ []) made .0)) $
+        assigns ! (rep ! N (lit ! tt)) (from ! (stop !)) (init ! 19 refl
+        (array-lawful 𝓤 H A W u32 (uint-lawful 𝓤 H A W w32) N .typed zeros (arrayVal (replicate N (vint w32 0)) ∷ []) made .0)) $
         assigns ! (addr ! (from ! (stop !))) (from ! (stop !)) (init ! 15 refl (tt, tt)) $
-        assigns ! (agg ! (and-then ! (load ! (from ! (stop !)) (look ! 15 refl)) (and-then ! (big-lit ! (lit< tt)) (no-more !)))) (from ! (stop !)) (init ! 13 refl (tt, (tt, (record { fits = lit< tt }, tt)))) $
+        assigns ! (agg ! (and-then ! (load ! (from ! (stop !)) (look ! 15 refl)) (and-then ! (big-lit ! (lit< tt)) (no-more !)))) (from ! (stop !))
+        (init ! 13 refl (tt, (tt, (record { fits = lit< tt }, tt)))) $
         rewrite ! 13 (λ (k : ℕ). ‵ (fat fullShare lent l₁₁ 0 (sliceVal (l₈, 0) k))) (sym zeros-length) refl $
         -- it is lent as a `&mut` slice, for a lifetime ν of the call
         lft-new ! tt (λ ν. move ! (20 ∷ 1 ∷ []) $
-        use2 W (later (some (λ (δ : GName). ‵ (MutSlice (named 1) (ν ∷ []) u32 .own (arraySlice l₈ δ zeros) (sliceOf l₈ zeros)) ⊛ ‵ (flent (ν ∷ []) (Held u32 (length zeros) l₈ 0 δ))))) (lends-array 𝓤 H A W N l₈ (named 1) (ν ∷ []) zeros (room-at zeros zeros-length) (replicate N (vint w32 0))) $ await ! tt $ pick ! (λ δ. split ! $
+        use2 W (later (some (λ (δ : GName). ‵ (MutSlice (named 1) (ν ∷ []) u32 .own (arraySlice l₈ δ zeros) (sliceOf l₈ zeros)) ⊛ ‵ (flent (ν ∷ [])
+        (Held u32 (length zeros) l₈ 0 δ))))) (lends-array 𝓤 H A W N l₈ (named 1) (ν ∷ []) zeros (room-at zeros zeros-length)
+        (replicate N (vint w32 0))) $ await ! tt $ pick ! (λ δ. split ! $
         -- [the slice; the lender's part; ν's token; _17; …; that _8 dies; _7; …; _0; …; steps's; the rest; p's; κ's token; the others]
-        move ! (41 ∷ 2 ∷ 38 ∷ 0 ∷ []) $ group ! 4 $ use1 W (raw (Flatten 𝓤 H A at-mem run .pre (to-flatten 𝓤 H A at-mem run κ q x l₈ ν δ))) (asks-flatten 𝓤 H A at-mem run κ q x l₈ ν δ W) $
-        calls-at ! fm (Flatten 𝓤 H A at-mem run) known (to-flatten 𝓤 H A at-mem run κ q x l₈ ν δ) (and-then ! (load ! (from ! (stop !)) (look ! 31 refl)) (and-then ! (load ! (from ! (stop !)) (look ! 14 refl)) (no-more !))) (λ w.
-        use1 W (later (some (λ (n : ℕ). ((‵ (flft κ q) ⊛ ‵ (flft (ν ∷ []) fullShare) ⊛ ‵ ftrue) ⊛ ‵ (usize .own n (w ∷ []))) ⊛ raw (ensured 𝓤 H A flatten.ended (flatten.clauses 𝓤 H A at-mem run) (κ, (ν ∷ [], tt)) (x, (arraySlice l₈ δ zeros, tt)) tt n)))) (id⊢ 𝓤 _) $ await ! tt $ pick ! (λ n.
-        split ! $ move ! (1 ∷ []) $ use1 W (some (λ (ws : Unit {0} × (List ℕ × Unit {0})). ‵ (lasts flatten.ended (κ, (ν ∷ [], tt)) (x, (arraySlice l₈ δ zeros, tt)) ws) ⊛ raw (fact 𝓤 (Counted (x .now) n)) ⊛ raw (fact 𝓤 (Filled (x .now) (ws .1 .0))))) (id⊢ 𝓤 _) $ pick ! (λ ws.
-        split ! $ move ! (1 ∷ []) $ split ! $ heard ! (Counted (x .now) n) (λ count. heard ! (Filled (x .now) (ws .1 .0)) (λ fill. fsplit ! $ dropᴷ ! $ fsplit ! $ fsplit ! $ move ! (1 ∷ []) $ feqL ! (λ len.
+        move ! (41 ∷ 2 ∷ 38 ∷ 0 ∷ []) $ group ! 4 $ use1 W (raw (Flatten 𝓤 H A at-mem run .pre (to-flatten 𝓤 H A at-mem run κ q x l₈ ν δ)))
+        (asks-flatten 𝓤 H A at-mem run κ q x l₈ ν δ W) $
+        calls-at ! fm (Flatten 𝓤 H A at-mem run) known (to-flatten 𝓤 H A at-mem run κ q x l₈ ν δ)
+        (and-then ! (load ! (from ! (stop !)) (look ! 31 refl)) (and-then ! (load ! (from ! (stop !)) (look ! 14 refl)) (no-more !))) (λ w.
+        use1 W (later (some (λ (n : ℕ). ((‵ (flft κ q) ⊛ ‵ (flft (ν ∷ []) fullShare) ⊛ ‵ ftrue) ⊛ ‵ (usize .own n
+        (w ∷ []))) ⊛ raw (ensured 𝓤 H A flatten.ended (flatten.clauses 𝓤 H A at-mem run) (κ, (ν ∷ [], tt))
+        (x, (arraySlice l₈ δ zeros, tt)) tt n)))) (id⊢ 𝓤 _) $ await ! tt $ pick ! (λ n.
+        split ! $ move ! (1 ∷ []) $ use1 W (some (λ (ws : Unit {0} × (List ℕ × Unit {0})). ‵ (lasts flatten.ended (κ, (ν ∷ [], tt))
+        (x, (arraySlice l₈ δ zeros, tt)) ws) ⊛ raw (fact 𝓤 (Counted (x .now) n)) ⊛ raw (fact 𝓤 (Filled (x .now) (ws .1 .0))))) (id⊢ 𝓤 _) $ pick ! (λ ws.
+        split ! $ move ! (1 ∷ []) $ split ! $ heard ! (Counted (x .now) n)
+        (λ count. heard ! (Filled (x .now) (ws .1 .0)) (λ fill. fsplit ! $ dropᴷ ! $ fsplit ! $ fsplit ! $ move ! (1 ∷ []) $ feqL ! (λ len.
         -- [the last list; true; the tokens and the count; the lender's part; _17; …]
         move ! (2 ∷ []) $ split ! $ move ! (1 ∷ []) $ peeks ! usize (Is usize) (shows 𝓤 H A usize) n (w ∷ []) (λ is.
-        land ! (from ! (stop !)) (init ! 21 refl (uint-lawful 𝓤 H A W w64 .typed n _ is .0)) $ rewrite ! 21 (λ (u : Val). ‵ (fat fullShare (tyInt w64) l₉ 0 u)) (ap only (is .0)) refl $ dropᴷ ! $
-        -- [the tokens; the last list; true; the lender's part; _17; …]: the lifetime is ended, and the array is lent as a `&` slice for another, at the list that `flatten_some` left
+        land ! (from ! (stop !)) (init ! 21 refl (uint-lawful 𝓤 H A W w64 .typed n _ is .0)) $
+        rewrite ! 21 (λ (u : Val). ‵ (fat fullShare (tyInt w64) l₉ 0 u)) (ap only (is .0)) refl $ dropᴷ ! $
+        -- [the tokens; the last list; true; the lender's part; _17; …]: the lifetime is ended, and the array is lent as a `&` slice for another
         split ! $ move ! (1 ∷ []) $ split ! $ lft-end ! tt $ lft-new ! tt (λ ν₂. move ! (1 ∷ 6 ∷ 4 ∷ []) $
-        use3 W (later (some (λ (δ₂ : GName). ‵ (ShrSlice (named 0) (ν₂ ∷ []) u32 .own (arraySlice l₈ δ₂ (ws .1 .0)) (sliceOf l₈ (ws .1 .0))) ⊛ ‵ (flent (ν₂ ∷ []) (Elements l₈ (ws .1 .0)))))) (shares-array 𝓤 H A W N l₈ (named 0) (ν ∷ []) (ν₂ ∷ []) zeros (ws .1 .0) (room-at (ws .1 .0) (len ∙ zeros-length)) δ) $ await ! tt $ pick ! (λ δ₂. split ! $
+        use3 W (later (some (λ (δ₂ : GName). ‵ (ShrSlice (named 0) (ν₂ ∷ []) u32 .own (arraySlice l₈ δ₂ (ws .1 .0))
+        (sliceOf l₈ (ws .1 .0))) ⊛ ‵ (flent (ν₂ ∷ []) (Elements l₈ (ws .1 .0))))))
+        (shares-array 𝓤 H A W N l₈ (named 0) (ν ∷ []) (ν₂ ∷ []) zeros (ws .1 .0) (room-at (ws .1 .0) (len ∙ zeros-length)) δ) $ await ! tt $
+        pick ! (λ δ₂. split ! $
         -- [the slice; the lender's part; ν₂'s token; true; κ's token; true; _17; …; that _8 dies; _7; …; _0; …; the rest; p's; the others]
         assigns ! (addr ! (from ! (stop !))) (from ! (stop !)) (init ! 16 refl (tt, tt)) $
-        assigns ! (agg ! (and-then ! (load ! (from ! (stop !)) (look ! 16 refl)) (and-then ! (big-lit ! (lit< tt)) (no-more !)))) (from ! (stop !)) (init ! 14 refl (tt, (tt, (record { fits = lit< tt }, tt)))) $
+        assigns ! (agg ! (and-then ! (load ! (from ! (stop !)) (look ! 16 refl)) (and-then ! (big-lit ! (lit< tt)) (no-more !)))) (from ! (stop !))
+        (init ! 14 refl (tt, (tt, (record { fits = lit< tt }, tt)))) $
         rewrite ! 14 (λ (k : ℕ). ‵ (fat fullShare shared l₁₃ 0 (sliceVal (l₈, 0) k))) (sym (len ∙ zeros-length)) refl $
         assigns ! (addr ! (from ! (fld ! refl (hop ! (look-in ! 27 (sub ! 0 refl (whole !))) (stop !))))) (from ! (stop !)) (init ! 12 refl (tt, tt)) $
-        assigns ! (agg ! (and-then ! (load ! (from ! (stop !)) (look ! 12 refl)) (and-then ! (load ! (from ! (fld ! refl (stop !))) (look-in ! 27 (sub ! 1 refl (whole !)))) (no-more !)))) (from ! (stop !)) (init ! 10 refl (tt, (tt, (record { fits = g₃ .0 }, tt)))) $
+        assigns ! (agg ! (and-then ! (load ! (from ! (stop !)) (look ! 12 refl))
+        (and-then ! (load ! (from ! (fld ! refl (stop !))) (look-in ! 27 (sub ! 1 refl (whole !)))) (no-more !)))) (from ! (stop !))
+        (init ! 10 refl (tt, (tt, (record { fits = g₃ .0 }, tt)))) $
         assigns ! (addr ! (from ! (fld ! refl (hop ! (look-in ! 25 (sub ! 0 refl (whole !))) (stop !))))) (from ! (stop !)) (init ! 8 refl (tt, tt)) $
-        assigns ! (agg ! (and-then ! (load ! (from ! (stop !)) (look ! 8 refl)) (and-then ! (load ! (from ! (fld ! refl (stop !))) (look-in ! 25 (sub ! 1 refl (whole !)))) (no-more !)))) (from ! (stop !)) (init ! 6 refl (tt, (tt, (record { fits = g₄ .0 }, tt)))) $
-        move ! (2 ∷ 43 ∷ 0 ∷ 41 ∷ []) $ group ! 4 $ use1 W (raw (Front 𝓤 H A at-mem run .pre (to-front l₈ n (ws .1 .0) ν₂ δ₂))) (asks-front l₈ n (ws .1 .0) ν₂ δ₂ (is .1) (in-front (x .now) n (ws .1 .0) count fill len)) $
+        assigns ! (agg ! (and-then ! (load ! (from ! (stop !)) (look ! 8 refl))
+        (and-then ! (load ! (from ! (fld ! refl (stop !))) (look-in ! 25 (sub ! 1 refl (whole !)))) (no-more !)))) (from ! (stop !))
+        (init ! 6 refl (tt, (tt, (record { fits = g₄ .0 }, tt)))) $
+        move ! (2 ∷ 43 ∷ 0 ∷ 41 ∷ []) $ group ! 4 $ use1 W (raw (Front 𝓤 H A at-mem run .pre (to-front l₈ n (ws .1 .0) ν₂ δ₂)))
+        (asks-front l₈ n (ws .1 .0) ν₂ δ₂ (is .1) (in-front (x .now) n (ws .1 .0) count fill len)) $
         -- [what `run_front` asks; the lender's part; true; κ's token; true; _17; …; that _8 dies; _7; …; _0; …; p's]
         calls-at ! fm (Front 𝓤 H A at-mem run) known₂ (to-front l₈ n (ws .1 .0) ν₂ δ₂)
-        (and-then ! (load ! (from ! (stop !)) (look ! 36 refl)) (and-then ! (load ! (from ! (stop !)) (look ! 13 refl)) (and-then ! (load ! (from ! (stop !)) (look ! 21 refl)) (and-then ! (load ! (from ! (stop !)) (look ! 32 refl))
-        (and-then ! (load ! (from ! (stop !)) (look ! 30 refl)) (and-then ! (load ! (from ! (stop !)) (look ! 28 refl)) (and-then ! (load ! (from ! (stop !)) (look ! 9 refl)) (and-then ! (load ! (from ! (stop !)) (look ! 5 refl)) (no-more !))))))))) (λ w₂.
-        use1 W (later (some (λ (r : Ran). ((‵ (flft (ν₂ ∷ []) fullShare) ⊛ Tokens) ⊛ ‵ (E.the-row .own r (w₂ ∷ []))) ⊛ raw (ensured 𝓤 H A front.ended (front.clauses 𝓤 H A at-mem run) (ν₂ ∷ [], (κ₁, (κ₂, (κ₃, (κ₄, tt))))) (given-front l₈ n (ws .1 .0) ν₂ δ₂) tt r)))) (id⊢ 𝓤 _) $ await ! tt $ pick ! (λ r.
-        split ! $ move ! (1 ∷ []) $ use1 W (some (λ (us : Unit {0} × (Unit {0} × (Unit {0} × (Unit {0} × (Unit {0} × (Unit {0} × (List ℕ × (List ℕ × Unit {0})))))))). ‵ (lasts front.ended (ν₂ ∷ [], (κ₁, (κ₂, (κ₃, (κ₄, tt))))) (given-front l₈ n (ws .1 .0) ν₂ δ₂) us)
-        ⊛ raw (fact 𝓤 (Answered (pairs (take (2 * n) (ws .1 .0))) r)) ⊛ raw (fact 𝓤 (Valued (pairs (take (2 * n) (ws .1 .0))) (us .1 .1 .1 .1 .1 .1 .0))) ⊛ raw (fact 𝓤 (Figured (pairs (take (2 * n) (ws .1 .0))) (us .1 .1 .1 .1 .1 .1 .1 .0))))) (id⊢ 𝓤 _) $ pick ! (λ us.
-        split ! $ move ! (1 ∷ []) $ split ! $ heard ! (Answered (pairs (take (2 * n) (ws .1 .0))) r) (λ e₁. split ! $ heard ! (Valued (pairs (take (2 * n) (ws .1 .0))) (us .1 .1 .1 .1 .1 .1 .0)) (λ e₂. heard ! (Figured (pairs (take (2 * n) (ws .1 .0))) (us .1 .1 .1 .1 .1 .1 .1 .0)) (λ e₃.
-        fsplit ! $ dropᴷ ! $ fsplit ! $ dropᴷ ! $ fsplit ! $ dropᴷ ! $ fsplit ! $ dropᴷ ! $ fsplit ! $ dropᴷ ! $ fsplit ! $ dropᴷ ! $ fsplit ! $ fsplit ! $ move ! (1 ∷ []) $ feqL ! (λ len₃. move ! (1 ∷ []) $ fsplit ! $ fsplit ! $ move ! (1 ∷ []) $ feqL ! (λ len₄.
+        (and-then ! (load ! (from ! (stop !)) (look ! 36 refl))
+        (and-then ! (load ! (from ! (stop !)) (look ! 13 refl))
+        (and-then ! (load ! (from ! (stop !)) (look ! 21 refl)) (and-then ! (load ! (from ! (stop !)) (look ! 32 refl))
+        (and-then ! (load ! (from ! (stop !)) (look ! 30 refl))
+        (and-then ! (load ! (from ! (stop !)) (look ! 28 refl))
+        (and-then ! (load ! (from ! (stop !)) (look ! 9 refl)) (and-then ! (load ! (from ! (stop !)) (look ! 5 refl)) (no-more !))))))))) (λ w₂.
+        use1 W (later (some (λ (r : Ran). ((‵ (flft (ν₂ ∷ []) fullShare) ⊛ Tokens) ⊛ ‵ (E.the-row .own r (w₂ ∷ []))) ⊛ raw (ensured 𝓤 H A front.ended
+        (front.clauses 𝓤 H A at-mem run) (ν₂ ∷ [], (κ₁, (κ₂, (κ₃, (κ₄, tt))))) (given-front l₈ n (ws .1 .0) ν₂ δ₂) tt r)))) (id⊢ 𝓤 _) $ await ! tt $ pick ! (λ r.
+        split ! $ move ! (1 ∷ []) $ use1 W (some (λ (us : Unit {0} × (Unit {0} × (Unit {0} × (Unit {0} × (Unit {0} × (Unit {0} × (List ℕ × (List ℕ × Unit {0})))))))).
+        ‵ (lasts front.ended (ν₂ ∷ [], (κ₁, (κ₂, (κ₃, (κ₄, tt))))) (given-front l₈ n (ws .1 .0) ν₂ δ₂) us)
+        ⊛ raw (fact 𝓤 (Answered (pairs (take (2 * n) (ws .1 .0))) r)) ⊛ raw (fact 𝓤
+        (Valued (pairs (take (2 * n) (ws .1 .0))) (us .1 .1 .1 .1 .1 .1 .0))) ⊛ raw (fact 𝓤
+        (Figured (pairs (take (2 * n) (ws .1 .0))) (us .1 .1 .1 .1 .1 .1 .1 .0))))) (id⊢ 𝓤 _) $ pick ! (λ us.
+        split ! $ move ! (1 ∷ []) $ split ! $ heard ! (Answered (pairs (take (2 * n) (ws .1 .0))) r)
+        (λ e₁. split ! $ heard ! (Valued (pairs (take (2 * n) (ws .1 .0))) (us .1 .1 .1 .1 .1 .1 .0))
+        (λ e₂. heard ! (Figured (pairs (take (2 * n) (ws .1 .0))) (us .1 .1 .1 .1 .1 .1 .1 .0)) (λ e₃.
+        fsplit ! $ dropᴷ ! $ fsplit ! $ dropᴷ ! $ fsplit ! $ dropᴷ ! $ fsplit ! $ dropᴷ ! $ fsplit ! $ dropᴷ ! $ fsplit ! $ dropᴷ ! $ fsplit ! $
+        fsplit ! $ move ! (1 ∷ []) $ feqL ! (λ len₃. move ! (1 ∷ []) $ fsplit ! $ fsplit ! $ move ! (1 ∷ []) $ feqL ! (λ len₄.
         -- [figures's last list; true; values's; the tokens and the result; the lender's part; true; κ's token; true; _17; …]
         move ! (3 ∷ []) $ split ! $ move ! (1 ∷ []) $ peeks ! E.the-row (Is E.the-row) (shows 𝓤 H A E.the-row) r (w₂ ∷ []) (λ is₂.
         land ! (from ! (stop !)) (init ! 42 refl (EL.lawful E.the-type E′.the-laws 𝓤 H A W tt .typed r _ is₂ .0)) $
         -- [the result; the tokens; figures's last list; true; values's; the lender's part; true; κ's token; true; _17; …]: the lifetime is ended, and the array's cell comes back
         move ! (1 ∷ []) $ split ! $ lft-end ! tt $ move ! (0 ∷ 6 ∷ []) $
-        use2 W (later (some (λ (vs : List Val). ‵ (fat fullShare (tyArray (tyInt w32) N) l₈ 0 (arrayVal vs))))) (frees-array 𝓤 H A W N l₈ (ν₂ ∷ []) (ws .1 .0) (len ∙ zeros-length)) $ await ! tt $ pick ! (λ vs. forget ! 0 refl $
+        use2 W (later (some (λ (vs : List Val). ‵ (fat fullShare (tyArray (tyInt w32) N) l₈ 0 (arrayVal vs)))))
+        (frees-array 𝓤 H A W N l₈ (ν₂ ∷ []) (ws .1 .0) (len ∙ zeros-length)) $ await ! tt $ pick ! (λ vs. forget ! 0 refl $
         -- [_8; the tokens; the result; figures's last list; true; values's; true; κ's token; true; _17; …; _9; …; that _8 dies; _7; …; _0; …; p's]
-        returns ! (look ! 42 refl) $ forget ! 9 refl $ forget ! 11 refl $ forget ! 13 refl $ forget ! 15 refl $ forget ! 17 refl $ forget ! 19 refl $ forget ! 21 refl $ forget ! 23 refl $ forget ! 25 refl $
+        returns ! (look ! 42 refl) $ forget ! 9 refl $ forget ! 11 refl $ forget ! 13 refl $ forget ! 15 refl $ forget ! 17 refl $ forget ! 19 refl $
+        forget ! 21 refl $ forget ! 23 refl $ forget ! 25 refl $
         forget ! 28 refl $ forget ! 30 refl $ forget ! 32 refl $ forget ! 34 refl $ forget ! 36 refl $ forget ! 38 refl $ forget ! 40 refl $ forget ! 42 refl $
-        move ! (42 ∷ 43 ∷ []) $ free1 ! $ move ! (40 ∷ 41 ∷ []) $ free1 ! $ move ! (38 ∷ 39 ∷ []) $ free1 ! $ move ! (36 ∷ 37 ∷ []) $ free1 ! $ move ! (34 ∷ 35 ∷ []) $ free1 ! $ move ! (32 ∷ 33 ∷ []) $ free1 ! $ move ! (30 ∷ 31 ∷ []) $ free1 ! $ move ! (28 ∷ 29 ∷ []) $ free1 ! $ move ! (0 ∷ 27 ∷ []) $ free1 ! $
-        move ! (24 ∷ 25 ∷ []) $ free1 ! $ move ! (22 ∷ 23 ∷ []) $ free1 ! $ move ! (20 ∷ 21 ∷ []) $ free1 ! $ move ! (18 ∷ 19 ∷ []) $ free1 ! $ move ! (16 ∷ 17 ∷ []) $ free1 ! $ move ! (14 ∷ 15 ∷ []) $ free1 ! $ move ! (12 ∷ 13 ∷ []) $ free1 ! $ move ! (10 ∷ 11 ∷ []) $ free1 ! $ move ! (8 ∷ 9 ∷ []) $ free1 ! $ free0 ! $
+        move ! (42 ∷ 43 ∷ []) $ free1 ! $ move ! (40 ∷ 41 ∷ []) $ free1 ! $ move ! (38 ∷ 39 ∷ []) $ free1 ! $ move ! (36 ∷ 37 ∷ []) $ free1 ! $
+        move ! (34 ∷ 35 ∷ []) $ free1 ! $ move ! (32 ∷ 33 ∷ []) $ free1 ! $ move ! (30 ∷ 31 ∷ []) $ free1 ! $ move ! (28 ∷ 29 ∷ []) $ free1 ! $
+        move ! (0 ∷ 27 ∷ []) $ free1 ! $
+        move ! (24 ∷ 25 ∷ []) $ free1 ! $ move ! (22 ∷ 23 ∷ []) $ free1 ! $ move ! (20 ∷ 21 ∷ []) $ free1 ! $ move ! (18 ∷ 19 ∷ []) $ free1 ! $
+        move ! (16 ∷ 17 ∷ []) $ free1 ! $ move ! (14 ∷ 15 ∷ []) $ free1 ! $ move ! (12 ∷ 13 ∷ []) $ free1 ! $ move ! (10 ∷ 11 ∷ []) $ free1 ! $
+        move ! (8 ∷ 9 ∷ []) $ free1 ! $ free0 ! $
         -- [the tokens; the result; figures's last list; true; values's; true; κ's token; …]
         keep ! (6 ∷ 0 ∷ 4 ∷ 2 ∷ 1 ∷ []) $ by ! (exits w₂ r (us .1 .1 .1 .1 .1 .1 .0) (us .1 .1 .1 .1 .1 .1 .1 .0)
-        (e₁ ∙ front-steps (x .now) n (ws .1 .0) count fill (λ s. runAnswer p s (x₁ .now) m (x₂ .now) (length (x₃ .now)) (length (x₄ .now))) (λ s t hs ht. run-answer-long p (x₁ .now) m (x₂ .now) s t hs ht (length (x₃ .now)) (length (x₄ .now))))
-        (e₂ ∙ front-steps (x .now) n (ws .1 .0) count fill (λ s. runValues p s (x₁ .now) m (x₂ .now) (length (x₄ .now)) (x₃ .now)) (λ s t hs ht. run-values-long p (x₁ .now) m (x₂ .now) s t hs ht (length (x₄ .now)) (x₃ .now)))
-        (e₃ ∙ front-steps (x .now) n (ws .1 .0) count fill (λ s. runFigures p s (x₁ .now) m (x₂ .now) (length (x₃ .now)) (x₄ .now)) (λ s t hs ht. run-figures-long p (x₁ .now) m (x₂ .now) s t hs ht (length (x₃ .now)) (x₄ .now)))
+        (e₁ ∙ front-steps (x .now) n (ws .1 .0) count fill (λ s. runAnswer p s (x₁ .now) m (x₂ .now) (length (x₃ .now)) (length (x₄ .now)))
+        (λ s t hs ht. run-answer-long p (x₁ .now) m (x₂ .now) s t hs ht (length (x₃ .now)) (length (x₄ .now))))
+        (e₂ ∙ front-steps (x .now) n (ws .1 .0) count fill (λ s. runValues p s (x₁ .now) m (x₂ .now) (length (x₄ .now)) (x₃ .now))
+        (λ s t hs ht. run-values-long p (x₁ .now) m (x₂ .now) s t hs ht (length (x₄ .now)) (x₃ .now)))
+        (e₃ ∙ front-steps (x .now) n (ws .1 .0) count fill (λ s. runFigures p s (x₁ .now) m (x₂ .now) (length (x₃ .now)) (x₄ .now))
+        (λ s t hs ht. run-figures-long p (x₁ .now) m (x₂ .now) s t hs ht (length (x₃ .now)) (x₄ .now)))
         len₃ len₄)))))))))))))))))))))))))))))))))))))))))
 
 module _ {M : Type 1} (𝓤 : URA M) (H : Heap 𝓤) (A : Atoms 𝓤) (W : Given 𝓤 H A) (at-mem : Memory → SProp 𝓤) (run : Routine → Fun 𝓤) (𝓣 : Tables 𝓤 H)
@@ -231,10 +287,29 @@ module _ {M : Type 1} (𝓤 : URA M) (H : Heap 𝓤) (A : Atoms 𝓤) (W : Given
   this-walks : Walks 𝓤 H A this.ended stayed (WpFn 𝓤 H (𝓣 .C) (𝓣 .Λ) code.function) (this.clauses 𝓤 H A at-mem run)
   this-walks = walked 𝓤 H A this.ended stayed (this.clauses 𝓤 H A at-mem run) (WpFn 𝓤 H (𝓣 .C) (𝓣 .Λ) code.function)
       (λ κs. (uint-vals w64, (slice-vals, (slice-vals, (uint-vals w32, (slice-vals, (slice-vals, (slice-vals, tt))))))))
-      (λ κs. (uint-tells w64, (shr-slice-tells (named 0) (κs .0) R, (shr-slice-tells (named 1) (κs .1 .0) u32, (uint-tells w32, (shr-slice-tells (named 2) (κs .1 .1 .0) u32, (mut-slice-tells (named 3) (κs .1 .1 .1 .0) u32, (mut-slice-tells (named 4) (κs .1 .1 .1 .1 .0) u32, tt))))))))
+      (λ κs. (
+        uint-tells w64,
+        (
+          shr-slice-tells (named 0)
+              (κs .0) R,
+          (
+            shr-slice-tells (named 1) (κs .1 .0) u32,
+            (
+              uint-tells w32,
+              (
+                shr-slice-tells (named 2)
+                    (κs .1 .1 .0) u32,
+                (mut-slice-tells (named 3) (κs .1 .1 .1 .0) u32, (mut-slice-tells (named 4) (κs .1 .1 .1 .1 .0) u32, tt)),
+              ),
+            ),
+          ),
+        ),
+      ))
       (λ κs qs bounds a g are. via 𝓤 _ (fst∗ 𝓤 _ (emp 𝓤))
-      (walk 𝓤 H A W at-mem run (κs .0) (κs .1 .0) (κs .1 .1 .0) (κs .1 .1 .1 .0) (κs .1 .1 .1 .1 .0) (qs .0) (qs .1 .0) (qs .1 .1 .0) (qs .1 .1 .1 .0) (qs .1 .1 .1 .1 .0)
-      (a .0) (a .1 .0) (a .1 .1 .0) (a .1 .1 .1 .0) (a .1 .1 .1 .1 .0) (a .1 .1 .1 .1 .1 .0) (a .1 .1 .1 .1 .1 .1 .0) (are .0 .1) (are .1 .1 .1 .0 .1) (𝓣 .C) (𝓣 .Λ) (fmOf 𝓤 H (W .laws) 𝓣) known known₂
+      (walk 𝓤 H A W at-mem run (κs .0) (κs .1 .0) (κs .1 .1 .0) (κs .1 .1 .1 .0) (κs .1 .1 .1 .1 .0) (qs .0) (qs .1 .0) (qs .1 .1 .0)
+      (qs .1 .1 .1 .0) (qs .1 .1 .1 .1 .0)
+      (a .0) (a .1 .0) (a .1 .1 .0) (a .1 .1 .1 .0) (a .1 .1 .1 .1 .0) (a .1 .1 .1 .1 .1 .0) (a .1 .1 .1 .1 .1 .1 .0) (are .0 .1)
+      (are .1 .1 .1 .0 .1) (𝓣 .C) (𝓣 .Λ) (fmOf 𝓤 H (W .laws) 𝓣) known known₂
       (are .1 .0 .0 .1) (are .1 .1 .0 .0 .1) (are .1 .1 .1 .1 .0 .0 .1) (are .1 .1 .1 .1 .1 .0 .0 .1) (are .1 .1 .1 .1 .1 .1 .0 .0 .1)))
 
 this-meets : {M : Type 1} (𝓤 : URA M) (H : Heap 𝓤) (A : Atoms 𝓤) → Given 𝓤 H A → (at-mem : Memory → SProp 𝓤) (run : Routine → Fun 𝓤) (𝓣 : Tables 𝓤 H)

@@ -18,15 +18,14 @@ array-share-prefix-bits c = search needs
 slice-aggregate-chain-count : tie.Need-slice-aggregate-chain-count
 slice-aggregate-chain-count c =
     let told = c .before .before .group-sheet .ensures in
-    sym (grouped-long _ _ _ (told .grouped) ∙ told .same-p)
+    sym (grouped-long (told .grouped) ∙ told .same-p)
 
 chain-count-requires : tie.Need-chain-count-requires
 chain-count-requires c κs = search needs
 
 returns : tie.Need-returns
 returns c =
-    let a = c .before .before .before .before .before .before .args in
-    count-given (a .p) (a .q) (a .amounts .now) (a .c) _ _ (c .before .before .before .group-sheet .ensures) _ (c .chain-count .ensures)
+    count-given (c .before .before .before .group-sheet .ensures) (c .chain-count .ensures)
 
 pub count-spec : {M : Type 1} → statement M
 count-spec =

@@ -18,7 +18,7 @@ array-share-prefix-bits c = search needs
 slice-aggregate-make-chain : tie.Need-slice-aggregate-make-chain
 slice-aggregate-make-chain c =
     let told = c .before .before .group-sheet .ensures in
-    sym (grouped-long _ _ _ (told .grouped) ∙ told .same-p)
+    sym (grouped-long (told .grouped) ∙ told .same-p)
 
 slice-aggregate-make-chain-2 : tie.Need-slice-aggregate-make-chain-2
 slice-aggregate-make-chain-2 c = search needs
@@ -30,9 +30,8 @@ make-chain-requires : tie.Need-make-chain-requires
 make-chain-requires c κs =
     let told = c .before .before .before .before .before .before .group-sheet .ensures in
     let s = c .before .before .before .before .before .before .before .before .before .before .before in
-    let a = s .args in
-    let room = room-given (a .p) (a .q) (a .amounts .now) (a .c) _ _ told _ _ (s .pre .1) in
-    ((told .grouped, search needs, search needs), room)
+    let room = room-given told (s .pre .1) in
+    record { grouped = told .grouped; members-room = search needs; cells-room = search needs; fits = room }
 
 same-length : tie.Need-same-length
 same-length c = search needs
@@ -43,8 +42,7 @@ same-length-2 c = search needs
 returns : tie.Need-returns
 returns c =
     let told = c .before .before .before .before .before .before .before .before .before .before .before .before .before .group-sheet .ensures in
-    let a = c .before .before .before .before .before .before .before .before .before .before .before .before .before .before .before .before .before .before .args in
-    chain-given (a .p) (a .q) (a .amounts .now) (a .c) _ _ told _ _ _ _ (c .before .before .before .before .before .before .make-chain .ensures)
+    chain-given told (c .before .before .before .before .before .before .make-chain .ensures)
 
 pub emit-spec : {M : Type 1} → statement M
 emit-spec =

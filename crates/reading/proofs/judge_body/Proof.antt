@@ -1,6 +1,4 @@
 -- Each return is one rule of `bodyRule` that refuses; once the length is right the extent lies within the bytes, and the rest is the chain's judge.
-use mathlib.Core.Path.{refl}
-use native.Mathlib.Omega.{arith}
 use Rattle.chain.proofs.Rules.{judging}
 use Rattle.reading.specs.Inner.{bodyRule}
 use Rattle.reading.proofs.ReadAnswers.{contained, filling-room, body-is}

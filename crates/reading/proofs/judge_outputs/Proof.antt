@@ -2,14 +2,14 @@
 use Prim.Native.Nat.{_-_}
 use native.Mathlib.Omega.{arith}
 use Rattle.chain.specs.Chain.{outputsRule}
-use Rattle.reading.specs.Inner.{outputsIn}
+use Rattle.reading.specs.Inner.{fileOutputs}
 use Rattle.reading.proofs.Judging.{OutputsLeft, outputs-within, outputs-start, output-room, output-bad, output-on, outputs-end}
 use borrow.Author.Needs.{needs}
 use Rattle.reading.proofs.judge_outputs.Statement.{statement}
 use Rattle.reading.proofs.judge_outputs.Tie as tie
 
 abbrev Inv-loop : tie.InvT-loop
-Inv-loop bytes x q top c₀ i₀ c i = OutputsLeft (outputsRule top 1 (outputsIn bytes x)) bytes top (x .width) q (c .at) i
+Inv-loop bytes x q top c₀ i₀ c i = OutputsLeft (outputsRule top 1 (fileOutputs bytes x)) bytes top (x .width) q (c .at) i
 
 abbrev μ-loop : tie.MeasureT-loop
 μ-loop bytes x q top c₀ i₀ c i = q - i

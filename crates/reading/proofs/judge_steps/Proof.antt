@@ -1,14 +1,14 @@
 -- The loop keeps `StepsLeft`: the verdict on all steps is the verdict on those from the cursor on; each turn judges one and moves past it.
 use Prim.Native.Nat.{_-_}
 use Rattle.chain.specs.Chain.{stepsRule}
-use Rattle.reading.specs.Inner.{stepsIn}
+use Rattle.reading.specs.Inner.{fileSteps}
 use Rattle.reading.proofs.Judging.{StepsLeft, steps-within, steps-start, first-room, second-room, field-fits, step-bad, step-on, steps-end}
 use borrow.Author.Needs.{needs}
 use Rattle.reading.proofs.judge_steps.Statement.{statement}
 use Rattle.reading.proofs.judge_steps.Tie as tie
 
 abbrev Inv-loop : tie.InvT-loop
-Inv-loop bytes x n c₀ s₀ c s = StepsLeft (stepsRule (x .p) 1 (stepsIn bytes x)) bytes (x .p) (x .width) n (c .at) s
+Inv-loop bytes x n c₀ s₀ c s = StepsLeft (stepsRule (x .p) 1 (fileSteps bytes x)) bytes (x .p) (x .width) n (c .at) s
 
 abbrev μ-loop : tie.MeasureT-loop
 μ-loop bytes x n c₀ s₀ c s = n - s

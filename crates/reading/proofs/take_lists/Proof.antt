@@ -18,7 +18,8 @@ use contract.Monad.{Fun}
 use contract.Running.{givenOf, tables, tablesOf}
 use types.Kit.{Given, ‵, _⊛_, ⋆, _$_, _∵_, !, qed, by, move, keep, drop, split, join, fsplit, fjoin, feqI, suffices, frame, done}
 use types.Part.{agg, whole, sub, look-in}
-use types.Run.{look, init, forget, stop, hop, fld, from, load, lit, unit-lit, addr, bin, of-opd, and-then, no-more, assigns, land, returns, enter, alloc1, alloc0, params1, pass1, pass0, free1, free0}
+use types.Run.{look, init, forget, stop, hop, fld, from, load, lit, unit-lit, addr, bin, of-opd, and-then, no-more, assigns, land, returns, enter}
+use types.Run.{alloc1, alloc0, params1, pass1, pass0, free1, free0}
 use sound.WpLaws.{FmC, fmOf, WpFn-mono}
 use denote.RattleType.{owns}
 use denote.Plain.{uint-vals, uint-tells}
@@ -51,7 +52,21 @@ stayed = (
   stay-dropped (shrSliceOf (0 ∷ []) tt (plain (λ _. u8))) yes,
   (
     stay-dropped (plain (λ _. usize)) yes,
-    (stay-dropped (plain (λ _. usize)) yes, (stay-dropped (plain (λ _. usize)) yes, (stay-dropped (plain (λ _. usize)) yes, (gave-slice (1 ∷ []) tt (plain (λ _. u32)), (gave-slice (2 ∷ []) tt (plain (λ _. u32)), tt))))),
+    (
+      stay-dropped (plain (λ _. usize)) yes,
+      (
+        stay-dropped
+            (plain (λ _. usize)) yes,
+        (
+          stay-dropped (plain (λ _. usize)) yes,
+          (
+            gave-slice (1 ∷ []) tt
+                (plain (λ _. u32)),
+            (gave-slice (2 ∷ []) tt (plain (λ _. u32)), tt),
+          ),
+        ),
+      ),
+    ),
   ),
 )
 
@@ -83,60 +98,112 @@ module _ {M : Type 1} (𝓤 : URA M) (H : Heap 𝓤) (A : Atoms 𝓤) (W : Given
       → ent 𝓤 (⋆ 𝓤 H A (‵ (flft κ q) ∷ ‵ (flft κ₁ q₁) ∷ ‵ (flft κ₂ q₂) ∷ ‵ (Last x steps) ∷ ‵ (Last y outputs) ∷ [])) (Post vunit)
   exits len len₂ =
       qed W (‵ (flft κ q) ∷ ‵ (flft κ₁ q₁) ∷ ‵ (flft κ₂ q₂) ∷ ‵ (Last x steps) ∷ ‵ (Last y outputs) ∷ []) ∵
-      suffices ! _ (ends-at 𝓤 H A this.ended stayed (this.clauses 𝓤 H A mem run) W (((κ, (κ₁, (κ₂, tt))), (q, (q₁, (q₂, tt))), tt, a, vs), tt) vunit tt (tt, (tt, (tt, (tt, (tt, (steps, (outputs, tt))))))) (tt, (tt, (tt, (tt, (tt, (len, (len₂, tt)))))))) $
+      suffices ! _ (ends-at 𝓤 H A this.ended stayed (this.clauses 𝓤 H A mem run) W
+      (((κ, (κ₁, (κ₂, tt))), (q, (q₁, (q₂, tt))), tt, a, vs), tt) vunit tt (tt, (tt, (tt, (tt, (tt, (steps, (outputs, tt)))))))
+      (tt, (tt, (tt, (tt, (tt, (len, (len₂, tt)))))))) $
       says ! (record { steps-taken = refl; outputs-taken = refl }) $
       nothing ! $ move ! (3 ∷ 0 ∷ []) $ join ! $ move ! (2 ∷ 0 ∷ []) $ join ! $ move ! (1 ∷ 0 ∷ []) $ join ! $ frame ! $
-      nothing ! $ move ! (2 ∷ 0 ∷ []) $ fjoin ! $ move ! (1 ∷ 0 ∷ []) $ fjoin ! $ nothing ! $ fjoin ! $ nothing ! $ fjoin ! $ nothing ! $ fjoin ! $ nothing ! $ fjoin ! $ nothing ! $ fjoin ! $ frame ! $ feqI ! (List Val) (vunit ∷ []) (vunit ∷ []) refl $ done !
+      nothing ! $ move ! (2 ∷ 0 ∷ []) $ fjoin ! $ move ! (1 ∷ 0 ∷ []) $ fjoin ! $ nothing ! $ fjoin ! $ nothing ! $ fjoin ! $ nothing ! $ fjoin ! $
+      nothing ! $ fjoin ! $ nothing ! $ fjoin ! $ frame ! $ feqI ! (List Val) (vunit ∷ []) (vunit ∷ []) refl $ done !
 
   module _ (C : Calls 𝓤 H) (Λ : Loops 𝓤 H) (fm : FmC 𝓤 H (W .laws) C) (known : Triple 𝓤 (C #fields·read-fields) (Read 𝓤 H A mem run)) where
-    walk : Holds (hasTy (sliceTy (tyRef (named 0) imm (tyInt w8))) (bytesVal s)) × WT (bytesVal s) → at < 2 ^ 64 → w < 2 ^ 64 → n < 2 ^ 64 → m < 2 ^ 64 → 2 * n < 2 ^ 64 → Room u32 (length (now x)) → Room u32 (length (now y))
+    walk : Holds (hasTy (sliceTy (tyRef (named 0) imm (tyInt w8))) (bytesVal s)) × WT (bytesVal s) → at < 2 ^ 64 → w < 2 ^ 64 → n < 2 ^ 64
+        → m < 2 ^ 64 → 2 * n < 2 ^ 64 → Room u32 (length (now x)) → Room u32 (length (now y))
         → FieldsRoom (now s) at w (2 * n) (now x) × FieldsRoom (now s) middle w m (now y)
         → ent 𝓤 (onEntry 𝓤 H A this.signature (κ, (κ₁, (κ₂, tt))) (q, (q₁, (q₂, tt))) a vs) (WpFn 𝓤 H C Λ code.function args Post)
     walk wt at-fits w-fits n-fits m-fits twice-fits g g₂ rooms =
-        qed W ((‵ (flft κ q) ⊛ ‵ (flft κ₁ q₁) ⊛ ‵ (flft κ₂ q₂) ⊛ ‵ ftrue) ∷ ‵ (owns (ShrSlice (named 0) κ u8 ∷ usize ∷ usize ∷ usize ∷ usize ∷ MutSlice (named 1) κ₁ u32 ∷ MutSlice (named 2) κ₂ u32 ∷ []) a vs) ∷ []) ∵
-        split ! $ move ! (1 ∷ []) $ split ! $ move ! (1 ∷ []) $ split ! $ move ! (4 ∷ []) $ fsplit ! $ move ! (1 ∷ []) $ fsplit ! $ drop ! $ fsplit ! $ drop ! $ fsplit ! $ drop ! $ fsplit ! $ drop ! $ fsplit ! $ move ! (1 ∷ []) $ fsplit ! $
+        qed W ((‵ (flft κ q) ⊛ ‵ (flft κ₁ q₁) ⊛ ‵ (flft κ₂ q₂) ⊛ ‵ ftrue) ∷ ‵ (owns
+        (ShrSlice (named 0) κ u8 ∷ usize ∷ usize ∷ usize ∷ usize ∷ MutSlice (named 1) κ₁ u32 ∷ MutSlice (named 2) κ₂ u32 ∷ []) a vs) ∷ []) ∵
+        split ! $ move ! (1 ∷ []) $ split ! $ move ! (1 ∷ []) $ split ! $ move ! (4 ∷ []) $ fsplit ! $ move ! (1 ∷ []) $ fsplit ! $ drop ! $
+        fsplit ! $ drop ! $ fsplit ! $ drop ! $ fsplit ! $ drop ! $ fsplit ! $ move ! (1 ∷ []) $ fsplit ! $
         -- [outputs'; true; steps'; the bytes'; κ₂'s token; true; κ₁'s; κ's]
         keep ! (3 ∷ 7 ∷ 6 ∷ 2 ∷ 4 ∷ 0 ∷ []) $ enter ! C Λ code.function args _ $
-        alloc1 ! (λ l₀. alloc1 ! (λ l₁. alloc1 ! (λ l₂. alloc1 ! (λ l₃. alloc1 ! (λ l₄. alloc1 ! (λ l₅. alloc1 ! (λ l₆. alloc1 ! (λ l₇. alloc1 ! (λ l₈. alloc1 ! (λ l₉. alloc1 ! (λ l₁₀. alloc1 ! (λ l₁₁. alloc1 ! (λ l₁₂. alloc1 ! (λ l₁₃. alloc1 ! (λ l₁₄. alloc1 ! (λ l₁₅. alloc1 ! (λ l₁₆. alloc1 ! (λ l₁₇. alloc1 ! (λ l₁₈. alloc0 ! $ params1 ! $
-        pass1 ! (init ! 34 refl wt) $ pass1 ! (init ! 32 refl (tt, record { fits = at-fits })) $ pass1 ! (init ! 30 refl (tt, record { fits = w-fits })) $ pass1 ! (init ! 28 refl (tt, record { fits = n-fits })) $ pass1 ! (init ! 26 refl (tt, record { fits = m-fits })) $
-        pass1 ! (init ! 24 refl (tt, (tt, (record { fits = g .0 }, tt)))) $ pass1 ! (init ! 22 refl (tt, (tt, (record { fits = g₂ .0 }, tt)))) $ pass0 ! $ move ! (38 ∷ 39 ∷ 40 ∷ 41 ∷ 42 ∷ 43 ∷ []) $
+        alloc1 ! (λ l₀. alloc1 ! (λ l₁. alloc1 ! (λ l₂. alloc1 !
+        (λ l₃. alloc1 ! (λ l₄. alloc1 ! (λ l₅. alloc1 ! (λ l₆. alloc1 !
+        (λ l₇. alloc1 ! (λ l₈. alloc1 ! (λ l₉. alloc1 ! (λ l₁₀. alloc1 !
+        (λ l₁₁. alloc1 ! (λ l₁₂. alloc1 ! (λ l₁₃. alloc1 ! (λ l₁₄. alloc1 ! (λ l₁₅. alloc1 ! (λ l₁₆. alloc1 ! (λ l₁₇. alloc1 ! (λ l₁₈. alloc0 ! $ params1 ! $
+        pass1 ! (init ! 34 refl wt) $ pass1 ! (init ! 32 refl (tt, record { fits = at-fits })) $
+        pass1 ! (init ! 30 refl (tt, record { fits = w-fits })) $ pass1 ! (init ! 28 refl (tt, record { fits = n-fits })) $
+        pass1 ! (init ! 26 refl (tt, record { fits = m-fits })) $
+        pass1 ! (init ! 24 refl (tt, (tt, (record { fits = g .0 }, tt)))) $ pass1 ! (init ! 22 refl (tt, (tt, (record { fits = g₂ .0 }, tt)))) $
+        pass0 ! $ move ! (38 ∷ 39 ∷ 40 ∷ 41 ∷ 42 ∷ 43 ∷ []) $
         -- [the bytes'; κ's token; κ₁'s; steps'; κ₂'s; outputs'; _18; …; _0; …]: the reader is made past the header
-        assigns ! (agg ! (and-then ! (load ! (from ! (stop !)) (look ! 38 refl)) (no-more !))) (from ! (stop !)) (init ! 22 refl (tt, (record { fits = at-fits }, tt))) $
-        assigns ! (agg ! (and-then ! (load ! (from ! (stop !)) (look ! 40 refl)) (and-then ! (load ! (from ! (stop !)) (look ! 22 refl)) (no-more !)))) (from ! (stop !)) (init ! 26 refl (tt, (wt .1, ((record { fits = at-fits }, tt), tt)))) $
+        assigns ! (agg ! (and-then ! (load ! (from ! (stop !)) (look ! 38 refl)) (no-more !))) (from ! (stop !))
+        (init ! 22 refl (tt, (record { fits = at-fits }, tt))) $
+        assigns ! (agg ! (and-then ! (load ! (from ! (stop !)) (look ! 40 refl))
+        (and-then ! (load ! (from ! (stop !)) (look ! 22 refl)) (no-more !)))) (from ! (stop !))
+        (init ! 26 refl (tt, (wt .1, ((record { fits = at-fits }, tt), tt)))) $
         assigns ! (of-opd ! (load ! (from ! (stop !)) (look ! 26 refl))) (from ! (stop !)) (init ! 20 refl (tt, (wt .1, ((record { fits = at-fits }, tt), tt)))) $
         -- the steps are read
-        assigns ! (bin ! (lit ! tt) (load ! (from ! (stop !)) (look ! 34 refl)) (record { fits = twice-fits })) (from ! (stop !)) (init ! 18 refl (tt, record { fits = twice-fits })) $
+        assigns ! (bin ! (lit ! tt) (load ! (from ! (stop !)) (look ! 34 refl)) (record { fits = twice-fits })) (from ! (stop !))
+        (init ! 18 refl (tt, record { fits = twice-fits })) $
         assigns ! (addr ! (from ! (fld ! refl (hop ! (look-in ! 30 (sub ! 0 refl (whole !))) (stop !))))) (from ! (stop !)) (init ! 16 refl (tt, tt)) $
-        assigns ! (agg ! (and-then ! (load ! (from ! (stop !)) (look ! 16 refl)) (and-then ! (load ! (from ! (fld ! refl (stop !))) (look-in ! 30 (sub ! 1 refl (whole !)))) (no-more !)))) (from ! (stop !)) (init ! 14 refl (tt, (tt, (record { fits = g .0 }, tt)))) $
+        assigns ! (agg ! (and-then ! (load ! (from ! (stop !)) (look ! 16 refl))
+        (and-then ! (load ! (from ! (fld ! refl (stop !))) (look-in ! 30 (sub ! 1 refl (whole !)))) (no-more !)))) (from ! (stop !))
+        (init ! 14 refl (tt, (tt, (record { fits = g .0 }, tt)))) $
         reads 𝓤 H A mem run κ κ₁ q q₁ s x at w (2 * n) ! fm known w-fits twice-fits (rooms .0)
-        (and-then ! (load ! (from ! (stop !)) (look ! 18 refl)) (and-then ! (load ! (from ! (stop !)) (look ! 34 refl)) (and-then ! (load ! (from ! (stop !)) (look ! 16 refl)) (and-then ! (load ! (from ! (stop !)) (look ! 12 refl)) (no-more !))))) (λ len.
+        (and-then ! (load ! (from ! (stop !)) (look ! 18 refl))
+        (and-then ! (load ! (from ! (stop !)) (look ! 34 refl))
+        (and-then ! (load ! (from ! (stop !)) (look ! 16 refl)) (and-then ! (load ! (from ! (stop !)) (look ! 12 refl)) (no-more !))))) (λ len.
         land ! (from ! (stop !)) (init ! 24 refl (tt, (wt .1, ((record { fits = rooms .0 .fits }, tt), tt)))) $ move ! (0 ∷ 1 ∷ 4 ∷ 5 ∷ []) $
         -- [the bytes'; κ's token; κ₂'s; outputs'; κ₁'s; the last steps; _18; …]: the outputs are read at the reader past the steps
-        assigns ! (of-opd ! (load ! (from ! (stop !)) (look ! 24 refl))) (from ! (stop !)) (init ! 10 refl (tt, (wt .1, ((record { fits = rooms .0 .fits }, tt), tt)))) $
+        assigns ! (of-opd ! (load ! (from ! (stop !)) (look ! 24 refl))) (from ! (stop !))
+        (init ! 10 refl (tt, (wt .1, ((record { fits = rooms .0 .fits }, tt), tt)))) $
         assigns ! (addr ! (from ! (fld ! refl (hop ! (look-in ! 28 (sub ! 0 refl (whole !))) (stop !))))) (from ! (stop !)) (init ! 8 refl (tt, tt)) $
-        assigns ! (agg ! (and-then ! (load ! (from ! (stop !)) (look ! 8 refl)) (and-then ! (load ! (from ! (fld ! refl (stop !))) (look-in ! 28 (sub ! 1 refl (whole !)))) (no-more !)))) (from ! (stop !)) (init ! 6 refl (tt, (tt, (record { fits = g₂ .0 }, tt)))) $
+        assigns ! (agg ! (and-then ! (load ! (from ! (stop !)) (look ! 8 refl))
+        (and-then ! (load ! (from ! (fld ! refl (stop !))) (look-in ! 28 (sub ! 1 refl (whole !)))) (no-more !)))) (from ! (stop !))
+        (init ! 6 refl (tt, (tt, (record { fits = g₂ .0 }, tt)))) $
         reads 𝓤 H A mem run κ κ₂ q q₂ s y middle w m ! fm known w-fits m-fits (rooms .1)
-        (and-then ! (load ! (from ! (stop !)) (look ! 8 refl)) (and-then ! (load ! (from ! (stop !)) (look ! 34 refl)) (and-then ! (load ! (from ! (stop !)) (look ! 30 refl)) (and-then ! (load ! (from ! (stop !)) (look ! 4 refl)) (no-more !))))) (λ len₂.
+        (and-then ! (load ! (from ! (stop !)) (look ! 8 refl))
+        (and-then ! (load ! (from ! (stop !)) (look ! 34 refl))
+        (and-then ! (load ! (from ! (stop !)) (look ! 30 refl)) (and-then ! (load ! (from ! (stop !)) (look ! 4 refl)) (no-more !))))) (λ len₂.
         land ! (from ! (stop !)) (init ! 12 refl (tt, (wt .1, ((record { fits = rooms .1 .fits }, tt), tt)))) $
         assigns ! (of-opd ! (unit-lit !)) (from ! (stop !)) (init ! 42 refl (tt, tt)) $ returns ! (look ! 42 refl) $
-        forget ! 6 refl $ forget ! 8 refl $ forget ! 10 refl $ forget ! 12 refl $ forget ! 14 refl $ forget ! 16 refl $ forget ! 18 refl $ forget ! 20 refl $ forget ! 22 refl $
-        forget ! 24 refl $ forget ! 26 refl $ forget ! 28 refl $ forget ! 30 refl $ forget ! 32 refl $ forget ! 34 refl $ forget ! 36 refl $ forget ! 38 refl $ forget ! 40 refl $ forget ! 42 refl $
-        move ! (42 ∷ 43 ∷ []) $ free1 ! $ move ! (40 ∷ 41 ∷ []) $ free1 ! $ move ! (38 ∷ 39 ∷ []) $ free1 ! $ move ! (36 ∷ 37 ∷ []) $ free1 ! $ move ! (34 ∷ 35 ∷ []) $ free1 ! $ move ! (32 ∷ 33 ∷ []) $ free1 ! $ move ! (30 ∷ 31 ∷ []) $ free1 ! $
-        move ! (28 ∷ 29 ∷ []) $ free1 ! $ move ! (26 ∷ 27 ∷ []) $ free1 ! $ move ! (24 ∷ 25 ∷ []) $ free1 ! $ move ! (22 ∷ 23 ∷ []) $ free1 ! $ move ! (20 ∷ 21 ∷ []) $ free1 ! $ move ! (18 ∷ 19 ∷ []) $ free1 ! $
-        move ! (16 ∷ 17 ∷ []) $ free1 ! $ move ! (14 ∷ 15 ∷ []) $ free1 ! $ move ! (12 ∷ 13 ∷ []) $ free1 ! $ move ! (10 ∷ 11 ∷ []) $ free1 ! $ move ! (8 ∷ 9 ∷ []) $ free1 ! $ move ! (6 ∷ 7 ∷ []) $ free1 ! $ free0 ! $
+        forget ! 6 refl $ forget ! 8 refl $ forget ! 10 refl $ forget ! 12 refl $ forget ! 14 refl $ forget ! 16 refl $ forget ! 18 refl $
+        forget ! 20 refl $ forget ! 22 refl $
+        forget ! 24 refl $ forget ! 26 refl $ forget ! 28 refl $ forget ! 30 refl $ forget ! 32 refl $ forget ! 34 refl $ forget ! 36 refl $
+        forget ! 38 refl $ forget ! 40 refl $ forget ! 42 refl $
+        move ! (42 ∷ 43 ∷ []) $ free1 ! $ move ! (40 ∷ 41 ∷ []) $ free1 ! $ move ! (38 ∷ 39 ∷ []) $ free1 ! $ move ! (36 ∷ 37 ∷ []) $ free1 ! $
+        move ! (34 ∷ 35 ∷ []) $ free1 ! $ move ! (32 ∷ 33 ∷ []) $ free1 ! $ move ! (30 ∷ 31 ∷ []) $ free1 ! $
+        move ! (28 ∷ 29 ∷ []) $ free1 ! $ move ! (26 ∷ 27 ∷ []) $ free1 ! $ move ! (24 ∷ 25 ∷ []) $ free1 ! $ move ! (22 ∷ 23 ∷ []) $ free1 ! $
+        move ! (20 ∷ 21 ∷ []) $ free1 ! $ move ! (18 ∷ 19 ∷ []) $ free1 ! $
+        move ! (16 ∷ 17 ∷ []) $ free1 ! $ move ! (14 ∷ 15 ∷ []) $ free1 ! $ move ! (12 ∷ 13 ∷ []) $ free1 ! $ move ! (10 ∷ 11 ∷ []) $ free1 ! $
+        move ! (8 ∷ 9 ∷ []) $ free1 ! $ move ! (6 ∷ 7 ∷ []) $ free1 ! $ free0 ! $
         -- [the bytes'; κ's token; κ₂'s; the last outputs; κ₁'s; the last steps]
         keep ! (1 ∷ 4 ∷ 2 ∷ 5 ∷ 3 ∷ []) $ by ! (exits len len₂))))))))))))))))))))))
 
-module _ {M : Type 1} (𝓤 : URA M) (H : Heap 𝓤) (A : Atoms 𝓤) (W : Given 𝓤 H A) (mem : Memory → SProp 𝓤) (run : Routine → Fun 𝓤) (𝓣 : Tables 𝓤 H) (known : Triple 𝓤 (𝓣 .C #fields·read-fields) (Read 𝓤 H A mem run)) where
+module _ {M : Type 1} (𝓤 : URA M) (H : Heap 𝓤) (A : Atoms 𝓤) (W : Given 𝓤 H A) (mem : Memory → SProp 𝓤) (run : Routine → Fun 𝓤) (𝓣 : Tables 𝓤 H)
+    (known : Triple 𝓤 (𝓣 .C #fields·read-fields) (Read 𝓤 H A mem run)) where
   this-walks : Walks 𝓤 H A this.ended stayed (WpFn 𝓤 H (𝓣 .C) (𝓣 .Λ) code.function) (this.clauses 𝓤 H A mem run)
   this-walks = walked 𝓤 H A this.ended stayed (this.clauses 𝓤 H A mem run) (WpFn 𝓤 H (𝓣 .C) (𝓣 .Λ) code.function)
       (λ κs. (slice-vals, (uint-vals w64, (uint-vals w64, (uint-vals w64, (uint-vals w64, (slice-vals, (slice-vals, tt))))))))
-      (λ κs. (shr-slice-tells (named 0) (κs .0) u8, (uint-tells w64, (uint-tells w64, (uint-tells w64, (uint-tells w64, (mut-slice-tells (named 1) (κs .1 .0) u32, (mut-slice-tells (named 2) (κs .1 .1 .0) u32, tt))))))))
+      (λ κs. (
+        shr-slice-tells (named 0) (κs .0) u8,
+        (
+          uint-tells w64,
+          (
+            uint-tells w64,
+            (
+              uint-tells w64,
+              (
+                uint-tells w64,
+                (
+                  mut-slice-tells (named 1)
+                      (κs .1 .0) u32,
+                  (mut-slice-tells (named 2) (κs .1 .1 .0) u32, tt),
+                ),
+              ),
+            ),
+          ),
+        ),
+      ))
       (λ κs qs bounds a g are. needs 𝓤 _ _ (λ rooms.
       let long : Room u32 (length (now (a .1 .1 .1 .1 .1 .0))) = are .1 .1 .1 .1 .1 .0 .0 .1 in
-      walk 𝓤 H A W mem run (κs .0) (κs .1 .0) (κs .1 .1 .0) (qs .0) (qs .1 .0) (qs .1 .1 .0) (a .0) (a .1 .0) (a .1 .1 .0) (a .1 .1 .1 .0) (a .1 .1 .1 .1 .0) (a .1 .1 .1 .1 .1 .0) (a .1 .1 .1 .1 .1 .1 .0)
+      walk 𝓤 H A W mem run (κs .0) (κs .1 .0) (κs .1 .1 .0) (qs .0) (qs .1 .0) (qs .1 .1 .0) (a .0) (a .1 .0) (a .1 .1 .0) (a .1 .1 .1 .0)
+      (a .1 .1 .1 .1 .0) (a .1 .1 .1 .1 .1 .0) (a .1 .1 .1 .1 .1 .1 .0)
       (𝓣 .C) (𝓣 .Λ) (fmOf 𝓤 H (W .laws) 𝓣) known (shr-slice-lawful 𝓤 H A W (named 0) (κs .0) u8 .typed (a .0) _ (are .0) .0)
-      (are .1 .0 .1) (are .1 .1 .0 .1) (are .1 .1 .1 .0 .1) (are .1 .1 .1 .1 .0 .1) (omega (arith, rooms .0 .room, long .0)) long (are .1 .1 .1 .1 .1 .1 .0 .0 .1) rooms))
+      (are .1 .0 .1) (are .1 .1 .0 .1) (are .1 .1 .1 .0 .1) (are .1 .1 .1 .1 .0 .1) (omega (arith, rooms .0 .room, long .0)) long
+      (are .1 .1 .1 .1 .1 .1 .0 .0 .1) rooms))
 
 this-meets : {M : Type 1} (𝓤 : URA M) (H : Heap 𝓤) (A : Atoms 𝓤) (W : Given 𝓤 H A) (mem : Memory → SProp 𝓤) (run : Routine → Fun 𝓤) (𝓣 : Tables 𝓤 H)
     → Triple 𝓤 (𝓣 .C #fields·read-fields) (Read 𝓤 H A mem run)
@@ -147,7 +214,14 @@ this-meets 𝓤 H A W mem run 𝓣 known = walk-meets 𝓤 H A this.ended stayed
     goes-dropped 𝓤 H A W 3 (plain (λ _. usize)) yes (λ κs x f. refl),
     (
       goes-dropped 𝓤 H A W 3 (plain (λ _. usize)) yes (λ κs x f. refl),
-      (goes-dropped 𝓤 H A W 3 (plain (λ _. usize)) yes (λ κs x f. refl), (goes-dropped 𝓤 H A W 3 (plain (λ _. usize)) yes (λ κs x f. refl), (goes-gave-slice 𝓤 H A W 3 1 tt (plain (λ _. u32)), (goes-gave-slice 𝓤 H A W 3 2 tt (plain (λ _. u32)), tt)))),
+      (
+        goes-dropped 𝓤 H A W 3 (plain (λ _. usize)) yes (λ κs x f. refl),
+        (
+          goes-dropped 𝓤 H A W 3 (plain (λ _. usize)) yes
+              (λ κs x f. refl),
+          (goes-gave-slice 𝓤 H A W 3 1 tt (plain (λ _. u32)), (goes-gave-slice 𝓤 H A W 3 2 tt (plain (λ _. u32)), tt)),
+        ),
+      ),
     ),
   ),
 )

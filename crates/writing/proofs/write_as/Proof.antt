@@ -98,7 +98,8 @@ returns-3 c =
     let a = j .before .before .before .before .args in
     all-written (a .layout) (a .p) (now (a .steps)) (now (a .outputs)) (now (a .bytes)) _ (j .judge-shape .ensures) (e .enum-told .given .1) _ (counts x) _
     (i .judge-rest .ensures) (f .enum-told2 .given .1) _
-    (u .put-chain .ensures ∙ ap (λ (y : Extent). over (fileOf (a .layout) (y .p) (pairs (now (a .steps))) (now (a .outputs))) (now (a .bytes))) (x .extent-of .ensures))
+    (u .put-chain .ensures ∙ ap (λ (y : Extent). over (fileOf (a .layout) (y .p) (pairs (now (a .steps))) (now (a .outputs))) (now (a .bytes)))
+    (x .extent-of .ensures))
 
 pub write-as-spec : {M : Type 1} → statement M
 write-as-spec =

@@ -1,6 +1,5 @@
 -- A walk by hand: the reader is taken apart for `Cursor::take`, and a reader of the same bytes is made at the cursor handed back.
 -- All that the proof knows of `Cursor::take` is that it meets its contract. A `&[u8]` is Copy: what the bytes own goes to the callee once, and into the result once.
--- Assumes nothing.
 use mathlib.Core.Path.{refl, ap}
 use mathlib.Core.List.{List, [], _∷_}
 use Prim.Native.Nat.{ℕ, _<_, _^_}
@@ -17,9 +16,11 @@ use prog.Wp.{Heap, Calls, Loops, WpFn, Tables}
 use ghost.Atoms.{Atoms, sem}
 use contract.Monad.{Fun, fact}
 use contract.Running.{givenOf, tables, tablesOf}
-use types.Kit.{Given, mean, ‵, raw, _⊛_, ⋆, some, later, _$_, _∵_, !, qed, by, move, keep, drop, use1, use2, split, pick, rewrite, fsplit, fjoin, suffices, frame, await, done}
+use types.Kit.{Given, mean, ‵, raw, _⊛_, ⋆, some, later, _$_, _∵_, !, qed, by, move, keep, drop, use1, use2, split, pick, rewrite, fsplit, fjoin}
+use types.Kit.{suffices, frame, await, done}
 use types.Part.{agg, whole, sub, look-in}
-use types.Run.{look, init, forget, stop, fld, from, load, of-opd, and-then, no-more, assigns, land, returns, enter, alloc1, alloc0, params1, pass1, pass0, free1, free0}
+use types.Run.{look, init, forget, stop, fld, from, load, of-opd, and-then, no-more, assigns, land, returns, enter, alloc1, alloc0, params1, pass1}
+use types.Run.{pass0, free1, free0}
 use sound.WpLaws.{FmC, fmOf, WpFn-mono}
 use denote.RattleType.{owns}
 use denote.Laws.{Is, shows}
@@ -73,7 +74,8 @@ module _ {M : Type 1} (𝓤 : URA M) (H : Heap 𝓤) (A : Atoms 𝓤) (mem : Mem
   abbrev Take : Contract 𝓤
   Take = tripleOf 𝓤 H A take.signature (take.spec 𝓤 H A mem run)
 
-module _ {M : Type 1} (𝓤 : URA M) (H : Heap 𝓤) (A : Atoms 𝓤) (W : Given 𝓤 H A) (mem : Memory → SProp 𝓤) (run : Routine → Fun 𝓤) (κ : Lft) (q : Share) (s : RefT (List ℕ)) (at w : ℕ) (at-fits : at < 2 ^ 64) (w-fits : w < 2 ^ 64) where
+module _ {M : Type 1} (𝓤 : URA M) (H : Heap 𝓤) (A : Atoms 𝓤) (W : Given 𝓤 H A) (mem : Memory → SProp 𝓤) (run : Routine → Fun 𝓤) (κ : Lft) (q : Share)
+    (s : RefT (List ℕ)) (at w : ℕ) (at-fits : at < 2 ^ 64) (w-fits : w < 2 ^ 64) where
   abbrev mach : Val
   mach = B′.lowered (readerAt s at)
 
@@ -100,7 +102,8 @@ module _ {M : Type 1} (𝓤 : URA M) (H : Heap 𝓤) (A : Atoms 𝓤) (W : Given
 
   asks-take : FieldRoom (now s) at w → ent 𝓤 (⋆ 𝓤 H A (Token κ q ∷ ‵ (Bytes κ s) ∷ [])) (Take 𝓤 H A mem run .pre to-take)
   asks-take room =
-      qed W (Token κ q ∷ ‵ (Bytes κ s) ∷ []) ∵ says ! room $ frame ! $ nothing ! $ owned ! usize (Is usize) (uint-makes 𝓤 H A W w64) w _ (refl, w-fits) $ fjoin ! $ move ! (1 ∷ 0 ∷ []) $ fjoin ! $
+      qed W (Token κ q ∷ ‵ (Bytes κ s) ∷ []) ∵ says ! room $ frame ! $ nothing ! $
+      owned ! usize (Is usize) (uint-makes 𝓤 H A W w64) w _ (refl, w-fits) $ fjoin ! $ move ! (1 ∷ 0 ∷ []) $ fjoin ! $
       has-cursor ! at at-fits $ fjoin ! $ done !
 
   abbrev Found : Field → Type 0
@@ -115,7 +118,8 @@ module _ {M : Type 1} (𝓤 : URA M) (H : Heap 𝓤) (A : Atoms 𝓤) (W : Given
   exits : (f : Field) → Found f → f .value < 2 ^ 64 → f .next .at < 2 ^ 64 → ent 𝓤 (⋆ 𝓤 H A (Token κ q ∷ ‵ (Bytes κ s) ∷ [])) (Post (R′.lowered (result f)))
   exits f e value-fits next-fits =
       qed W (Token κ q ∷ ‵ (Bytes κ s) ∷ []) ∵
-      suffices ! _ (ends-at 𝓤 H A this.ended stayed (this.clauses 𝓤 H A mem run) W (((κ, tt), (q, tt), tt, a, vs), tt) (R′.lowered (result f)) (result f) (tt, (tt, tt)) (tt, (tt, tt))) $ says ! (e, refl) $
+      suffices ! _ (ends-at 𝓤 H A this.ended stayed (this.clauses 𝓤 H A mem run) W (((κ, tt), (q, tt), tt, a, vs), tt) (R′.lowered (result f))
+      (result f) (tt, (tt, tt)) (tt, (tt, tt))) $ says ! (e, refl) $
       frame ! $ nothing ! $ nothing ! $ fjoin ! $ nothing ! $ fjoin ! $ frame ! $
       -- [what the bytes own]: it is what the reader past the field owns, and with the value's facts what the result owns
       use1 W (‵ (Reader 𝓤 H A κ s (f .next .at))) (reader-own 𝓤 H A κ s (f .next .at) W next-fits) $
@@ -123,9 +127,11 @@ module _ {M : Type 1} (𝓤 : URA M) (H : Heap 𝓤) (A : Atoms 𝓤) (W : Given
       by ! (own-shut 𝓤 H A W (R.the-type (lifetime κ)) (R′.the-laws (lifetime κ)) (f .value, (readerAt s (f .next .at), tt)))
 
   module _ (C : Calls 𝓤 H) (Λ : Loops 𝓤 H) (fm : FmC 𝓤 H (W .laws) C) (known : Triple 𝓤 (C #bits·Cursor·take) (Take 𝓤 H A mem run)) where
-    walk : Holds (hasTy (B′.mir (named 0)) mach) × WT mach → FieldRoom (now s) at w → ent 𝓤 (onEntry 𝓤 H A this.signature (κ, tt) (q, tt) a vs) (WpFn 𝓤 H C Λ code.function (mach ∷ vint w64 w ∷ []) Post)
+    walk : Holds (hasTy (B′.mir (named 0)) mach) × WT mach → FieldRoom (now s) at w
+        → ent 𝓤 (onEntry 𝓤 H A this.signature (κ, tt) (q, tt) a vs) (WpFn 𝓤 H C Λ code.function (mach ∷ vint w64 w ∷ []) Post)
     walk wt room =
-        qed W (raw (onEntry 𝓤 H A this.signature (κ, tt) (q, tt) a vs) ∷ []) ∵ use1 W (Token κ q ⊛ ‵ (Bytes κ s) ⊛ ‵ (Bytes κ s)) apart $ enter ! C Λ code.function (mach ∷ vint w64 w ∷ []) _ $
+        qed W (raw (onEntry 𝓤 H A this.signature (κ, tt) (q, tt) a vs) ∷ []) ∵ use1 W (Token κ q ⊛ ‵ (Bytes κ s) ⊛ ‵ (Bytes κ s)) apart $
+        enter ! C Λ code.function (mach ∷ vint w64 w ∷ []) _ $
         alloc1 ! (λ l₀. alloc1 ! (λ l₁. alloc1 ! (λ l₂. alloc1 ! (λ l₃. alloc1 ! (λ l₄. alloc1 ! (λ l₅. alloc1 ! (λ l₆. alloc1 ! (λ l₇. alloc0 ! $ params1 ! $
         pass1 ! (init ! 12 refl wt) $ pass1 ! (init ! 10 refl (tt, record { fits = w-fits })) $ pass0 ! $
         -- [_7; …; _0; …; the token and the bytes twice]: the reader is taken apart, and `Cursor::take` is called
@@ -133,31 +139,47 @@ module _ {M : Type 1} (𝓤 : URA M) (H : Heap 𝓤) (A : Atoms 𝓤) (W : Given
         assigns ! (of-opd ! (load ! (from ! (fld ! refl (stop !))) (look-in ! 12 (sub ! 0 refl (whole !))))) (from ! (stop !)) (init ! 4 refl (tt, wt .1 .0)) $
         move ! (16 ∷ []) $ split ! $ move ! (1 ∷ []) $ split ! $ move ! (2 ∷ 0 ∷ []) $ use2 W (raw (Take 𝓤 H A mem run .pre to-take)) (asks-take room) $
         -- [what `Cursor::take` asks; the bytes; _7; …]
-        calls-at ! fm (Take 𝓤 H A mem run) known to-take (and-then ! (load ! (from ! (stop !)) (look ! 8 refl)) (and-then ! (load ! (from ! (stop !)) (look ! 6 refl)) (and-then ! (load ! (from ! (stop !)) (look ! 12 refl)) (no-more !)))) (λ u.
-        use1 W (later (some (λ (f : Field). (Token κ q ⊛ ‵ (F.the-row .own f (u ∷ []))) ⊛ raw (ensured 𝓤 H A take.ended (take.clauses 𝓤 H A mem run) (κ, tt) passed tt f)))) (id⊢ 𝓤 _) $ await ! tt $ pick ! (λ f.
+        calls-at ! fm (Take 𝓤 H A mem run) known to-take (and-then ! (load ! (from ! (stop !)) (look ! 8 refl))
+        (and-then ! (load ! (from ! (stop !)) (look ! 6 refl)) (and-then ! (load ! (from ! (stop !)) (look ! 12 refl)) (no-more !)))) (λ u.
+        use1 W (later (some (λ (f : Field). (Token κ q ⊛ ‵ (F.the-row .own f (u ∷ []))) ⊛ raw (ensured 𝓤 H A take.ended (take.clauses 𝓤 H A mem run)
+        (κ, tt) passed tt f)))) (id⊢ 𝓤 _) $ await ! tt $ pick ! (λ f.
         split ! $ move ! (1 ∷ []) $ use1 W (raw (fact 𝓤 (Found f))) (found f) $ heard ! (Found f) (λ e. split ! $ move ! (1 ∷ []) $
         peeks ! F.the-row (Is F.the-row) (shows 𝓤 H A F.the-row) f (u ∷ []) (λ is.
         land ! (from ! (stop !)) (init ! 11 refl (LL.lawful F.the-type F′.the-laws 𝓤 H A W .typed f _ is .0)) $ drop ! $
         rewrite ! 10 (λ (x : Val). ‵ (fat fullShare F′.mir l₃ 0 x)) (ap only (LL.tells F.the-type F′.the-laws f _ is)) refl $
         -- [the token; the bytes; _7; …; _0; …]: the reader past the field is made, and the result
         assigns ! (of-opd ! (load ! (from ! (fld ! refl (stop !))) (look-in ! 14 (sub ! 0 refl (whole !))))) (from ! (stop !)) (init ! 4 refl (tt, wt .1 .0)) $
-        assigns ! (agg ! (and-then ! (load ! (from ! (stop !)) (look ! 4 refl)) (and-then ! (load ! (from ! (fld ! refl (stop !))) (look-in ! 10 (sub ! 1 refl (whole !)))) (no-more !)))) (from ! (stop !)) (init ! 2 refl (tt, (wt .1 .0, ((record { fits = next-fits f u is }, tt), tt)))) $
-        assigns ! (agg ! (and-then ! (load ! (from ! (fld ! refl (stop !))) (look-in ! 10 (sub ! 0 refl (whole !)))) (and-then ! (load ! (from ! (stop !)) (look ! 2 refl)) (no-more !)))) (from ! (stop !)) (init ! 16 refl (tt, (record { fits = value-fits f u is }, ((wt .1 .0, ((record { fits = next-fits f u is }, tt), tt)), tt)))) $
-        returns ! (look ! 16 refl) $ forget ! 2 refl $ forget ! 4 refl $ forget ! 6 refl $ forget ! 8 refl $ forget ! 10 refl $ forget ! 12 refl $ forget ! 14 refl $ forget ! 16 refl $
-        move ! (16 ∷ 17 ∷ []) $ free1 ! $ move ! (14 ∷ 15 ∷ []) $ free1 ! $ move ! (12 ∷ 13 ∷ []) $ free1 ! $ move ! (10 ∷ 11 ∷ []) $ free1 ! $ move ! (8 ∷ 9 ∷ []) $ free1 ! $ move ! (6 ∷ 7 ∷ []) $ free1 ! $ move ! (4 ∷ 5 ∷ []) $ free1 ! $ move ! (2 ∷ 3 ∷ []) $ free1 ! $ free0 ! $
+        assigns ! (agg ! (and-then ! (load ! (from ! (stop !)) (look ! 4 refl))
+        (and-then ! (load ! (from ! (fld ! refl (stop !))) (look-in ! 10 (sub ! 1 refl (whole !)))) (no-more !)))) (from ! (stop !))
+        (init ! 2 refl (tt, (wt .1 .0, ((record { fits = next-fits f u is }, tt), tt)))) $
+        assigns ! (agg ! (and-then ! (load ! (from ! (fld ! refl (stop !))) (look-in ! 10 (sub ! 0 refl (whole !))))
+        (and-then ! (load ! (from ! (stop !)) (look ! 2 refl)) (no-more !)))) (from ! (stop !))
+        (init ! 16 refl (tt, (record { fits = value-fits f u is }, ((wt .1 .0, ((record { fits = next-fits f u is }, tt), tt)), tt)))) $
+        returns ! (look ! 16 refl) $ forget ! 2 refl $ forget ! 4 refl $ forget ! 6 refl $ forget ! 8 refl $ forget ! 10 refl $ forget ! 12 refl $
+        forget ! 14 refl $ forget ! 16 refl $
+        move ! (16 ∷ 17 ∷ []) $ free1 ! $ move ! (14 ∷ 15 ∷ []) $ free1 ! $ move ! (12 ∷ 13 ∷ []) $ free1 ! $ move ! (10 ∷ 11 ∷ []) $ free1 ! $
+        move ! (8 ∷ 9 ∷ []) $ free1 ! $ move ! (6 ∷ 7 ∷ []) $ free1 ! $ move ! (4 ∷ 5 ∷ []) $ free1 ! $ move ! (2 ∷ 3 ∷ []) $ free1 ! $ free0 ! $
         by ! (exits f e (value-fits f u is) (next-fits f u is))))))))))))))
 
-module _ {M : Type 1} (𝓤 : URA M) (H : Heap 𝓤) (A : Atoms 𝓤) (W : Given 𝓤 H A) (mem : Memory → SProp 𝓤) (run : Routine → Fun 𝓤) (𝓣 : Tables 𝓤 H) (known : Triple 𝓤 (𝓣 .C #bits·Cursor·take) (Take 𝓤 H A mem run)) where
+module _ {M : Type 1} (𝓤 : URA M) (H : Heap 𝓤) (A : Atoms 𝓤) (W : Given 𝓤 H A) (mem : Memory → SProp 𝓤) (run : Routine → Fun 𝓤) (𝓣 : Tables 𝓤 H)
+    (known : Triple 𝓤 (𝓣 .C #bits·Cursor·take) (Take 𝓤 H A mem run)) where
   this-walks : Walks 𝓤 H A this.ended stayed (WpFn 𝓤 H (𝓣 .C) (𝓣 .Λ) code.function) (this.clauses 𝓤 H A mem run)
-  this-walks = walked 𝓤 H A this.ended stayed (this.clauses 𝓤 H A mem run) (WpFn 𝓤 H (𝓣 .C) (𝓣 .Λ) code.function) (λ κs. (LL.vals (B.the-type (lifetime (κs .0))) (B′.the-laws (lifetime (κs .0))), (uint-vals w64, tt))) (λ κs. (LL.tells (B.the-type (lifetime (κs .0))) (B′.the-laws (lifetime (κs .0))), (uint-tells w64, tt)))
+  this-walks = walked 𝓤 H A this.ended stayed (this.clauses 𝓤 H A mem run) (WpFn 𝓤 H (𝓣 .C) (𝓣 .Λ) code.function)
+      (λ κs. (LL.vals (B.the-type (lifetime (κs .0))) (B′.the-laws (lifetime (κs .0))), (uint-vals w64, tt)))
+      (λ κs. (LL.tells (B.the-type (lifetime (κs .0))) (B′.the-laws (lifetime (κs .0))), (uint-tells w64, tt)))
       (λ κs qs bounds a g are.
       let wt = LL.lawful (B.the-type (lifetime (κs .0))) (B′.the-laws (lifetime (κs .0))) 𝓤 H A W .typed (a .0) _ (are .0) .0 in
-      needs 𝓤 _ _ (walk 𝓤 H A W mem run (κs .0) (qs .0) (a .0 .bytes) (a .0 .cursor .at) (a .1 .0) (wt .1 .1 .0 .0 .fits) (are .1 .0 .1) (𝓣 .C) (𝓣 .Λ) (fmOf 𝓤 H (W .laws) 𝓣) known wt))
+      needs 𝓤 _ _ (walk 𝓤 H A W mem run (κs .0) (qs .0) (a .0 .bytes) (a .0 .cursor .at) (a .1 .0) (wt .1 .1 .0 .0 .fits) (are .1 .0 .1) (𝓣 .C)
+      (𝓣 .Λ) (fmOf 𝓤 H (W .laws) 𝓣) known wt))
 
 this-meets : {M : Type 1} (𝓤 : URA M) (H : Heap 𝓤) (A : Atoms 𝓤) (W : Given 𝓤 H A) (mem : Memory → SProp 𝓤) (run : Routine → Fun 𝓤) (𝓣 : Tables 𝓤 H)
     → Triple 𝓤 (𝓣 .C #bits·Cursor·take) (Take 𝓤 H A mem run)
     → Meets 𝓤 H A this.signature (WpFn 𝓤 H (𝓣 .C) (𝓣 .Λ) code.function) (this.spec 𝓤 H A mem run)
-this-meets 𝓤 H A W mem run 𝓣 known = walk-meets 𝓤 H A this.ended stayed W (goes-dropped 𝓤 H A W 1 (plain (λ κs. B.the-row (lifetime (κs .0)))) yes (λ κs x f. refl), (goes-dropped 𝓤 H A W 1 (plain (λ _. usize)) yes (λ κs x f. refl), tt))
+this-meets 𝓤 H A W mem run 𝓣 known = walk-meets 𝓤 H A this.ended stayed W (
+  goes-dropped 𝓤 H A W 1 (plain (λ κs. B.the-row (lifetime (κs .0)))) yes
+      (λ κs x f. refl),
+  (goes-dropped 𝓤 H A W 1 (plain (λ _. usize)) yes (λ κs x f. refl), tt),
+)
     (this.clauses 𝓤 H A mem run) (WpFn 𝓤 H (𝓣 .C) (𝓣 .Λ) code.function) (WpFn-mono 𝓤 H (W .laws) 𝓣 code.function) (this-walks 𝓤 H A W mem run 𝓣 known)
 
 pub take-spec : {M : Type 1} → stated.statement M

@@ -43,7 +43,7 @@ shared-slice-read-t11 : tie.Need-shared-slice-read-t11 Inv-loop μ-loop
 shared-slice-read-t11 c =
     let start = c .before .before .before .before .before .before in
     let s = start .before .before .before .before in
-    omega (arith, grouped-long _ _ _ (s .pre .grouped))
+    omega (arith, grouped-long (s .pre .grouped))
 
 cast-t15 : tie.Need-cast-t15 Inv-loop μ-loop
 cast-t15 c = omega (arith, c .shared-slice-known3 .given (c .before .before .before .before .before .before .loop .col))
@@ -57,8 +57,8 @@ cut-parts-requires : tie.Need-cut-parts-requires Inv-loop μ-loop
 cut-parts-requires c κs =
     let start = c .before .before .before .before .before .before .before .before in
     let s = start .before .before .before .before in
-    let is = grouped-at _ _ _ (s .pre .grouped) (start .loop .col) (search needs) in
-    let few = grouped-few _ _ _ (s .pre .grouped) in
+    let is = grouped-at (s .pre .grouped) (start .loop .col) (search needs) in
+    let few = grouped-few (s .pre .grouped) in
     let fits = row-fits _ _ _ _ _ _ _ (start .loop .inv .2) _ (search needs) is few (s .pre .room) (start .loop .inv .1) in
     (s .pre .grouped .cuts .some, s .pre .grouped .cuts .few, fits)
 
@@ -74,7 +74,7 @@ loop-again c =
     let behind = c .before .before .before .before .before .before .before in
     let start = behind .before .before .before .before in
     let s = start .before .before .before .before in
-    let is = grouped-at _ _ _ (s .pre .grouped) (start .loop .col) (search needs) in
+    let is = grouped-at (s .pre .grouped) (start .loop .col) (search needs) in
     let entered = entered-on _ _ _ _ _ _ _ (start .loop .inv .2) _ _ _ (search needs) (s .pre .inside) (behind .before .amount .ensures) (behind .behind .ensures .is) is in
     (search needs, search needs, entered _ _ _ refl refl refl (cut .cut-parts .ensures))
 

@@ -21,16 +21,16 @@ mul-cells : tie.Need-mul-cells
 mul-cells c =
     let entered = c .before .before .before .before .before in
     let s = entered .before .before .before .before .before in
-    let few = grouped-few _ _ _ (s .pre .grouped) in
-    let G = grouped-count _ _ _ (s .pre .grouped) in
+    let few = grouped-few (s .pre .grouped) in
+    let G = grouped-count (s .pre .grouped) in
     omega (arith, part-cell _ _ _ _ _ _ (entered .enter-columns .ensures) G (search needs) few)
 
 slice-write-cells : tie.Need-slice-write-cells
 slice-write-cells c =
     let entered = c .before .before .before .before .before in
     let s = entered .before .before .before .before .before in
-    let few = grouped-few _ _ _ (s .pre .grouped) in
-    let G = grouped-count _ _ _ (s .pre .grouped) in
+    let few = grouped-few (s .pre .grouped) in
+    let G = grouped-count (s .pre .grouped) in
     let inside = part-cell _ _ _ _ _ _ (entered .enter-columns .ensures) G (search needs) few in
     omega (arith, s .pre .room)
 
@@ -41,8 +41,8 @@ returns : tie.Need-returns
 returns c =
     let entered = c .before .before .before .before .before in
     let s = entered .before .before .before .before .before in
-    let few = grouped-few _ _ _ (s .pre .grouped) in
-    let G = grouped-count _ _ _ (s .pre .grouped) in
+    let few = grouped-few (s .pre .grouped) in
+    let G = grouped-count (s .pre .grouped) in
     part-last _ _ _ _ _ _ (entered .enter-columns .ensures) G (search needs) few (s .pre .room)
 
 same-length-2 : tie.Need-same-length-2
@@ -51,7 +51,7 @@ same-length-2 c = search needs
 returns-2 : tie.Need-returns-2
 returns-2 c =
     let entered = c .before .before .before .before in
-    let G = grouped-count _ _ _ (entered .before .before .before .before .before .pre .grouped) in
+    let G = grouped-count (entered .before .before .before .before .before .pre .grouped) in
     row-end _ _ _ _ _ _ (entered .enter-columns .ensures) G (search needs)
 
 pub number-parts-spec : {M : Type 1} → statement M

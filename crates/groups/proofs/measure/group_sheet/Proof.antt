@@ -11,7 +11,8 @@ use Rattle.groups.proofs.measure.group_sheet.Tie as tie
 narrow : (c : tie.After-measure-columns) → Narrow (take (c .before .before .before .before .args .p) (c .measure-columns .last .1 .1 .1 .0))
 narrow c =
     let s = c .before .before .before .before in
-    measured-narrow (s .args .p) (s .args .q) (s .args .amounts .now) _ _ (c .measure-columns .ensures) (s .pre .0 .sheet .p-low) (λ j. c .before .before .before .shared-slice-known .given j .fits)
+    let columns = s .pre .0 .sheet .p-low in
+    measured-narrow (s .args .p) (s .args .q) (s .args .amounts .now) _ _ (c .measure-columns .ensures) columns (λ j. c .before .before .before .shared-slice-known .given j .fits)
 
 measure-columns-requires : tie.Need-measure-columns-requires
 measure-columns-requires c κs = search needs
@@ -54,7 +55,9 @@ returns : tie.Need-returns
 returns c =
     let told = c .before .before .before .before .before .before .before in
     let s = told .before .before .before .before in
-    sheet-grouped _ (s .args .amounts .now) _ _ (s .pre .0) (told .measure-columns .ensures) (c .before .before .before .column-sum .ensures) (c .before .before .group-count .ensures) (c .column-sum2 .ensures)
+    let w = c .before .before .before .column-sum .ensures in
+    let groups = c .before .before .group-count .ensures in
+    sheet-grouped _ (s .args .amounts .now) _ _ (s .pre .0) (told .measure-columns .ensures) w groups (c .column-sum2 .ensures)
 
 pub group-sheet-spec : {M : Type 1} → statement M
 group-sheet-spec =

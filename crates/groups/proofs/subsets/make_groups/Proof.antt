@@ -7,14 +7,12 @@ use Rattle.groups.proofs.subsets.make_groups.Tie as tie
 number-inputs-requires : tie.Need-number-inputs-requires
 number-inputs-requires c κs =
     let s = c .before .before .before .before in
-    let a = s .args in
-    inputs-room (a .s) (a .bits .now) (a .members .now) (a .steps .now) (s .pre)
+    inputs-room (s .pre)
 
 make-squarings-requires : tie.Need-make-squarings-requires
 make-squarings-requires c κs =
     let s = c .before .before .before .before .before .before .before .before in
-    let a = s .args in
-    (inputs-room (a .s) (a .bits .now) (a .members .now) (a .steps .now) (s .pre) .columns, squares-room (a .s) (a .bits .now) (a .members .now) (a .steps .now) (s .pre))
+    (inputs-room (s .pre) .columns, squares-room (s .pre))
 
 slice-reshare-prefix-make-tables : tie.Need-slice-reshare-prefix-make-tables
 slice-reshare-prefix-make-tables c = search needs
@@ -23,15 +21,13 @@ slice-aggregate-make-tables : tie.Need-slice-aggregate-make-tables
 slice-aggregate-make-tables c =
     let numbered = c .before .before .before .before .before .before .before in
     let s = numbered .before .before .before .before .before in
-    let a = s .args in
-    listed-long (a .s) (a .bits .now) (a .members .now) (a .steps .now) (s .pre) _ (numbered .number-inputs .ensures)
+    listed-long (s .pre) (numbered .number-inputs .ensures)
 
 make-tables-requires : tie.Need-make-tables-requires
 make-tables-requires c κs =
     let numbered = c .before .before .before .before .before .before .before .before in
     let s = numbered .before .before .before .before .before in
-    let a = s .args in
-    tables-room (a .s) (a .bits .now) (a .members .now) (a .steps .now) (s .pre) _ (numbered .number-inputs .ensures) _ _ (c .before .before .before .before .make-squarings .ensures)
+    tables-room (s .pre) (numbered .number-inputs .ensures) (c .before .before .before .before .make-squarings .ensures)
 
 same-length : tie.Need-same-length
 same-length c = search needs
@@ -43,8 +39,8 @@ returns : tie.Need-returns
 returns c =
     let numbered = c .before .before .before .before .before .before .before .before .before .before .before in
     let s = numbered .before .before .before .before .before in
-    let a = s .args in
-    groups-made (a .s) (a .bits .now) (a .members .now) (a .steps .now) (s .pre) _ (numbered .number-inputs .ensures) _ _ (c .before .before .before .before .before .before .before .make-squarings .ensures) _ _ (c .before .before .make-tables .ensures)
+    let squared = c .before .before .before .before .before .before .before .make-squarings .ensures in
+    groups-made (s .pre) (numbered .number-inputs .ensures) squared (c .before .before .make-tables .ensures)
 
 pub make-groups-spec : {M : Type 1} → statement M
 make-groups-spec =

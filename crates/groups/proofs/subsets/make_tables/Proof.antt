@@ -69,13 +69,11 @@ make-table-requires c κs =
     let sized = c .before .before in
     let start = sized .before .before .before .before in
     let s = start .before .before .before in
-    let a = s .args in
     let is = sized .group-size .ensures in
-    let old = a .steps .now in
-    let small = table-small (a .s) (s .pre .cuts) (a .members .now) (s .pre .long) (start .loop .g) _ (search needs) is (stepsIn old (a .n)) old _ _ (start .loop .inv .2) in
-    let numbers = table-numbers (a .s) (s .pre .cuts) (a .members .now) (s .pre .long) (start .loop .g) _ (search needs) is (stepsIn old (a .n)) old _ _ (start .loop .inv .2) in
-    let room = table-room (a .s) (s .pre .cuts) (a .members .now) (s .pre .long) (start .loop .g) _ (search needs) is (stepsIn old (a .n)) old _ _ (start .loop .inv .2) in
-    ((search needs, search needs, small, numbers (s .pre .few)), room (a .n) (s .pre .room))
+    let small = table-small (s .pre) (start .loop .g) (search needs) is (start .loop .inv .2) in
+    let numbers = table-numbers (s .pre) (start .loop .g) (search needs) is (start .loop .inv .2) in
+    let room = table-room (s .pre) (start .loop .g) (search needs) is (start .loop .inv .2) in
+    ((search needs, search needs, small, numbers), room)
 
 add-g : tie.Need-add-g Inv-loop μ-loop
 add-g c = search needs
@@ -89,11 +87,9 @@ loop-again c =
     let sized = c .before .before .before .before .before in
     let start = sized .before .before .before .before in
     let s = start .before .before .before in
-    let a = s .args in
     let is = sized .group-size .ensures in
-    let old = a .steps .now in
-    let more = table-on (a .s) (s .pre .cuts) (a .members .now) (s .pre .long) (start .loop .g) _ (search needs) is (stepsIn old (a .n)) old _ _ (start .loop .inv .2) in
-    (search needs, search needs, more _ _ (made .make-table .ensures))
+    let more = table-on (s .pre) (start .loop .g) (search needs) is (start .loop .inv .2) in
+    (search needs, search needs, more (made .make-table .ensures))
 
 same-length : tie.Need-same-length Inv-loop μ-loop
 same-length c = search needs
@@ -102,7 +98,7 @@ returns : tie.Need-returns Inv-loop μ-loop
 returns c =
     let start = c .before .before in
     let a = start .before .before .before .args in
-    tables-end (a .s .p) (a .s .c) (a .members .now) (stepsIn (a .steps .now) (a .n)) (a .steps .now) _ _ (start .loop .g) (a .s .groups) (start .loop .inv .2) (search needs) (search needs)
+    tables-end (a .s) (a .members .now) (stepsIn (a .steps .now) (a .n)) (start .loop .g) (start .loop .inv .2) (search needs) (search needs)
 
 pub make-tables-spec : {M : Type 1} → statement M
 make-tables-spec =

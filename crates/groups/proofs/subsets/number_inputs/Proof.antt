@@ -37,16 +37,15 @@ number-column-requires : tie.Need-number-column-requires Inv-loop μ-loop
 number-column-requires c κs =
     let start = c .before .before .before in
     let s = start .before .before .before in
-    let bits = s .args .bits .now in
-    let room = number-room bits (s .args .cells .now) (s .pre) (start .loop .col) _ _ (start .loop .inv .2) (start .loop .inv .3) (search needs) in
-    let cells = column-room bits (s .args .cells .now) (s .pre) (start .loop .col) _ _ (start .loop .inv .2) (start .loop .inv .3) (search needs) in
+    let room = number-room (s .pre) (start .loop .col) (start .loop .inv .2) (start .loop .inv .3) (search needs) in
+    let cells = column-room (s .pre) (start .loop .col) (start .loop .inv .2) (start .loop .inv .3) (search needs) in
     (omega (arith, s .pre .columns), room, cells (start .loop .cells) (start .loop .inv .1))
 
 add-at : tie.Need-add-at Inv-loop μ-loop
 add-at c =
     let start = c .before .before .before .before .before .before in
     let s = start .before .before .before in
-    omega (arith, column-few (s .args .bits .now) (s .args .cells .now) (s .pre) (start .loop .col) _ _ (start .loop .inv .2) (start .loop .inv .3) (search needs))
+    omega (arith, column-few (s .pre) (start .loop .col) (start .loop .inv .2) (start .loop .inv .3) (search needs))
 
 lessened-requires : tie.Need-lessened-requires Inv-loop μ-loop
 lessened-requires c κs = search needs
@@ -55,7 +54,7 @@ add-first : tie.Need-add-first Inv-loop μ-loop
 add-first c =
     let start = c .before .before .before .before .before .before .before in
     let s = start .before .before .before in
-    let few = first-number (s .args .bits .now) (s .args .cells .now) (s .pre) (start .loop .col) _ _ (start .loop .inv .2) (start .loop .inv .3) (search needs) in
+    let few = first-number (s .pre) (start .loop .col) (start .loop .inv .2) (start .loop .inv .3) (search needs) in
     omega (arith, c .lessened .ensures)
 
 add-col : tie.Need-add-col Inv-loop μ-loop
@@ -69,11 +68,9 @@ loop-again c =
     let numbered = c .before .before .before in
     let start = numbered .before .before .before .before in
     let s = start .before .before .before in
-    let bits = s .args .bits .now in
-    let old = s .args .cells .now in
-    let on = column-on bits old (s .pre) (start .loop .col) _ _ (start .loop .inv .2) (start .loop .inv .3) (search needs) in
-    let next = first-on bits old (s .pre) (start .loop .col) _ _ (start .loop .inv .2) (start .loop .inv .3) (search needs) _ (c .lessened .ensures) in
-    let more = inputs-on bits old (s .pre) (start .loop .col) _ _ (start .loop .inv .2) (start .loop .inv .3) (search needs) _ _ (start .loop .inv .4) (numbered .number-column .ensures) in
+    let on = column-on (s .pre) (start .loop .col) (start .loop .inv .2) (start .loop .inv .3) (search needs) in
+    let next = first-on (s .pre) (start .loop .col) (start .loop .inv .2) (start .loop .inv .3) (search needs) (c .lessened .ensures) in
+    let more = inputs-on (s .pre) (start .loop .col) (start .loop .inv .2) (start .loop .inv .3) (search needs) (start .loop .inv .4) (numbered .number-column .ensures) in
     (search needs, search needs, on, next, more)
 
 same-length : tie.Need-same-length Inv-loop μ-loop
@@ -83,7 +80,7 @@ returns : tie.Need-returns Inv-loop μ-loop
 returns c =
     let start = c .before in
     let s = start .before .before .before in
-    inputs-end (s .args .bits .now) (s .args .cells .now) _ (start .loop .col) (start .loop .inv .4) (start .loop .inv .0) (c .loop-test .left)
+    inputs-end (s .args .bits .now) (s .args .cells .now) (start .loop .col) (start .loop .inv .4) (start .loop .inv .0) (c .loop-test .left)
 
 pub number-inputs-spec : {M : Type 1} → statement M
 number-inputs-spec =

@@ -73,14 +73,14 @@ entry-requires c κs =
     let a = s .args in
     let is = c .before .before .before .group-size .ensures in
     let at = number-fits (a .s) (s .pre .cuts) (a .g) _ (s .pre .inside) (c .before .table-count .ensures .low) in
-    let number = entry-number (a .s) (a .members .now) (a .g) (a .t) _ (s .pre) is _ at in
-    (search needs, search needs, search needs, number, entry-low (a .s) (a .members .now) (a .g) (a .t) _ (s .pre) is)
+    let number = entry-number (s .pre) is at in
+    (search needs, search needs, search needs, number, entry-low (s .pre) is)
 
 returns : tie.Need-returns
 returns c =
     let s = c .before .before .before .before .before .before .before in
     let a = s .args in
-    entry-told (a .s) (a .members .now) (a .g) (a .t) _ (s .pre) (c .before .before .before .before .group-size .ensures) _ _ (c .before .before .table-count .ensures .is) (c .entry .ensures)
+    entry-told (s .pre) (c .before .before .before .before .group-size .ensures) (c .before .before .table-count .ensures .is) (c .entry .ensures)
 
 pub part-value-spec : {M : Type 1} → statement M
 part-value-spec =

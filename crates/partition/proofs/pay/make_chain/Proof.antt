@@ -8,8 +8,7 @@ use Rattle.partition.proofs.pay.make_chain.Tie as tie
 make-groups-requires : tie.Need-make-groups-requires
 make-groups-requires c κs =
     let s = c .before .before .before .before .before .before .before .before in
-    let a = s .args in
-    begin-fits (a .s) (a .amounts .now) (a .bits .now) (s .pre .0 .0) (a .steps .now) (a .outputs .now) (s .pre .1) _ (s .pre .0 .1)
+    begin-fits (s .pre .grouped) (s .pre .fits) _ (s .pre .members-room)
 
 slice-reshare-prefix-make-payslips : tie.Need-slice-reshare-prefix-make-payslips
 slice-reshare-prefix-make-payslips c = search needs
@@ -18,17 +17,19 @@ slice-aggregate-make-payslips : tie.Need-slice-aggregate-make-payslips
 slice-aggregate-make-payslips c =
     let grouped = c .before .before .before .before .before in
     let s = grouped .before .before .before .before .before .before .before .before .before in
-    let a = s .args in
-    sheet-long (a .s) (a .amounts .now) (a .bits .now) (s .pre .0 .0) _ _ _ _ _ (grouped .make-groups .ensures)
+    sheet-long (s .pre .grouped) (grouped .make-groups .ensures)
 
 make-payslips-requires : tie.Need-make-payslips-requires
 make-payslips-requires c κs =
     let grouped = c .before .before .before .before .before .before .before .before in
     let s = grouped .before .before .before .before .before .before .before .before .before in
-    let a = s .args in
-    let are = sheet-inputs (a .s) (a .amounts .now) (a .bits .now) (s .pre .0 .0) _ _ _ _ _ (grouped .make-groups .ensures) in
-    let room = slips-room (a .s) (a .amounts .now) (a .bits .now) (s .pre .0 .0) (a .steps .now) (a .outputs .now) (s .pre .1) _ _ _ _ (grouped .make-groups .ensures) in
-    ((record { grouped = s .pre .0 .0; members-are = are; room = s .pre .0 .2 }, s .pre .1 .outputs-fit), room)
+    let are = sheet-inputs (s .pre .grouped) (grouped .make-groups .ensures) in
+    let room = slips-room (s .pre .grouped) (s .pre .fits) (grouped .make-groups .ensures) in
+    record {
+      ready = record { grouped = s .pre .grouped; members-are = are; room = s .pre .cells-room };
+      outputs-fit = s .pre .fits .outputs-fit;
+      room = room;
+    }
 
 same-length : tie.Need-same-length
 same-length c = search needs
@@ -46,8 +47,7 @@ returns : tie.Need-returns
 returns c =
     let grouped = c .before .before .before .before .before .before .before .before .before .before .before .before .before .before .before in
     let s = grouped .before .before .before .before .before .before .before .before .before in
-    let a = s .args in
-    chain-whole (a .s) (a .amounts .now) (a .bits .now) (s .pre .0 .0) (a .steps .now) (a .outputs .now) (s .pre .1) _ _ _ _ (grouped .make-groups .ensures) _ _ (c .before .before .before .before .before .before .make-payslips .ensures)
+    chain-whole (s .pre .grouped) (s .pre .fits) (grouped .make-groups .ensures) (c .before .before .before .before .before .before .make-payslips .ensures)
 
 pub make-chain-spec : {M : Type 1} → statement M
 make-chain-spec =

@@ -21,22 +21,24 @@ abbrev μ-loop : tie.MeasureT-loop
 μ-loop s members numbers n steps₀ r₀ g₀ steps r g = s .groups - g
 
 loop-holds : tie.Need-loop-holds Inv-loop μ-loop
-loop-holds c = (search needs, search needs, search emitted-own)
+loop-holds c =
+    let s = c .before .before .before in
+    (search needs, search needs, emitted-own _ _ _ _ _ (s .pre .room))
 
 mul-part-value : tie.Need-mul-part-value Inv-loop μ-loop
 mul-part-value c =
     let start = c .before .before in
-    omega (arith, start .before .before .before .before .pre .0 .cuts .groups-few)
+    omega (arith, start .before .before .before .before .pre .numbered .cuts .groups-few)
 
 shared-slice-read-part-value : tie.Need-shared-slice-read-part-value Inv-loop μ-loop
 shared-slice-read-part-value c =
     let start = c .before .before .before in
-    omega (arith, start .before .before .before .before .pre .0 .numbers-long)
+    omega (arith, start .before .before .before .before .pre .numbered .numbers-long)
 
 part-value-requires : tie.Need-part-value-requires Inv-loop μ-loop
 part-value-requires c κs =
     let start = c .before .before .before in
-    let pre = start .before .before .before .before .pre .0 in
+    let pre = start .before .before .before .before .pre .numbered in
     record { cuts = pre .cuts; long = pre .members-long; inside = search needs; part = pre .numbers-low (start .loop .g) (search needs) }
 
 times-requires : tie.Need-times-requires Inv-loop μ-loop
@@ -46,8 +48,10 @@ times-requires c κs =
     let s = start .before .before .before .before in
     let a = s .args in
     let steps = a .steps .now in
-    let room = part-room (a .s) (a .members .now) (countsOf (a .numbers .now)) (stepsIn steps (a .n)) steps _ _ _ (start .loop .g) _ (start .loop .inv .2) (valued .part-value .ensures) in
-    room (a .n) (s .pre .1) (search needs)
+    let before = stepsIn steps (a .n) in
+    let number = countsOf (a .numbers .now) in
+    let room = part-room (a .s) (a .members .now) number before steps _ _ _ (start .loop .g) _ (start .loop .inv .2) (valued .part-value .ensures) in
+    room (a .n) (s .pre .room) (search needs)
 
 add-g : tie.Need-add-g Inv-loop μ-loop
 add-g c = search needs
@@ -63,7 +67,9 @@ loop-again c =
     let s = start .before .before .before .before in
     let a = s .args in
     let steps = a .steps .now in
-    let more = part-on (a .s) (a .members .now) (countsOf (a .numbers .now)) (stepsIn steps (a .n)) steps _ _ _ (start .loop .g) _ (start .loop .inv .2) (valued .part-value .ensures) in
+    let before = stepsIn steps (a .n) in
+    let number = countsOf (a .numbers .now) in
+    let more = part-on (a .s) (a .members .now) number before steps _ _ _ (start .loop .g) _ (start .loop .inv .2) (valued .part-value .ensures) in
     (search needs, search needs, more _ _ _ (timed .times .ensures))
 
 same-length : tie.Need-same-length Inv-loop μ-loop
@@ -73,7 +79,9 @@ returns : tie.Need-returns Inv-loop μ-loop
 returns c =
     let start = c .before .before in
     let a = start .before .before .before .before .args in
-    parts-end (a .s) (a .members .now) (countsOf (a .numbers .now)) (stepsIn (a .steps .now) (a .n)) (a .steps .now) _ _ _ (start .loop .g) (start .loop .inv .2) (search needs) (search needs)
+    let steps = a .steps .now in
+    let number = countsOf (a .numbers .now) in
+    parts-end (a .s) (a .members .now) number (stepsIn steps (a .n)) steps _ _ _ (start .loop .g) (start .loop .inv .2) (search needs) (search needs)
 
 pub make-parts-spec : {M : Type 1} → statement M
 make-parts-spec =

@@ -30,9 +30,9 @@ make-parts-requires c κs =
     let numbers : List ℕ = take (a .s .groups) (numbered .number-parts .last .1 .1 .1 .1 .0) in
     let at = numbers-at (a .s) (a .amounts .now) (a .i) _ _ (numbered .number-parts .ensures) in
     let long = numbers-long (a .s) (a .amounts .now) (a .i) _ _ (numbered .number-parts .ensures) in
-    let same = payslip-is (a .s) (a .amounts .now) (a .bits .now) (a .members .now) (a .cells .now) (s .pre .0 .0) (a .i) numbers at (stepsIn (a .steps .now) (a .n)) in
-    let ready = payslip-numbered (a .s) (a .amounts .now) (a .bits .now) (a .members .now) (a .cells .now) (s .pre .0 .0) (a .i) numbers at (sym long) in
-    (ready, rw same (s .pre .1))
+    let same = payslip-is (s .pre .ready) (a .i) numbers at (stepsIn (a .steps .now) (a .n)) in
+    let ready = payslip-numbered (s .pre .ready) (a .i) numbers at (sym long) in
+    record { numbered = ready; room = rw same (s .pre .room) }
 
 same-length : tie.Need-same-length
 same-length c = search needs
@@ -48,7 +48,7 @@ returns c =
     let a = s .args in
     let numbers : List ℕ = take (a .s .groups) (numbered .number-parts .last .1 .1 .1 .1 .0) in
     let at = numbers-at (a .s) (a .amounts .now) (a .i) _ _ (numbered .number-parts .ensures) in
-    let same = payslip-is (a .s) (a .amounts .now) (a .bits .now) (a .members .now) (a .cells .now) (s .pre .0 .0) (a .i) numbers at (stepsIn (a .steps .now) (a .n)) in
+    let same = payslip-is (s .pre .ready) (a .i) numbers at (stepsIn (a .steps .now) (a .n)) in
     rw (← same) (made .make-parts .ensures)
 
 pub make-payslip-spec : {M : Type 1} → statement M

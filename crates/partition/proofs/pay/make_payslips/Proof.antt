@@ -1,11 +1,14 @@
 -- The loop keeps methods' state of payslips emitted one after the other, and the cells' number.
 use borrow.Author.Needs.{needs}
-use Prim.Native.Nat.{_-_, _≤_}
+use Prim.Native.Nat.{_-_, _≤_, ℕ}
 use mathlib.Core.Path.{_≡_}
 use Rattle.products.specs.Inner.{stepsIn}
 use Rattle.methods.proofs.Paying.{Paying, paying-start, paying-room, paying-on, paying-end}
 use lib.ListN.{length}
 use native.Mathlib.Omega.{arith}
+use mathlib.Core.List.{List}
+use Rattle.chain.specs.declared.Step.{Step}
+use Rattle.products.proofs.Sound.{Begins}
 use Rattle.groups.specs.Groups.{mostInputs}
 use Rattle.partition.specs.Inner.{payslipOf}
 use Rattle.partition.proofs.Paying.{payslip-begins}
@@ -19,20 +22,26 @@ Inv-loop s amounts bits members n cells₀ steps₀ outputs₀ end₀ i₀ cells
 abbrev μ-loop : tie.MeasureT-loop
 μ-loop s amounts bits members n cells₀ steps₀ outputs₀ end₀ i₀ cells steps outputs end i = s .q - i
 
+-- a payslip only appends steps
+each : (s : tie.Start Inv-loop μ-loop) (i : ℕ) (before : List Step) → Begins before (payslipOf (s .args .s) (s .args .amounts .now) i before .steps)
+each s = payslip-begins (s .args .s .p) (s .args .s .q) (s .args .amounts .now) (s .args .s .c)
+
 loop-holds : tie.Need-loop-holds Inv-loop μ-loop
 loop-holds c =
     let s = c .before .before .before .before .before .before in
     let a = s .args in
-    (paying-start (a .s .p) (a .s .q) (payslipOf (a .s) (a .amounts .now)) (a .steps .now) (a .outputs .now) (a .n) (s .pre .1) (s .pre .0 .1), search needs)
+    let slip = payslipOf (a .s) (a .amounts .now) in
+    (paying-start (a .s .p) (a .s .q) slip (a .steps .now) (a .outputs .now) (a .n) (s .pre .room) (s .pre .outputs-fit), search needs)
 
 make-payslip-requires : tie.Need-make-payslip-requires Inv-loop μ-loop
 make-payslip-requires c κs =
     let start = c .before .before .before .before in
     let s = start .before .before .before .before .before .before .before in
     let a = s .args in
-    let pre = s .pre .0 .0 in
+    let pre = s .pre .ready in
     let room : mostInputs ≤ length (start .loop .cells) = omega (arith, start .loop .inv .1, pre .room) in
-    ((record { grouped = pre .grouped; members-are = pre .members-are; room = room }, search needs), paying-room (payslipOf (a .s) (a .amounts .now)) (payslip-begins (a .s .p) (a .s .q) (a .amounts .now) (a .s .c)) (start .loop .inv .0) (s .pre .1) (search needs))
+    let after = paying-room (payslipOf (a .s) (a .amounts .now)) (each s) (start .loop .inv .0) (s .pre .room) (search needs) in
+    record { ready = record { grouped = pre .grouped; members-are = pre .members-are; room = room }; inside = search needs; room = after }
 
 mul-outputs : tie.Need-mul-outputs Inv-loop μ-loop
 mul-outputs c = search needs
@@ -52,7 +61,8 @@ loop-again c =
     let start = c .before .before .before .before .before .before .before .before .before in
     let s = start .before .before .before .before .before .before .before in
     let a = s .args in
-    (paying-on (payslipOf (a .s) (a .amounts .now)) (payslip-begins (a .s .p) (a .s .q) (a .amounts .now) (a .s .c)) (start .loop .inv .0) (s .pre .1) (search needs) (paid .make-payslip .ensures), search needs)
+    let more = paying-on (payslipOf (a .s) (a .amounts .now)) (each s) (start .loop .inv .0) (s .pre .room) (search needs) in
+    (more (paid .make-payslip .ensures), search needs)
 
 same-length : tie.Need-same-length Inv-loop μ-loop
 same-length c = search needs

@@ -25,12 +25,12 @@ payslip-count-requires : tie.Need-payslip-count-requires Inv-loop μ-loop
 payslip-count-requires c κs =
     let start = c .before .before .before in
     let s = start .before .before .before .before in
-    record { grouped = s .pre .0; inside = search needs; room = omega (arith, start .loop .inv .1, s .pre .1) }
+    record { grouped = s .pre .grouped; inside = search needs; room = omega (arith, start .loop .inv .1, s .pre .room) }
 
 add-n : tie.Need-add-n Inv-loop μ-loop
 add-n c =
     let start = c .before .before .before .before .before .before in
-    omega (arith, c .before .before .payslip-count .ensures .low, start .loop .inv .3, start .before .before .before .before .pre .0 .sheet .q-low)
+    omega (arith, c .before .before .payslip-count .ensures .low, start .loop .inv .3, start .before .before .before .before .pre .grouped .sheet .q-low)
 
 add-i : tie.Need-add-i Inv-loop μ-loop
 add-i c = search needs

@@ -1,5 +1,6 @@
 -- Sums and maxima over the numbers below a bound, by induction on the bound: term by term, split in two, bounded, exchanged.
 use mathlib.Core.Path.{_≡_, refl, sym, ap, ap₂, _∙_}
+use mathlib.Core.Logic.{_↔_}
 use Prim.Native.Nat.{ℕ, zero, suc, _+_, _-_, _*_, _≤_, _<_, max, zero-le}
 use native.Mathlib.Nat.{add-mul, suc-mul, zero-mul, le-refl}
 use native.Mathlib.Decide.{decLt}
@@ -48,6 +49,10 @@ le-sum (suc n) f i h = by-place (le-sum n f i) (decLt i n)
         let last : i ≡ n = omega arith in
         rw last (omega arith)
 
+-- a sum is 0 exactly if each part is
+pub sum-none : (n : ℕ) (f : ℕ → ℕ) → sumTo n f ≡ 0 ↔ ((i : ℕ) → i < n → f i ≡ 0)
+sum-none n f = (λ e i h. omega (arith, le-sum n f i h), sum-zero n f)
+
 -- a sum of which only one part is not 0
 pub sum-single : (n : ℕ) (f : ℕ → ℕ) (j : ℕ) → j < n → ((i : ℕ) → i < n → (i ≡ j → ⊥) → f i ≡ 0) → sumTo n f ≡ f j
 sum-single zero f j h none = absurd (omega arith)
@@ -88,6 +93,10 @@ le-max (suc n) f i h = by-place (le-max n f i) (decLt i n)
 pub max-low : (n : ℕ) (f : ℕ → ℕ) (limit : ℕ) → ((i : ℕ) → i < n → f i ≤ limit) → maxTo n f ≤ limit
 max-low zero f limit h = zero-le
 max-low (suc n) f limit h = omega (arith, max-low n f limit (λ i g. h i (omega arith)), h n (omega arith))
+
+-- a maximum is 0 exactly if each number is
+pub max-none : (n : ℕ) (f : ℕ → ℕ) → maxTo n f ≡ 0 ↔ ((i : ℕ) → i < n → f i ≡ 0)
+max-none n f = (λ e i h. omega (arith, le-max n f i h), λ none. omega (arith, max-low n f 0 (λ i h. omega (arith, none i h))))
 
 -- a maximum that is not 0 is one of the numbers
 pub record Attained (n : ℕ) (f : ℕ → ℕ) : Type 0 where

@@ -1,6 +1,7 @@
 pub mod Bases
 pub mod Horner
 pub mod Payslip
+pub mod Zero
 pub mod Straus
 pub mod Counting
 pub mod Emitting

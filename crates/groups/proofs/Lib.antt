@@ -5,6 +5,7 @@ pub mod Members
 pub mod Parts
 pub mod Prepared
 pub mod Counting
+pub mod Squarings
 pub mod Numbering
 pub mod Rows
 pub mod Measured

@@ -9,7 +9,7 @@ use lib.Pow.{pow-pos}
 use Rattle.chain.specs.declared.Step.{Step}
 use Rattle.digits.specs.Digits.{digit}
 use Rattle.digits.specs.Range.{sumTo, maxTo, sign}
-use Rattle.digits.proofs.Range.{sum-same, sum-zero, sum-add, sum-sign, max-sign, max-low, sign-mono, sign-sign, sign-add, sign-mul, signs-low}
+use Rattle.digits.proofs.Range.{sum-same, sum-zero, sum-add, sum-sign, max-sign, max-low, max-none, sign-mono, sign-sign, sign-add, sign-mul, signs-low}
 use Rattle.digits.proofs.Vector.{digit-low, digit-zero, vector-own}
 use Rattle.products.specs.Product.{Made, made}
 use Rattle.products.proofs.Product.{times-cost, times-spent}
@@ -105,9 +105,15 @@ module _ (p k : ℕ) (power : ℕ → ℕ) (x J : ℕ) (before : List Step) (som
       ∙ sym (sum-sign J (λ j. digit k x j * 2 ^ (k * j)) (digit k x) (λ j g. sign-mul (digit k x j) (2 ^ (k * j)) (pow-pos (k * j))))
       ∙ ap sign (vector-own k x J short)
 
+-- an amount with no digit but 0 takes no step, so 0 takes none
+pub no-digits : (k J x : ℕ) → ((j : ℕ) → j < J → digit k x j ≡ 0) → amountCount k J x ≡ 0
+no-digits k J x none = omega (arith, sum-zero J (λ j. sign (digit k x j)) (λ j g. ap sign (none j g)), max-none J (digit k x) .1 none)
+
+pub zero-amount : (k J : ℕ) → amountCount k J 0 ≡ 0
+zero-amount k J = no-digits k J 0 (λ j h. digit-zero k j)
+
 -- the cost of an amount keeps to its ceiling
 pub amount-ceiling : (k J x : ℕ) → amountCount k J x ≤ sign x * (J + 2 ^ k - 3)
-amount-ceiling k J zero =
-    omega (arith, sum-zero J (λ j. sign (digit k 0 j)) (λ j g. ap sign (digit-zero k j)), max-low J (digit k 0) 0 (λ j g. omega (arith, digit-zero k j)))
+amount-ceiling k J zero = omega (arith, zero-amount k J)
 amount-ceiling k J (suc x) =
     omega (arith, signs-low J (digit k (suc x)), largest-low k (suc x) J, one-mul (J + 2 ^ k - 3))

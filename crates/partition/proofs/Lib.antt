@@ -1,5 +1,6 @@
 pub mod Parts
 pub mod Partition
+pub mod Ceiling
 pub mod Joining
 pub mod Paying
 pub mod Whole

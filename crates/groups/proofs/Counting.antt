@@ -1,5 +1,6 @@
 -- Groups and tables counted: division rounds up to no more groups than inputs, each begins inside the inputs, and a full group's table is the longest.
 use mathlib.Core.Path.{_≡_, ap, _∙_}
+use mathlib.Core.Logic.{_↔_}
 use mathlib.Core.List.{List}
 use Prim.Native.Nat.{ℕ, zero, suc, _+_, _-_, _*_, _^_, _≤_, _<_}
 use native.Mathlib.Decide.{decLe}
@@ -37,12 +38,16 @@ module _ (bits : List ℕ) (less col s : ℕ) (e : s ≡ lessTo bits less col) w
   pub less-end : col ≤ length bits → length bits ≤ col → s ≡ lessTo bits less (length bits)
   less-end h g = let last : length bits ≡ col = omega arith in rw last e
 
+-- w/c rounded up: the least number of groups of c that hold w inputs
+pub rounded-up : (c w g : ℕ) → 1 ≤ c → groupCount c w ≤ g ↔ w ≤ g * c
+rounded-up c w g some = (
+  λ few. let low = div-lt-iff-lt-mul {x = w + c - 1} {y = suc g} some .0 (omega arith) in omega (arith, suc-mul g c),
+  λ room. let few : groupCount c w < suc g = div-lt-iff-lt-mul some .1 (omega (arith, suc-mul g c)) in omega arith,
+)
+
 -- there are no more groups than inputs
 pub groups-low : (c w : ℕ) → 1 ≤ c → groupCount c w ≤ w
-groups-low c w some =
-    let wide : w * 1 ≤ w * c = mul-le-mul-left w some in
-    let few : groupCount c w < suc w = div-lt-iff-lt-mul some .1 (omega (arith, suc-mul w c)) in
-    omega arith
+groups-low c w some = rounded-up c w w some .1 (omega (arith, mul-le-mul-left w some))
 
 pub groups-few : (c w : ℕ) → 1 ≤ c → w ≤ mostInputs → groupCount c w ≤ mostInputs
 groups-few c w some few = omega (arith, groups-low c w some)

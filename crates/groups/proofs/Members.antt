@@ -1,7 +1,7 @@
 -- An input makes its column's power of two, so a sum over inputs looks at one column at a time, and the bits of an amount add up to the amount.
 use mathlib.Core.Path.{_≡_, sym, ap, _∙_}
 use mathlib.Core.List.{List}
-use Prim.Native.Nat.{ℕ, zero, suc, _+_, _-_, _*_, _^_, _≤_, _<_}
+use Prim.Native.Nat.{ℕ, zero, suc, _+_, _*_, _^_, _≤_, _<_}
 use native.Mathlib.Nat.{mul-comm, mul-assoc, one-mul, lt-of-le-of-lt, le-refl, pow-suc}
 use native.Mathlib.Omega.{arith}
 use lib.ListN.{length, getD}
@@ -12,7 +12,7 @@ use Rattle.digits.specs.Digits.{digit}
 use Rattle.digits.specs.Range.{sumTo}
 use Rattle.digits.proofs.Range.{sum-same, sum-mul, le-max, max-low}
 use Rattle.digits.proofs.Count.{bits-low, low-bits}
-use Rattle.digits.proofs.Vector.{delta, digit-low, sum-delta, vector-own}
+use Rattle.digits.proofs.Vector.{delta, digit-low, digit-zero, sum-delta, vector-own}
 use Rattle.sheet.specs.Sheet.{amount}
 use Rattle.methods.specs.Powers.{largestIn, squarings, powerOf}
 use Rattle.methods.proofs.Powers.{Powers, power-some}
@@ -44,6 +44,16 @@ module _ (p q : ℕ) (amounts : List ℕ) where
       let f : ℕ → ℕ → ℕ = λ col k. digit 1 (amount p amounts i col) k in
       let r : Place bits p j = place bits p j (omega (arith, length-over bits f p)) in
       rw (r .here, getD-over bits f p (r .column) (r .power) (r .column-low) (r .power-low)) (digit-low 1 (amount p amounts i (r .column)) (r .power))
+
+  -- where the payslip is all 0 it takes none
+  pub selection-none : (i : ℕ) → ((d : ℕ) → d < p → amount p amounts i d ≡ 0)
+      → (j : ℕ) → j < length (selection p q amounts i) → getD (selection p q amounts i) j 0 ≡ 0
+  unfolding selection
+  selection-none i none j h =
+      let f : ℕ → ℕ → ℕ = λ col k. digit 1 (amount p amounts i col) k in
+      let r : Place bits p j = place bits p j (omega (arith, length-over bits f p)) in
+      rw (r .here, getD-over bits f p (r .column) (r .power) (r .column-low) (r .power-low), none (r .column) (r .column-low))
+      (digit-zero 1 (r .power))
 
   pub members-some : (j : ℕ) → j < length (inputs p q amounts) → 0 < getD (inputs p q amounts) j 0
   unfolding inputs

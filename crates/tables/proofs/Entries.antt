@@ -26,7 +26,7 @@ abbrev pub combined : ℕ → ℕ → (ℕ → ℕ → ℕ) → ℕ → ℕ → 
 combined k n x t c = sumTo n (λ j. digit k t j * x j c)
 
 module _ (k n : ℕ) (some : 0 < k) (x : ℕ → ℕ → ℕ) (c : ℕ) where
-  combined-zero : combined k n x 0 c ≡ 0
+  pub combined-zero : combined k n x 0 c ≡ 0
   combined-zero = sum-zero n _ (λ j h. ap (λ (d : ℕ). d * x j c) (digit-zero k j) ∙ zero-mul (x j c))
 
   combined-unit : (d : ℕ) → d < n → combined k n x (2 ^ (k * d)) c ≡ x d c

@@ -1,4 +1,4 @@
--- What is subtracted is there where something is not 0, and all 0 nothing is left: so no amount or payslip needs a case of its own (Spec 3.6).
+-- What is subtracted is there where something is not 0, and all 0 gives 0: so neither amount nor payslip needs a case of its own (Spec 3.6).
 use mathlib.Core.Path.{_≡_, ap}
 use mathlib.Core.List.{List}
 use Prim.Native.Nat.{ℕ, _+_, _<_}

@@ -22,8 +22,10 @@ fn make_file(
     bytes: &mut [u8],
 ) -> Written
     requires { ⌜ 2 ≤ length (now numbers) ⌝ }
-    ensures { λ r. ⌜ writtenOf r ≡ madeAnswer (now (numbers .entry)) method k (length (now (steps .entry)) / 2) (length (now (outputs .entry))) (length (now (bytes .entry))) ⌝ }
-    ensures { λ r. ⌜ now (bytes .exit) ≡ madeBytes (now (numbers .entry)) method k (length (now (steps .entry)) / 2) (length (now (outputs .entry))) (now (bytes .entry)) ⌝ }
+    ensures { λ r. ⌜ writtenOf r ≡ madeAnswer (now (numbers .entry)) method k (length (now (steps .entry)) / 2) (length (now (outputs .entry)))
+        (length (now (bytes .entry))) ⌝ }
+    ensures { λ r. ⌜ now (bytes .exit) ≡ madeBytes (now (numbers .entry)) method k (length (now (steps .entry)) / 2) (length (now (outputs .entry)))
+        (now (bytes .entry)) ⌝ }
 {
     let p = desk::size(numbers[0]);
     let q = desk::size(numbers[1]);

@@ -117,7 +117,8 @@ fn put_refused(number: u32, text: &mut [u8]) -> usize
 
 // The amounts of column c at the outputs, into the column's cells of the table.
 fn gather(c: usize, outputs: &[u32], values: &[u32], table: &mut [u32])
-    requires { ⌜ (c < mostColumns) × (length (now outputs) ≤ mostPayslips) × (length (now table) ≡ tableSize) × ((i : ℕ) → i < length (now outputs) → getD (now outputs) i 0 < length (now values)) ⌝ }
+    requires { ⌜ (c < mostColumns) × (length (now outputs) ≤ mostPayslips) × (length (now table) ≡ tableSize) ×
+        ((i : ℕ) → i < length (now outputs) → getD (now outputs) i 0 < length (now values)) ⌝ }
     ensures { λ r. ⌜ now (table .exit) ≡ laid (mostPayslips * c) (pick (now (values .entry)) (now (outputs .entry))) (now (table .entry)) ⌝ }
 {
     chain::show(outputs, values, &mut table[chain::MOST_PAYSLIPS * c..]);
@@ -131,9 +132,12 @@ fn measure(
     scratch: &mut [u32],
     table: &mut [u32],
 ) -> Judgement
-    requires { ⌜ (p ≤ mostColumns) × (stepsRule p 1 (pairs (now steps)) ≡ fine) × (outputsRule (p + length (pairs (now steps))) 1 (now outputs) ≡ fine) × (length (now outputs) ≤ mostPayslips) × (p + length (now steps) / 2 < length (now scratch)) × (length (now table) ≡ tableSize) ⌝ }
+    requires { ⌜ (p ≤ mostColumns) × (stepsRule p 1 (pairs (now steps)) ≡ fine) ×
+        (outputsRule (p + length (pairs (now steps))) 1 (now outputs) ≡ fine) × (length (now outputs) ≤ mostPayslips) ×
+        (p + length (now steps) / 2 < length (now scratch)) × (length (now table) ≡ tableSize) ⌝ }
     ensures { λ r. ⌜ verdictOf r ≡ exponentsRule p (pairs (now (steps .entry))) ⌝ }
-    ensures { λ r. ⌜ (verdictOf r ≡ fine → TableHolds (now (table .exit)) (length (now (outputs .entry))) p (λ i c. exponentOf p (pairs (now (steps .entry))) c (getD (now (outputs .entry)) i 0))) ⌝ }
+    ensures { λ r. ⌜ (verdictOf r ≡ fine → TableHolds (now (table .exit)) (length (now (outputs .entry))) p
+        (λ i c. exponentOf p (pairs (now (steps .entry))) c (getD (now (outputs .entry)) i 0))) ⌝ }
 {
     let mut large: usize = 0;
     let mut c: usize = 0;
@@ -157,9 +161,12 @@ fn measure_file(
     scratch: &mut [u32],
     table: &mut [u32],
 ) -> Reading
-    requires { ⌜ (length (now steps) ≡ 2 * mostSteps) × (length (now outputs) ≡ mostPayslips) × (length (now scratch) ≡ mostColumns + mostSteps + 1) × (length (now table) ≡ tableSize) ⌝ }
-    ensures { λ r. ⌜ readOf r ≡ answer (listingRule (now (bytes .entry))) (columnsOf (now (bytes .entry)) ∷ payslipsOf (now (bytes .entry)) ∷ lengthOf edition1 (now (bytes .entry)) ∷ []) ⌝ }
-    ensures { λ r. ⌜ (listingRule (now (bytes .entry)) ≡ fine → TableHolds (now (table .exit)) (payslipsOf (now (bytes .entry))) (columnsOf (now (bytes .entry))) (amountOf (now (bytes .entry)))) ⌝ }
+    requires { ⌜ (length (now steps) ≡ 2 * mostSteps) × (length (now outputs) ≡ mostPayslips) × (length (now scratch) ≡ mostColumns + mostSteps + 1) ×
+        (length (now table) ≡ tableSize) ⌝ }
+    ensures { λ r. ⌜ readOf r ≡ answer (listingRule (now (bytes .entry)))
+        (columnsOf (now (bytes .entry)) ∷ payslipsOf (now (bytes .entry)) ∷ lengthOf edition1 (now (bytes .entry)) ∷ []) ⌝ }
+    ensures { λ r. ⌜ (listingRule (now (bytes .entry)) ≡ fine → TableHolds (now (table .exit)) (payslipsOf (now (bytes .entry)))
+        (columnsOf (now (bytes .entry))) (amountOf (now (bytes .entry)))) ⌝ }
 {
     if MOST_BYTES < bytes.len() {
         return Reading::Refused(6, 0);

@@ -14,11 +14,13 @@ use Rattle.text.specs.Text.{spotOf}
 use Rattle.messages.specs.Messages.{atWord, colonWord, reason, placeText, spotText, unreadable, tooLarge, noRoom, faultText}
 
 -- a colon, words and a newline
-pub put-reasoned : (at : ℕ) (words l : List ℕ) (m : ℕ) (l′ : List ℕ) (e : ℕ) (l″ : List ℕ) → Put at colonWord l m l′ → Put m words l′ e l″ → at + length words + 3 ≤ length l
+pub put-reasoned : (at : ℕ) (words l : List ℕ) (m : ℕ) (l′ : List ℕ) (e : ℕ)
+    (l″ : List ℕ) → Put at colonWord l m l′ → Put m words l′ e l″ → at + length words + 3 ≤ length l
     → Put at (reason words) l (e + 1) (set l″ e newline)
 unfolding reason
 put-reasoned at words l m l′ e l″ w v room =
-    rw (append-assoc colonWord words (newline ∷ [])) at (put-one at (colonWord ++ words) l e l″ (put-more at colonWord l m l′ w words e l″ (omega arith) v) newline (omega (arith, length-append colonWord words)))
+    rw (append-assoc colonWord words (newline ∷ [])) at
+    (put-one at (colonWord ++ words) l e l″ (put-more at colonWord l m l′ w words e l″ (omega arith) v) newline (omega (arith, length-append colonWord words)))
 
 -- no place
 pub put-no-place : (place at : ℕ) (l : List ℕ) → place ≡ 0 → Put at (placeText place) l at l

@@ -21,7 +21,8 @@ pub fn count(p: usize, q: usize, amounts: &[u32], c: usize) -> usize
 pub fn emit(p: usize, q: usize, amounts: &[u32], c: usize, steps: &mut [u32], outputs: &mut [u32])
     requires { ⌜ Asked mostMembers p q (now amounts) c ⌝ }
     requires { ⌜ ChainRoom q (partitionCount p q (now amounts) c) (now steps) (now outputs) ⌝ }
-    ensures { λ r. ⌜ ChainStored (now (steps .entry)) (now (outputs .entry)) (now (steps .exit)) (now (outputs .exit)) (partition p q (now (amounts .entry)) c) ⌝ }
+    ensures { λ r. ⌜ ChainStored (now (steps .entry)) (now (outputs .entry)) (now (steps .exit)) (now (outputs .exit))
+        (partition p q (now (amounts .entry)) c) ⌝ }
 {
     let mut bits = [0u32; chain::MOST_COLUMNS];
     let s = groups::measure::group_sheet(p, q, amounts, c, &mut bits);

@@ -113,7 +113,8 @@ fn multiply(p: usize, steps: &[u32], m: u32, cells: &mut [u32])
 
 // All values of the chain, over the front of the slice.
 fn fill(p: usize, steps: &[u32], m: u32, bases: &[u32], values: &mut [u32])
-    requires { ⌜ (0 < m) × (p ≤ mostColumns) × (length (now bases) ≡ p) × (stepsRule p 1 (pairs (now steps)) ≡ fine) × (p + length (now steps) / 2 < length (now values)) ⌝ }
+    requires { ⌜ (0 < m) × (p ≤ mostColumns) × (length (now bases) ≡ p) × (stepsRule p 1 (pairs (now steps)) ≡ fine) ×
+        (p + length (now steps) / 2 < length (now values)) ⌝ }
     ensures { λ r. ⌜ now (values .exit) ≡ over (residues m (now (bases .entry)) (pairs (now (steps .entry)))) (now (values .entry)) ⌝ }
 {
     start(m, bases, values);
@@ -130,9 +131,12 @@ pub fn run(
     values: &mut [u32],
     figures: &mut [u32],
 ) -> Ran
-    ensures { λ r. ⌜ ranOf r ≡ runAnswer p (pairs (now (steps .entry))) (now (outputs .entry)) m (now (bases .entry)) (length (now (values .entry))) (length (now (figures .entry))) ⌝ }
-    ensures { λ r. ⌜ now (values .exit) ≡ runValues p (pairs (now (steps .entry))) (now (outputs .entry)) m (now (bases .entry)) (length (now (figures .entry))) (now (values .entry)) ⌝ }
-    ensures { λ r. ⌜ now (figures .exit) ≡ runFigures p (pairs (now (steps .entry))) (now (outputs .entry)) m (now (bases .entry)) (length (now (values .entry))) (now (figures .entry)) ⌝ }
+    ensures { λ r. ⌜ ranOf r ≡ runAnswer p (pairs (now (steps .entry))) (now (outputs .entry)) m (now (bases .entry)) (length (now (values .entry)))
+        (length (now (figures .entry))) ⌝ }
+    ensures { λ r. ⌜ now (values .exit) ≡ runValues p (pairs (now (steps .entry))) (now (outputs .entry)) m (now (bases .entry))
+        (length (now (figures .entry))) (now (values .entry)) ⌝ }
+    ensures { λ r. ⌜ now (figures .exit) ≡ runFigures p (pairs (now (steps .entry))) (now (outputs .entry)) m (now (bases .entry))
+        (length (now (values .entry))) (now (figures .entry)) ⌝ }
 {
     match judge(p, steps, outputs, m, bases, values.len(), figures.len()) {
         Judgement::Refused(number, place) => Ran::Refused(number, place),

@@ -30,7 +30,8 @@ pub extern "C" fn spoutbasket_compile(
     answer: &mut [u64; 4],
 ) -> u32
     ensures { λ r. ⌜ r ≡ numberOf (compileAnswer p q (now (amounts .entry)) method k (length (now (steps .entry)) / 2) (length (now (outputs .entry)))) ⌝ }
-    ensures { λ r. ⌜ now (answer .exit) ≡ wordsOf (compileAnswer p q (now (amounts .entry)) method k (length (now (steps .entry)) / 2) (length (now (outputs .entry)))) ⌝ }
+    ensures { λ r. ⌜ now (answer .exit) ≡ wordsOf (compileAnswer p q (now (amounts .entry)) method k (length (now (steps .entry)) / 2)
+        (length (now (outputs .entry)))) ⌝ }
     ensures { λ r. ⌜ now (steps .exit) ≡ compileSteps p q (now (amounts .entry)) method k (length (now (outputs .entry))) (now (steps .entry)) ⌝ }
     ensures { λ r. ⌜ now (outputs .exit) ≡ compileOutputs p q (now (amounts .entry)) method k (length (now (steps .entry)) / 2) (now (outputs .entry)) ⌝ }
 {
@@ -64,7 +65,8 @@ pub extern "C" fn spoutbasket_read(
     answer: &mut [u64; 4],
 ) -> u32
     ensures { λ r. ⌜ r ≡ numberOf (readAnswer edition1 (now (bytes .entry)) (length (now (steps .entry)) / 2) (length (now (outputs .entry)))) ⌝ }
-    ensures { λ r. ⌜ now (answer .exit) ≡ wordsOf (readAnswer edition1 (now (bytes .entry)) (length (now (steps .entry)) / 2) (length (now (outputs .entry)))) ⌝ }
+    ensures { λ r. ⌜ now (answer .exit) ≡ wordsOf (readAnswer edition1 (now (bytes .entry)) (length (now (steps .entry)) / 2)
+        (length (now (outputs .entry)))) ⌝ }
     ensures { λ r. ⌜ now (steps .exit) ≡ readSteps edition1 (now (bytes .entry)) (length (now (outputs .entry))) (now (steps .entry)) ⌝ }
     ensures { λ r. ⌜ now (outputs .exit) ≡ readOutputs edition1 (now (bytes .entry)) (length (now (steps .entry)) / 2) (now (outputs .entry)) ⌝ }
 {
@@ -82,8 +84,10 @@ pub extern "C" fn spoutbasket_verify(
     scratch: &mut [u32],
     answer: &mut [u64; 4],
 ) -> u32
-    ensures { λ r. ⌜ r ≡ numberOf (verifyAnswer p (pairs (now (steps .entry))) (now (outputs .entry)) (now (amounts .entry)) (length (now (scratch .entry)))) ⌝ }
-    ensures { λ r. ⌜ now (answer .exit) ≡ wordsOf (verifyAnswer p (pairs (now (steps .entry))) (now (outputs .entry)) (now (amounts .entry)) (length (now (scratch .entry)))) ⌝ }
+    ensures { λ r. ⌜ r ≡ numberOf (verifyAnswer p (pairs (now (steps .entry))) (now (outputs .entry)) (now (amounts .entry))
+        (length (now (scratch .entry)))) ⌝ }
+    ensures { λ r. ⌜ now (answer .exit) ≡ wordsOf (verifyAnswer p (pairs (now (steps .entry))) (now (outputs .entry)) (now (amounts .entry))
+        (length (now (scratch .entry)))) ⌝ }
     ensures { λ r. ⌜ now (scratch .exit) ≡ verifyScratch p (pairs (now (steps .entry))) (now (outputs .entry)) (now (amounts .entry)) (now (scratch .entry)) ⌝ }
 {
     let verified = verify::verify(p, steps, outputs, amounts, scratch);
@@ -101,7 +105,8 @@ pub extern "C" fn spoutbasket_verify_pairs(
     answer: &mut [u64; 4],
 ) -> u32
     ensures { λ r. ⌜ r ≡ numberOf (verifyAnswer p (now (steps .entry)) (now (outputs .entry)) (now (amounts .entry)) (length (now (scratch .entry)))) ⌝ }
-    ensures { λ r. ⌜ now (answer .exit) ≡ wordsOf (verifyAnswer p (now (steps .entry)) (now (outputs .entry)) (now (amounts .entry)) (length (now (scratch .entry)))) ⌝ }
+    ensures { λ r. ⌜ now (answer .exit) ≡ wordsOf (verifyAnswer p (now (steps .entry)) (now (outputs .entry)) (now (amounts .entry))
+        (length (now (scratch .entry)))) ⌝ }
     ensures { λ r. ⌜ now (scratch .exit) ≡ verifyScratch p (now (steps .entry)) (now (outputs .entry)) (now (amounts .entry)) (now (scratch .entry)) ⌝ }
 {
     let verified = pairs::verify_pairs(p, steps, outputs, amounts, scratch);
@@ -120,10 +125,14 @@ pub extern "C" fn spoutbasket_run(
     figures: &mut [u32],
     answer: &mut [u64; 4],
 ) -> u32
-    ensures { λ r. ⌜ r ≡ numberOf (runAnswer p (pairs (now (steps .entry))) (now (outputs .entry)) m (now (bases .entry)) (length (now (values .entry))) (length (now (figures .entry)))) ⌝ }
-    ensures { λ r. ⌜ now (answer .exit) ≡ wordsOf (runAnswer p (pairs (now (steps .entry))) (now (outputs .entry)) m (now (bases .entry)) (length (now (values .entry))) (length (now (figures .entry)))) ⌝ }
-    ensures { λ r. ⌜ now (values .exit) ≡ runValues p (pairs (now (steps .entry))) (now (outputs .entry)) m (now (bases .entry)) (length (now (figures .entry))) (now (values .entry)) ⌝ }
-    ensures { λ r. ⌜ now (figures .exit) ≡ runFigures p (pairs (now (steps .entry))) (now (outputs .entry)) m (now (bases .entry)) (length (now (values .entry))) (now (figures .entry)) ⌝ }
+    ensures { λ r. ⌜ r ≡ numberOf (runAnswer p (pairs (now (steps .entry))) (now (outputs .entry)) m (now (bases .entry))
+        (length (now (values .entry))) (length (now (figures .entry)))) ⌝ }
+    ensures { λ r. ⌜ now (answer .exit) ≡ wordsOf (runAnswer p (pairs (now (steps .entry))) (now (outputs .entry)) m (now (bases .entry))
+        (length (now (values .entry))) (length (now (figures .entry)))) ⌝ }
+    ensures { λ r. ⌜ now (values .exit) ≡ runValues p (pairs (now (steps .entry))) (now (outputs .entry)) m (now (bases .entry))
+        (length (now (figures .entry))) (now (values .entry)) ⌝ }
+    ensures { λ r. ⌜ now (figures .exit) ≡ runFigures p (pairs (now (steps .entry))) (now (outputs .entry)) m (now (bases .entry))
+        (length (now (values .entry))) (now (figures .entry)) ⌝ }
 {
     let ran = run::run(p, steps, outputs, m, bases, values, figures);
     tell::tell_ran(ran, answer)
@@ -141,10 +150,14 @@ pub extern "C" fn spoutbasket_run_pairs(
     figures: &mut [u32],
     answer: &mut [u64; 4],
 ) -> u32
-    ensures { λ r. ⌜ r ≡ numberOf (runAnswer p (now (steps .entry)) (now (outputs .entry)) m (now (bases .entry)) (length (now (values .entry))) (length (now (figures .entry)))) ⌝ }
-    ensures { λ r. ⌜ now (answer .exit) ≡ wordsOf (runAnswer p (now (steps .entry)) (now (outputs .entry)) m (now (bases .entry)) (length (now (values .entry))) (length (now (figures .entry)))) ⌝ }
-    ensures { λ r. ⌜ now (values .exit) ≡ runValues p (now (steps .entry)) (now (outputs .entry)) m (now (bases .entry)) (length (now (figures .entry))) (now (values .entry)) ⌝ }
-    ensures { λ r. ⌜ now (figures .exit) ≡ runFigures p (now (steps .entry)) (now (outputs .entry)) m (now (bases .entry)) (length (now (values .entry))) (now (figures .entry)) ⌝ }
+    ensures { λ r. ⌜ r ≡ numberOf (runAnswer p (now (steps .entry)) (now (outputs .entry)) m (now (bases .entry)) (length (now (values .entry)))
+        (length (now (figures .entry)))) ⌝ }
+    ensures { λ r. ⌜ now (answer .exit) ≡ wordsOf (runAnswer p (now (steps .entry)) (now (outputs .entry)) m (now (bases .entry))
+        (length (now (values .entry))) (length (now (figures .entry)))) ⌝ }
+    ensures { λ r. ⌜ now (values .exit) ≡ runValues p (now (steps .entry)) (now (outputs .entry)) m (now (bases .entry))
+        (length (now (figures .entry))) (now (values .entry)) ⌝ }
+    ensures { λ r. ⌜ now (figures .exit) ≡ runFigures p (now (steps .entry)) (now (outputs .entry)) m (now (bases .entry))
+        (length (now (values .entry))) (now (figures .entry)) ⌝ }
 {
     let ran = pairs::run_pairs(p, steps, outputs, m, bases, values, figures);
     tell::tell_ran(ran, answer)
@@ -163,8 +176,11 @@ pub extern "C" fn spoutbasket_choose(
     numbers: &mut [u32],
     answer: &mut [u64; 4],
 ) -> u32
-    ensures { λ r. ⌜ r ≡ numberOf (choiceAnswer (choice p q (now (amounts .entry)) (now (a .entry)) (now (b .entry)) (length (now (steps .entry)) / 2) (length (now (outputs .entry))) (length (now (numbers .entry))))) ⌝ }
-    ensures { λ r. ⌜ now (answer .exit) ≡ wordsOf (choiceAnswer (choice p q (now (amounts .entry)) (now (a .entry)) (now (b .entry)) (length (now (steps .entry)) / 2) (length (now (outputs .entry))) (length (now (numbers .entry))))) ⌝ }
+    ensures { λ r. ⌜ r ≡ numberOf (choiceAnswer (choice p q (now (amounts .entry)) (now (a .entry)) (now (b .entry)) (length (now (steps .entry)) / 2)
+        (length (now (outputs .entry))) (length (now (numbers .entry))))) ⌝ }
+    ensures { λ r. ⌜ now (answer .exit) ≡ wordsOf (choiceAnswer
+        (choice p q (now (amounts .entry)) (now (a .entry)) (now (b .entry)) (length (now (steps .entry)) / 2) (length (now (outputs .entry)))
+        (length (now (numbers .entry))))) ⌝ }
 {
     let chosen = choose::decide(p, q, amounts, a, b, steps, outputs, numbers);
     tell::tell_chosen(chosen, answer)
@@ -205,9 +221,16 @@ pub extern "C" fn spoutbasket_path(
     figures: &mut [u32],
     answer: &mut [u64; 4],
 ) -> u32
-    ensures { λ r. ⌜ r ≡ numberOf (pathAnswer p q (now (amounts .entry)) method k (lent (now (steps .entry)) (now (outputs .entry)) (now (bytes .entry)) (now (received .entry)) (now (results .entry)) (now (scratch .entry)) (now (values .entry)) (now (figures .entry))) m (now (bases .entry))) ⌝ }
-    ensures { λ r. ⌜ now (answer .exit) ≡ wordsOf (pathAnswer p q (now (amounts .entry)) method k (lent (now (steps .entry)) (now (outputs .entry)) (now (bytes .entry)) (now (received .entry)) (now (results .entry)) (now (scratch .entry)) (now (values .entry)) (now (figures .entry))) m (now (bases .entry))) ⌝ }
-    ensures { λ r. ⌜ lent (now (steps .exit)) (now (outputs .exit)) (now (bytes .exit)) (now (received .exit)) (now (results .exit)) (now (scratch .exit)) (now (values .exit)) (now (figures .exit)) ≡ pathLeaves p q (now (amounts .entry)) method k (lent (now (steps .entry)) (now (outputs .entry)) (now (bytes .entry)) (now (received .entry)) (now (results .entry)) (now (scratch .entry)) (now (values .entry)) (now (figures .entry))) m (now (bases .entry)) ⌝ }
+    ensures { λ r. ⌜ r ≡ numberOf (pathAnswer p q (now (amounts .entry)) method k
+        (lent (now (steps .entry)) (now (outputs .entry)) (now (bytes .entry)) (now (received .entry)) (now (results .entry)) (now (scratch .entry))
+        (now (values .entry)) (now (figures .entry))) m (now (bases .entry))) ⌝ }
+    ensures { λ r. ⌜ now (answer .exit) ≡ wordsOf (pathAnswer p q (now (amounts .entry)) method k
+        (lent (now (steps .entry)) (now (outputs .entry)) (now (bytes .entry)) (now (received .entry)) (now (results .entry)) (now (scratch .entry))
+        (now (values .entry)) (now (figures .entry))) m (now (bases .entry))) ⌝ }
+    ensures { λ r. ⌜ lent (now (steps .exit)) (now (outputs .exit)) (now (bytes .exit)) (now (received .exit)) (now (results .exit))
+        (now (scratch .exit)) (now (values .exit)) (now (figures .exit)) ≡ pathLeaves p q (now (amounts .entry)) method k
+        (lent (now (steps .entry)) (now (outputs .entry)) (now (bytes .entry)) (now (received .entry)) (now (results .entry)) (now (scratch .entry))
+        (now (values .entry)) (now (figures .entry))) m (now (bases .entry)) ⌝ }
 {
     let figured = path::sheet_to_figures(
         p,

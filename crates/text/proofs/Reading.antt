@@ -170,13 +170,15 @@ module _ (text old : List ℕ) (c : ℕ) (m : Making) (i : ℕ) (cells : List �
         }
 
     -- a byte that cannot be read
-    pub reads-stop : (a : Parsed) → follow (i + 1) e (left (length old) text c m (i + 1)) (λ x. left (length old) text c (Number x) (i + 1)) (λ x. before x (left (length old) text (c + 1) Nothing (i + 1))) ≡ found a []
+    pub reads-stop : (a : Parsed) → follow (i + 1) e (left (length old) text c m (i + 1)) (λ x. left (length old) text c (Number x) (i + 1))
+        (λ x. before x (left (length old) text (c + 1) Nothing (i + 1))) ≡ found a []
         → (a ≡ readText text (length old) .answer) × (cells ≡ over (readText text (length old) .numbers) old)
     reads-stop a is =
         let s : left (length old) text c m i ≡ found a [] = byte (length old) text c m i h ∙ rw told at is in
         (sym (r .answer ∙ ap (λ (f : Found). f .answer) s), sym (r .numbers ∙ ap (λ (f : Found). laid c (f .numbers) cells) s ∙ laid-nil c cells))
 
-    pub reads-unreadable : e ≡ effect.Unreadable → (parsed.Unreadable (i + 1) ≡ readText text (length old) .answer) × (cells ≡ over (readText text (length old) .numbers) old)
+    pub reads-unreadable : e ≡ effect.Unreadable → (parsed.Unreadable (i + 1) ≡ readText text (length old) .answer) ×
+        (cells ≡ over (readText text (length old) .numbers) old)
     unfolding follow
     reads-unreadable is = reads-stop _ (rw (is, follow))
 
@@ -200,8 +202,11 @@ module _ (text old : List ℕ) (c : ℕ) (m : Making) (i : ℕ) (cells : List �
         → (parsed.Numbers (c + 1) ≡ readText text (length old) .answer) × (set cells c x ≡ over (readText text (length old) .numbers) old)
     unfolding readFrom
     reads-last x is g =
-        let s : left (length old) text c m i ≡ found (parsed.Numbers (c + 1)) (x ∷ []) = rw (is, drop-of-length-le text h, add-one c) in
-        (sym (r .answer ∙ ap (λ (f : Found). f .answer) s), sym (r .numbers ∙ ap (λ (f : Found). laid c (f .numbers) cells) s ∙ sym (laid-one c x [] cells g) ∙ laid-nil (c + 1) (set cells c x)))
+        let s : left (length old) text c m i ≡ found (parsed.Numbers (c + 1)) (x ∷ []) = rw (is, drop-of-length-le text h, add-one c) in (
+          sym (r .answer ∙ ap (λ (f : Found). f .answer) s),
+          sym
+              (r .numbers ∙ ap (λ (f : Found). laid c (f .numbers) cells) s ∙ sym (laid-one c x [] cells g) ∙ laid-nil (c + 1) (set cells c x)),
+        )
 
 -- the cells are as many as before, there is one for the number in the making, and the reading so far is right
 abbrev pub On : List ℕ → List ℕ → ℕ → Making → ℕ → List ℕ → Type 0
@@ -220,7 +225,8 @@ module _ (text old : List ℕ) (c : ℕ) (m : Making) (i : ℕ) (cells : List �
     pub on-ends-room : (x : ℕ) → e ≡ effect.Ends x → c < length cells
     on-ends-room x is = let g = room-ends (length old) text c m i (o .1) e told x is in omega (arith, o .0)
 
-    pub on-unreadable : e ≡ effect.Unreadable → (parsed.Unreadable (i + 1) ≡ readText text (length old) .answer) × (cells ≡ over (readText text (length old) .numbers) old)
+    pub on-unreadable : e ≡ effect.Unreadable → (parsed.Unreadable (i + 1) ≡ readText text (length old) .answer) ×
+        (cells ≡ over (readText text (length old) .numbers) old)
     on-unreadable is = reads-unreadable text old c m i cells (o .2) h e told is
 
     pub on-large : e ≡ effect.TooLarge → (parsed.TooLarge (i + 1) ≡ readText text (length old) .answer) × (cells ≡ over (readText text (length old) .numbers) old)
@@ -247,7 +253,8 @@ unfolding readFrom follow before
 read-within n [] c i Nothing k h f e = let z : c ≡ k = cc in omega arith
 read-within n [] c i (Number x) k h f e = let z : suc c ≡ k = cc in omega arith
 read-within n (b ∷ r) c i m k h f e =
-    by-effect (effectOf (c <? n) m (kindOf b)) (idle c n m (kindOf b) f) (λ c′ m′. read-within n r c′ (i + 1) m′ k) (ap (λ (t : Found). t .answer) (sym (read-byte n c i m b r)) ∙ e)
+    by-effect (effectOf (c <? n) m (kindOf b)) (idle c n m (kindOf b) f) (λ c′ m′. read-within n r c′ (i + 1) m′ k)
+    (ap (λ (t : Found). t .answer) (sym (read-byte n c i m b r)) ∙ e)
   where
     by-effect : (t : Effect) → (n ≤ c → Idle t)
         → ((c′ : ℕ) (m′ : Making) → c′ ≤ n → Fits c′ n m′ → readFrom n c′ (i + 1) m′ r .answer ≡ parsed.Numbers k → k ≤ n)

@@ -25,7 +25,10 @@ module _ (text : List ℕ) (place : ℕ) where
     pub spot-next : (s : Spot) → i < length text → i + 1 < place → s ≡ afterByte spot (getD text i 0) → w ≡ spotLeft text place s (i + 1)
     spot-next s h g f =
         let short : i < length (take (place - 1) text) = simp length-take (omega arith) in
-        let n : drop i (take (place - 1) text) ≡ getD text i 0 ∷ drop (i + 1) (take (place - 1) text) = rw (add-one i) (drop-cons (take (place - 1) text) i 0 short ∙ ap (λ (b : ℕ). b ∷ drop (suc i) (take (place - 1) text)) (getD-take (place - 1) text i 0 (omega arith))) in
+        let part : List ℕ = take (place - 1) text in
+        let byte : getD part i 0 ≡ getD text i 0 = getD-take (place - 1) text i 0 (omega arith) in
+        let n : drop i part ≡ getD text i 0 ∷ drop (i + 1) part =
+        rw (add-one i) (drop-cons part i 0 short ∙ ap (λ (b : ℕ). b ∷ drop (suc i) part) byte) in
         e ∙ ap (afterBytes spot) n ∙ ap (λ (t : Spot). afterBytes t (drop (i + 1) (take (place - 1) text))) (sym f)
 
     spot-end : length (take (place - 1) text) ≤ i → spot ≡ w

@@ -22,7 +22,8 @@ pub enum Verified {
 // The steps, 12, then 5: scratch is the number of cells lent.
 fn judge_room(p: usize, steps: &[u32], outputs: &[u32], scratch: usize) -> Judgement
     requires { ⌜ p ≤ mostColumns ⌝ }
-    ensures { λ r. ⌜ verdictOf r ≡ (chainRule p (pairs (now (steps .entry))) (now (outputs .entry)) then refuseIf (scratch <? scratchSize p (length (pairs (now (steps .entry))))) 5 0) ⌝ }
+    ensures { λ r. ⌜ verdictOf r ≡ (chainRule p (pairs (now (steps .entry))) (now (outputs .entry)) then refuseIf
+        (scratch <? scratchSize p (length (pairs (now (steps .entry))))) 5 0) ⌝ }
 {
     match chain::judge_chain(p, steps, outputs) {
         Judgement::Refused(number, place) => {
@@ -94,7 +95,8 @@ fn plus(a: u32, b: u32) -> u64
 // 0 for none.
 fn sum(p: usize, steps: &[u32], scratch: &mut [u32]) -> usize
     requires { ⌜ (p ≤ mostColumns) × (stepsRule p 1 (pairs (now steps)) ≡ fine) × (p + length (now steps) / 2 < length (now scratch)) ⌝ }
-    ensures { λ r. ⌜ SummedUp p (values _+_ (take (p + 1) (now (scratch .entry)))) (pairs (now (steps .entry))) (now (scratch .entry)) (now (scratch .exit)) r ⌝ }
+    ensures { λ r. ⌜ SummedUp p (values _+_ (take (p + 1) (now (scratch .entry)))) (pairs (now (steps .entry))) (now (scratch .entry))
+        (now (scratch .exit)) r ⌝ }
 {
     let n = steps.len() / 2;
     let mut s: usize = 0;
@@ -124,7 +126,8 @@ pub fn column(p: usize, c: usize, steps: &[u32], scratch: &mut [u32]) -> usize
 
 // The first payslip whose amount in column c is not what stands in the scratch for its output: its place, 0 for none.
 fn compare(p: usize, c: usize, outputs: &[u32], amounts: &[u32], scratch: &[u32]) -> usize
-    requires { ⌜ (c < p) × (length (now amounts) ≡ p * length (now outputs)) × ((i : ℕ) → i < length (now outputs) → getD (now outputs) i 0 < length (now scratch)) ⌝ }
+    requires { ⌜ (c < p) × (length (now amounts) ≡ p * length (now outputs)) ×
+        ((i : ℕ) → i < length (now outputs) → getD (now outputs) i 0 < length (now scratch)) ⌝ }
     ensures { λ r. ⌜ r ≡ firstOther p c (now (amounts .entry)) (now (scratch .entry)) 0 (now (outputs .entry)) ⌝ }
 {
     let mut i: usize = 0;
@@ -140,8 +143,12 @@ fn compare(p: usize, c: usize, outputs: &[u32], amounts: &[u32], scratch: &[u32]
 
 // 13, then 14: column by column, each place the earliest over all columns. With an exponent too large no payslip is looked at any more.
 fn hold(p: usize, steps: &[u32], outputs: &[u32], amounts: &[u32], scratch: &mut [u32]) -> Judgement
-    requires { ⌜ (p ≤ mostColumns) × (stepsRule p 1 (pairs (now steps)) ≡ fine) × (outputsRule (p + length (pairs (now steps))) 1 (now outputs) ≡ fine) × (length (now amounts) ≡ p * length (now outputs)) × (p + length (now steps) / 2 < length (now scratch)) ⌝ }
-    ensures { λ r. ⌜ Held (verdictOf r) (exponentsRule p (pairs (now (steps .entry))) then payslipsRule p (now (amounts .entry)) (pairs (now (steps .entry))) (now (outputs .entry))) (p + length (now (steps .entry)) / 2 + 1) (now (scratch .entry)) (now (scratch .exit)) ⌝ }
+    requires { ⌜ (p ≤ mostColumns) × (stepsRule p 1 (pairs (now steps)) ≡ fine) ×
+        (outputsRule (p + length (pairs (now steps))) 1 (now outputs) ≡ fine) × (length (now amounts) ≡ p * length (now outputs)) ×
+        (p + length (now steps) / 2 < length (now scratch)) ⌝ }
+    ensures { λ r. ⌜ Held (verdictOf r) (exponentsRule p (pairs (now (steps .entry))) then payslipsRule p (now (amounts .entry))
+        (pairs (now (steps .entry))) (now (outputs .entry))) (p + length (now (steps .entry)) / 2 + 1) (now (scratch .entry))
+        (now (scratch .exit)) ⌝ }
 {
     let mut large: usize = 0;
     let mut other: usize = 0;
@@ -181,7 +188,8 @@ pub fn verify(
     amounts: &[u32],
     scratch: &mut [u32],
 ) -> Verified
-    ensures { λ r. ⌜ verifiedOf r ≡ verifyAnswer p (pairs (now (steps .entry))) (now (outputs .entry)) (now (amounts .entry)) (length (now (scratch .entry))) ⌝ }
+    ensures { λ r. ⌜ verifiedOf r ≡ verifyAnswer p (pairs (now (steps .entry))) (now (outputs .entry)) (now (amounts .entry))
+        (length (now (scratch .entry))) ⌝ }
     ensures { λ r. ⌜ now (scratch .exit) ≡ verifyScratch p (pairs (now (steps .entry))) (now (outputs .entry)) (now (amounts .entry)) (now (scratch .entry)) ⌝ }
 {
     match judge(p, steps, outputs, amounts, scratch.len()) {

@@ -34,8 +34,14 @@ slice-aggregate-put-chain c = search needs
 put-chain-requires : tie.Need-put-chain-requires
 put-chain-requires c κs =
     let k = c .before .before .before in
-    let t = k .before .before .before .before .before .before in
-    (columns-few _ _ (t .measure-file .ensures .0) _ _ _ (k .p .given .1), payslips-few _ _ (t .measure-file .ensures .0) _ _ _ (k .p .given .1), steps-few _ _ (t .measure-file .ensures .0) _ _ _ (k .p .given .1), search needs, search needs)
+    let t = k .before .before .before .before .before .before in (
+      columns-few _ _ (t .measure-file .ensures .0) _ _ _ (k .p .given .1),
+      payslips-few _ _ (t .measure-file .ensures .0) _ _ _ (k .p .given .1),
+      steps-few _ _
+          (t .measure-file .ensures .0) _ _ _ (k .p .given .1),
+      search needs,
+      search needs,
+    )
 
 returns : tie.Need-returns
 returns c =
@@ -46,7 +52,8 @@ returns-2 : tie.Need-returns-2
 returns-2 c =
     let k = c .before .before .before .before in
     let t = k .before .before .before .before .before .before in
-    listed-chain _ _ (t .measure-file .ensures .0) _ _ _ (k .p .given .1) (t .measure-file .last .1 .1 .1 .1 .0) _ _ _ (t .measure-file .ensures .1) (c .put-chain .ensures)
+    listed-chain _ _ (t .measure-file .ensures .0) _ _ _ (k .p .given .1) (t .measure-file .last .1 .1 .1 .1 .0) _ _ _ (t .measure-file .ensures .1)
+    (c .put-chain .ensures)
 
 pub list-spec : {M : Type 1} → statement M
 list-spec =

@@ -41,7 +41,15 @@ gather-requires c κs =
       omega (arith, b .before .before .loop-test .taken, s .pre .0),
       s .pre .3,
       l .loop .inv .2 ∙ s .pre .5,
-      λ i h. omega (arith, outputs-low (s .args .p + length (pairs (s .args .steps .now))) 1 (s .args .outputs .now) (s .pre .2) i h, length-pairs (s .args .steps .now), b .column .kept .1 .1 .1 .0, l .loop .inv .1, s .pre .4),
+      λ i h. omega (
+        arith,
+        outputs-low (s .args .p + length (pairs (s .args .steps .now))) 1 (s .args .outputs .now) (s .pre .2) i h,
+        length-pairs
+            (s .args .steps .now),
+        b .column .kept .1 .1 .1 .0,
+        l .loop .inv .1,
+        s .pre .4,
+      ),
     )
 
 earlier-requires : tie.Need-earlier-requires Inv-loop μ-loop
@@ -63,7 +71,9 @@ loop-again c =
       b .column .kept .1 .1 .1 .0 ∙ l .loop .inv .1,
       g .gather .kept .1 .1 .1 .0 ∙ l .loop .inv .2,
       earliest-next (l .loop .c) (largeIn (s .args .p) (pairs (s .args .steps .now))) _ _ _ (c .earlier .ensures) (l .loop .inv .3) (b .column .ensures .place),
-      filled-on (s .args .p) (l .loop .c) (pairs (s .args .steps .now)) (s .args .outputs .now) _ _ _ _ _ _ _ (s .pre .2) (s .pre .3) (omega (arith, b .before .before .loop-test .taken, s .pre .0)) (l .loop .inv .2 ∙ s .pre .5) (c .earlier .ensures) (b .column .ensures) (l .loop .inv .4) (g .gather .ensures),
+      filled-on (s .args .p) (l .loop .c) (pairs (s .args .steps .now)) (s .args .outputs .now) _ _ _ _ _ _ _ (s .pre .2) (s .pre .3)
+          (omega (arith, b .before .before .loop-test .taken, s .pre .0)) (l .loop .inv .2 ∙ s .pre .5) (c .earlier .ensures) (b .column .ensures) (l .loop .inv .4)
+          (g .gather .ensures),
     )
 
 same-length : tie.Need-same-length Inv-loop μ-loop
@@ -85,8 +95,11 @@ same-length-4 c = search needs
 
 returns-2 : tie.Need-returns-2 Inv-loop μ-loop
 returns-2 c =
-    let l = c .before .before .loop in
-    (exponents-fine _ _ _ _ (c .before .loop-test .left) (l .inv .0) (l .inv .3) (c .if1 .left), λ f. record { each = λ i j hi hj. l .inv .4 (c .if1 .left) .each i j hi (omega (arith, c .before .loop-test .left)) })
+    let l = c .before .before .loop in (
+      exponents-fine _ _ _ _ (c .before .loop-test .left) (l .inv .0) (l .inv .3)
+          (c .if1 .left),
+      λ f. record { each = λ i j hi hj. l .inv .4 (c .if1 .left) .each i j hi (omega (arith, c .before .loop-test .left)) },
+    )
 
 pub measure-spec : {M : Type 1} → statement M
 measure-spec =

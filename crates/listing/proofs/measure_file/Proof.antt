@@ -27,13 +27,15 @@ enum-known-p c = search needs
 -- what the file that was read tells
 read-file : (c : tie.After-p)
     → let r = c .before .before .before .before .before .before in
-    Good edition1 (now (r .before .before .before .before .before .before .before .before .before .args .bytes)) (r .read .last .1 .0) (r .read .last .1 .1 .0) (c .p .given .0 .0) (c .p .given .0 .1 .0) (c .p .given .0 .1 .1 .0)
+    Good edition1 (now (r .before .before .before .before .before .before .before .before .before .args .bytes)) (r .read .last .1 .0) (r .read .last .1 .1 .0)
+    (c .p .given .0 .0) (c .p .given .0 .1 .0) (c .p .given .0 .1 .1 .0)
 read-file c =
     let r = c .before .before .before .before .before .before in
     let s = r .before .before .before .before .before .before .before .before .before in
     let a = s .args in
     let e = r .read .ensures in
-    read-good edition1 (now (a .bytes)) (now (a .steps)) (now (a .outputs)) (omega (arith, s .pre .0)) (omega (arith, s .pre .1)) _ (e .0) _ _ _ (c .p .given .1) _ _ (e .1 .0) (e .1 .1)
+    read-good edition1 (now (a .bytes)) (now (a .steps)) (now (a .outputs)) (omega (arith, s .pre .0)) (omega (arith, s .pre .1)) _ (e .0) _ _ _
+    (c .p .given .1) _ _ (e .1 .0) (e .1 .1)
 
 mul-measure : tie.Need-mul-measure
 mul-measure c = omega (arith, read-file (c .before) .taken .few)
@@ -77,7 +79,8 @@ returns-2 c =
     let a = s .args in
     listing-refused _ _ _ _
     (unread _ (r .before .before .before .if1 .left) _ _
-    (read-refused edition1 (now (a .bytes)) (now (a .steps)) (now (a .outputs)) (omega (arith, s .pre .0)) (omega (arith, s .pre .1)) _ (r .read .ensures .0) _ _ (n .number .given .1)))
+    (read-refused edition1 (now (a .bytes)) (now (a .steps)) (now (a .outputs)) (omega (arith, s .pre .0)) (omega (arith, s .pre .1)) _
+    (r .read .ensures .0) _ _ (n .number .given .1)))
 
 same-length-3 : tie.Need-same-length-3
 same-length-3 c = search needs
@@ -117,7 +120,8 @@ returns-4 c =
     let k = m .before .before .before .before .before .before in
     let r = k .before .before .before .before .before .before in
     let passed = c .enum-told .given .1 in
-    listing-done _ _ _ _ _ _ (read-file k) (r .before .before .before .if1 .left) _ (told-fine _ _ (m .measure .ensures .0) passed) (m .measure .ensures .1 (ap verdictOf passed))
+    listing-done _ _ _ _ _ _ (read-file k) (r .before .before .before .if1 .left) _ (told-fine _ _ (m .measure .ensures .0) passed)
+    (m .measure .ensures .1 (ap verdictOf passed))
 
 pub measure-file-spec : {M : Type 1} → statement M
 measure-file-spec =

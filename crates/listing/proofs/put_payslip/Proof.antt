@@ -20,8 +20,20 @@ put-decimal-requires c κs =
 put-amounts-requires : tie.Need-put-amounts-requires
 put-amounts-requires c κs =
     let k = c .before .before .before in
-    let s = k .before .before .before .before in
-    (s .pre .0, s .pre .1, s .pre .2, omega (arith, decimal-short 1 (s .args .i + 1) (omega (arith, s .pre .0)), k .put-decimal .ensures .place, k .put-decimal .kept .1 .1 .0, s .pre .1, s .pre .3))
+    let s = k .before .before .before .before in (
+      s .pre .0,
+      s .pre .1,
+      s .pre .2,
+      omega (
+        arith,
+        decimal-short 1 (s .args .i + 1)
+            (omega (arith, s .pre .0)),
+        k .put-decimal .ensures .place,
+        k .put-decimal .kept .1 .1 .0,
+        s .pre .1,
+        s .pre .3,
+      ),
+    )
 
 -- where the newline goes
 line-end : (c : tie.After-slice-known3)

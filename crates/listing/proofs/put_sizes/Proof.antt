@@ -13,8 +13,12 @@ use Rattle.listing.proofs.put_sizes.Tie as tie
 -- the sizes have few digits
 short : (s : tie.Start)
     → (length (decimal (s .args .p)) ≤ 2) × (length (decimal (s .args .q)) ≤ 2) × (length (decimal (s .args .n)) ≤ 5)
-short s =
-    (decimal-short 1 (s .args .p) (omega (arith, s .pre .0)), decimal-short 1 (s .args .q) (omega (arith, s .pre .1)), decimal-short 4 (s .args .n) (omega (arith, s .pre .2)))
+short s = (
+  decimal-short 1 (s .args .p) (omega (arith, s .pre .0)),
+  decimal-short 1 (s .args .q) (omega (arith, s .pre .1)),
+  decimal-short 4 (s .args .n)
+      (omega (arith, s .pre .2)),
+)
 
 put-decimal-requires : tie.Need-put-decimal-requires
 put-decimal-requires c κs = let s = c .before .before in omega (arith, short s .0, s .pre .3)
@@ -72,7 +76,8 @@ returns c =
     let i = j .before .before .before .before in
     let s = i .before .before .before in (
       put-line _ _ _ _ _ _ _ _ (i .put-decimal .ensures)
-          (put-two _ _ _ _ _ _ _ _ (omega (arith, short s .0, i .put-decimal .ensures .place, i .put-decimal .kept .1 .1 .0, s .pre .3)) (j .put-field .ensures) (k .put-field2 .ensures))
+          (put-two _ _ _ _ _ _ _ _ (omega (arith, short s .0, i .put-decimal .ensures .place, i .put-decimal .kept .1 .1 .0, s .pre .3)) (j .put-field .ensures)
+          (k .put-field2 .ensures))
           (omega (arith, line-end c, s .pre .3)),
       omega (arith, line-end c),
     )

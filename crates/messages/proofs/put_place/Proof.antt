@@ -18,7 +18,9 @@ same-length : tie.Need-same-length
 same-length c = search needs
 
 returns-2 : tie.Need-returns-2
-returns-2 c = (put-some-place _ _ _ _ _ (c .before .before .before .before .before .if1 .left) (c .before .before .put-named .ensures .0), omega (arith, c .before .before .put-named .ensures .1))
+returns-2 c =
+    let put = c .before .before .put-named .ensures in
+    (put-some-place _ _ _ _ _ (c .before .before .before .before .before .if1 .left) (put .0), omega (arith, put .1))
 
 pub put-place-spec : {M : Type 1} → statement M
 put-place-spec =

@@ -41,7 +41,8 @@ loop-again c =
       search needs,
       omega (arith, line-on _ _ _ e, l .inv .1),
       omega (arith, column-on _ _ _ e, l .inv .2),
-      spot-next _ (c .before .before .before .before .before .before .args .place) _ _ _ (l .inv .3) _ (c .before .before .before .loop-test .taken) (ltb-true _ _ (c .before .before .if1 .taken)) e,
+      spot-next _ (c .before .before .before .before .before .before .args .place) _ _ _ (l .inv .3) _ (c .before .before .before .loop-test .taken)
+          (ltb-true _ _ (c .before .before .if1 .taken)) e,
     )
 
 returns : tie.Need-returns Inv-loop μ-loop

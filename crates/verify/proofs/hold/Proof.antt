@@ -41,7 +41,15 @@ compare-requires c κs =
     let start = b .before .before .before .before .before .before .before .before in (
       search needs,
       search needs,
-      λ i h. omega (arith, outputs-low (start .args .p + length (pairs (start .args .steps .now))) 1 (start .args .outputs .now) (start .pre .2) i h, length-pairs (start .args .steps .now), b .column .kept .1 .1 .1 .0, l .inv .1, start .pre .4),
+      λ i h. omega (
+        arith,
+        outputs-low (start .args .p + length (pairs (start .args .steps .now))) 1 (start .args .outputs .now)
+            (start .pre .2) i h,
+        length-pairs (start .args .steps .now),
+        b .column .kept .1 .1 .1 .0,
+        l .inv .1,
+        start .pre .4,
+      ),
     )
 
 earlier-requires-2 : tie.Need-earlier-requires-2 Inv-loop μ-loop
@@ -63,7 +71,8 @@ loop-again c =
       earliest-next (l .c) (largeIn (start .args .p) (pairs (start .args .steps .now))) _ _ _ (c .before .earlier .ensures) (l .inv .2) (b .column .ensures .place),
       λ z. ⊎-elim
           (λ w. w .4
-          ∙ other-next _ _ _ (pairs (start .args .steps .now)) (start .args .outputs .now) _ _ _ _ _ _ _ _ (start .pre .2) (c .before .earlier .ensures) z (b .column .ensures) (l .inv .3) (w .2 .ensures) (w .3 .ensures))
+          ∙ other-next _ _ _ (pairs (start .args .steps .now)) (start .args .outputs .now) _ _ _ _ _ _ _ _ (start .pre .2) (c .before .earlier .ensures) z
+          (b .column .ensures) (l .inv .3) (w .2 .ensures) (w .3 .ensures))
           (λ w. absurd (w .0 .left z))
           (c .if1 .came),
       summed-past _ _ (start .args .steps .now) _ _ _ (b .column .ensures) ∙ l .inv .4,

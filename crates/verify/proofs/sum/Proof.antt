@@ -72,7 +72,8 @@ returns c =
     let start = l .before .before .before .pre in
     record {
       place =
-          sum-bad _ _ _ _ _ _ _ _ (record { there = b .before .loop-test .taken; legal = start .1; room = start .2 }) (b .step-at .ensures) (c .before .plus .ensures) (l .loop .inv .3) (c .if1 .taken) (l .loop .inv .4);
+          sum-bad _ _ _ _ _ _ _ _ (record { there = b .before .loop-test .taken; legal = start .1; room = start .2 }) (b .step-at .ensures)
+          (c .before .plus .ensures) (l .loop .inv .3) (c .if1 .taken) (l .loop .inv .4);
       cells = search sums-stopped;
     }
 
@@ -106,7 +107,8 @@ loop-again c =
       simp length-set (search needs),
       simp length-set (search needs),
       search fill-on,
-      sum-on _ _ _ _ _ _ _ _ (record { there = b .before .loop-test .taken; legal = start .1; room = start .2 }) (b .step-at .ensures) (c .before .plus .ensures) (l .loop .inv .3) (c .if1 .left) (l .loop .inv .4),
+      sum-on _ _ _ _ _ _ _ _ (record { there = b .before .loop-test .taken; legal = start .1; room = start .2 }) (b .step-at .ensures)
+          (c .before .plus .ensures) (l .loop .inv .3) (c .if1 .left) (l .loop .inv .4),
     )
 
 same-length-2 : tie.Need-same-length-2 Inv-loop μ-loop

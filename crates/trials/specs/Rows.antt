@@ -27,6 +27,7 @@ use Rattle.compile.specs.Compile.{methodRule, methodOf, acceptedRule, compileRu
 use Rattle.choose.specs.Choose.{Choice, first, second, neither, fileRule, better, unless, chooseRule, choice}
 use Rattle.decimal.specs.Decimal.{decimal}
 use Rattle.listing.specs.Listing.{lineOf, listingRule, chainText, refusedText, textFor, listing}
+use Rattle.path.specs.Path.{pathAnswer, pathLeaves}
 
 pub record Row : Type 0 where
   pub got : List ℕ
@@ -86,5 +87,5 @@ chosen (neither n s) = 0 ∷ n ∷ s ∷ []
 
 -- all that the tables compute with: a table that unfolds this unfolds every definition of document 01
 unfoldable pub definitions : Unit {0}
-unfolding _<?_ _≤?_ _=?_ _≠?_ _or_ _then_ refuseIf refuseAt answer onFine over sizesRule lengthRule stepRule chainRule legalRule shapeRule heldRule exponents amountsRule sheetRule digitCount bitLength figure overOr otherOr exponentsRule payslipsRule fittingRule verifyRule verifyAnswer verifyScratch residues runRule runAnswer runValues runFigures bits fields value bytesBits front pack fieldsAt fileBits fileOf writeRule writeAnswer writeBytes stepsOf outputsOf readRule readAnswer readSteps readOutputs times entry tableNext strausDigits straus strausCount strausCeiling yaoDigits gatherOne yao yaoCount yaoCeiling columnBits inputs selection partition partitionCount partitionCeiling methodRule methodOf acceptedRule compileRule compileAnswer compileSteps compileOutputs fileRule better unless chooseRule choice decimal lineOf listingRule chainText refusedText textFor listing
+unfolding _<?_ _≤?_ _=?_ _≠?_ _or_ _then_ refuseIf refuseAt answer onFine over sizesRule lengthRule stepRule chainRule legalRule shapeRule heldRule exponents amountsRule sheetRule digitCount bitLength figure overOr otherOr exponentsRule payslipsRule fittingRule verifyRule verifyAnswer verifyScratch residues runRule runAnswer runValues runFigures bits fields value bytesBits front pack fieldsAt fileBits fileOf writeRule writeAnswer writeBytes stepsOf outputsOf readRule readAnswer readSteps readOutputs times entry tableNext strausDigits straus strausCount strausCeiling yaoDigits gatherOne yao yaoCount yaoCeiling columnBits inputs selection partition partitionCount partitionCeiling methodRule methodOf acceptedRule compileRule compileAnswer compileSteps compileOutputs fileRule better unless chooseRule choice decimal lineOf listingRule chainText refusedText textFor listing pathAnswer pathLeaves
 definitions = tt

@@ -2,4 +2,9 @@ pub mod Rows
 pub mod Trials
 pub mod Samples
 pub mod Refusals
+pub mod Orders
+pub mod Places
+pub mod Ranges
+pub mod Choices
+pub mod PathRows
 pub mod Methods

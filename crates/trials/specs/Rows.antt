@@ -27,6 +27,7 @@ use Rattle.compile.specs.Compile.{methodRule, methodOf, acceptedRule, compileRu
 use Rattle.choose.specs.Choose.{Choice, first, second, neither, fileRule, better, unless, chooseRule, choice}
 use Rattle.decimal.specs.Decimal.{decimal}
 use Rattle.listing.specs.Listing.{lineOf, listingRule, chainText, refusedText, textFor, listing}
+use Rattle.path.specs.Path.{pathAnswer, pathLeaves}
 
 pub record Row : Type 0 where
   pub got : List ℕ
@@ -84,7 +85,43 @@ chosen first = 1 ∷ []
 chosen second = 2 ∷ []
 chosen (neither n s) = 0 ∷ n ∷ s ∷ []
 
--- all that the tables compute with: a table that unfolds this unfolds every definition of document 01
+-- all that the tables compute with: chains, the check and the run
+unfoldable pub chainDefinitions : Unit {0}
+unfolding _<?_ _≤?_ _=?_ _≠?_ _or_ _then_ refuseIf refuseAt answer onFine over sizesRule lengthRule stepRule chainRule legalRule shapeRule exponents
+chainDefinitions = tt
+
+unfoldable pub checkDefinitions : Unit {0}
+unfolding amountsRule sheetRule figure overOr otherOr exponentsRule payslipsRule fittingRule verifyRule verifyAnswer verifyScratch
+checkDefinitions = tt
+
+unfoldable pub runDefinitions : Unit {0}
+unfolding residues runRule runAnswer runValues runFigures
+runDefinitions = tt
+
+-- files
+unfoldable pub fieldDefinitions : Unit {0}
+unfolding digitCount bitLength bits fields value bytesBits front pack fieldsAt
+fieldDefinitions = tt
+
+unfoldable pub fileDefinitions : Unit {0}
+unfolding heldRule fileBits fileOf writeRule writeAnswer writeBytes stepsOf outputsOf readRule readAnswer readSteps readOutputs
+fileDefinitions = tt
+
+-- methods
+unfoldable pub methodDefinitions : Unit {0}
+unfolding times entry tableNext strausDigits straus strausCount strausCeiling yaoDigits gatherOne yao yaoCount yaoCeiling columnBits inputs selection
+methodDefinitions = tt
+
+unfoldable pub compileDefinitions : Unit {0}
+unfolding partition partitionCount partitionCeiling methodRule methodOf acceptedRule compileRule compileAnswer compileSteps compileOutputs
+compileDefinitions = tt
+
+-- the chooser, the lister and the path
+unfoldable pub otherDefinitions : Unit {0}
+unfolding fileRule better unless chooseRule choice decimal lineOf listingRule chainText refusedText textFor listing pathAnswer pathLeaves
+otherDefinitions = tt
+
+-- a table that unfolds this unfolds every definition of document 01
 unfoldable pub definitions : Unit {0}
-unfolding _<?_ _≤?_ _=?_ _≠?_ _or_ _then_ refuseIf refuseAt answer onFine over sizesRule lengthRule stepRule chainRule legalRule shapeRule heldRule exponents amountsRule sheetRule digitCount bitLength figure overOr otherOr exponentsRule payslipsRule fittingRule verifyRule verifyAnswer verifyScratch residues runRule runAnswer runValues runFigures bits fields value bytesBits front pack fieldsAt fileBits fileOf writeRule writeAnswer writeBytes stepsOf outputsOf readRule readAnswer readSteps readOutputs times entry tableNext strausDigits straus strausCount strausCeiling yaoDigits gatherOne yao yaoCount yaoCeiling columnBits inputs selection partition partitionCount partitionCeiling methodRule methodOf acceptedRule compileRule compileAnswer compileSteps compileOutputs fileRule better unless chooseRule choice decimal lineOf listingRule chainText refusedText textFor listing
+unfolding chainDefinitions checkDefinitions runDefinitions fieldDefinitions fileDefinitions methodDefinitions compileDefinitions otherDefinitions
 definitions = tt

@@ -2,7 +2,6 @@
 ghost use mathlib.Core.Path.{_≡_};
 ghost use Prim.Native.Nat.{ℕ, _+_, _*_, _≤_, _<_};
 ghost use lib.ListN.{length, getD};
-ghost use Rattle.chain.specs.Verdict.{_then_};
 ghost use Rattle.chain.specs.Chain.{mostColumns, by, pairs, sizesRule, lengthRule, shapeRule, stepRule, stepsRule, outputsRule, chainRule, legalRule, pick};
 ghost use Rattle.chain.specs.Written.{over};
 ghost use Rattle.chain.specs.Inner.{stepAt};

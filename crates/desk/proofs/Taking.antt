@@ -7,7 +7,7 @@ use native.Mathlib.Omega.{arith}
 use lib.ListN.{length}
 use lib.Seq.{length-take-le}
 use Rattle.io.specs.Counts.{Counts}
-use Rattle.chain.specs.Tests.{_<?_, _≤?_}
+use Rattle.chain.specs.Tests.{_<?_}
 use Rattle.chain.specs.Written.{over}
 use Rattle.chain.proofs.Rules.{lt-yes, lt-no, not-lt, le-yes, le-no}
 use Rattle.text.specs.Text.{readText}

@@ -1,7 +1,7 @@
 -- Squarings, then tables: the squarings begin what is to be stored, and the inputs read back from their cells are those that the tables are made of.
 use mathlib.Core.Path.{_≡_, sym, ap, ap₂, _∙_}
 use mathlib.Core.List.{List}
-use Prim.Native.Nat.{ℕ, _-_, _<_}
+use Prim.Native.Nat.{ℕ, _<_}
 use native.Mathlib.Omega.{arith}
 use lib.ListN.{length, getD, take}
 use Rattle.chain.specs.Written.{over}

@@ -16,7 +16,6 @@ use Rattle.reading.specs.declared.Reading.{Reading}
 use Rattle.reading.specs.declared.Reading.the-variants as reading
 use Rattle.layout.proofs.Readable.{readable, columns-low, payslips-low}
 use Rattle.chain.proofs.Told.{verdictIn, told, told-values}
-use Rattle.digits.specs.Range.{listTo}
 use Rattle.digits.proofs.Listed.{list-same}
 use Rattle.listing.specs.Listing.{lineOf, payslipLines, amountOf, listingRule, chainText, refusedText, textFor, listing}
 use Rattle.listing.specs.Inner.{amountIn, TableHolds}

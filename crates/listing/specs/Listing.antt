@@ -4,7 +4,7 @@ use Prim.Native.Nat.{ℕ, zero, suc}
 use lib.ListN.{length, getD}
 use Rattle.chain.specs.Tests.{_<?_}
 use Rattle.chain.specs.Verdict.{Verdict, fine, refused, _then_, refuseIf}
-use Rattle.chain.specs.Chain.{mostPayslips, mostSteps, exponentOf}
+use Rattle.chain.specs.Chain.{mostPayslips, exponentOf}
 use Rattle.digits.specs.Range.{listTo}
 use Rattle.verify.specs.Verify.{exponentsRule}
 use Rattle.decimal.specs.Decimal.{blank, newline, refusedWord, decimal}

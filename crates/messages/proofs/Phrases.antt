@@ -10,7 +10,6 @@ use lib.Dec.{leb}
 use borrow.Author.Tests.{leb-true}
 use lib.ListN.{length, getD, take, drop, length-append, List·getD-eq-default}
 use lib.Seq.{take-append-seam, drop-append-add}
-use Rattle.chain.specs.Tests.{_<?_}
 use Rattle.chain.proofs.Rules.{lt-yes, lt-no}
 use Rattle.messages.specs.Messages.{noPhrase, phrases, phrase}
 use Rattle.messages.specs.Inner.{joined, startOf, phraseNumber}

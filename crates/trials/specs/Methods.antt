@@ -1,7 +1,7 @@
 -- Chains of the methods, step for step, on sheets that document 01's trials do not reach, so that each sentence of Spec 3.1 to 3.7 matters on one:
 -- count, ceiling, steps and outputs; example 2 of source document 000 by all methods (trial J); and Straus's largest tables.
 use mathlib.Core.List.{List, [], _∷_, _++_}
-use Prim.Native.Nat.{ℕ, zero, suc, _-_, _<_}
+use Prim.Native.Nat.{ℕ, _<_}
 use lib.ListN.{length, getD, drop}
 use Rattle.chain.specs.Chain.{Chain, flat, pick, stepsRule}
 use Rattle.run.specs.Run.{residues}

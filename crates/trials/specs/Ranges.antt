@@ -1,6 +1,6 @@
 -- Both ends of every range, and one past them.
 use mathlib.Core.List.{List, [], _∷_, _++_}
-use Prim.Native.Nat.{ℕ, zero, suc, _+_, _-_, _<_}
+use Prim.Native.Nat.{ℕ, zero, suc, _+_, _<_}
 use lib.ListN.{length, getD, replicate}
 use Rattle.chain.specs.Chain.{mostColumns, mostPayslips, mostSteps, mostAmount, by, pairs, flat}
 use Rattle.chain.specs.declared.Step.{Step}
@@ -13,7 +13,7 @@ use Rattle.choose.specs.Choose.{choice, mostScratch}
 use Rattle.listing.specs.Listing.{listing}
 use Rattle.trials.specs.Rows.{Row, _gives_, Holds, rows-hold, answered, chosen, definitions}
 use Rattle.trials.specs.Trials.{sheetA, stepsA, fileA}
-use Rattle.trials.specs.Refusals.{choosing, refusedLine}
+use Rattle.trials.specs.Refusals.{refusedLine}
 
 -- f at each number of a list, one after the other
 abbrev pub each : (ℕ → List ℕ) → List ℕ → List ℕ

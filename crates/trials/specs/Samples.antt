@@ -1,8 +1,8 @@
 -- Small sheets by every method and every legal parameter that stays small. On each the chain passes the check, has as many steps as the
 -- method's count, the count keeps to the ceiling, and reading the chain's file gives the chain: a row lists what was found against that.
-use mathlib.Core.Bool.{Bool, true, false, cond}
+use mathlib.Core.Bool.{Bool, true, false}
 use mathlib.Core.List.{List, [], _∷_, _++_}
-use Prim.Native.Nat.{ℕ, zero, suc, _+_, _*_, _<_}
+use Prim.Native.Nat.{ℕ, zero, suc, _+_, _<_}
 use lib.ListN.{length, getD}
 use Rattle.chain.specs.Tests.{_≤?_, _=?_}
 use Rattle.chain.specs.Verdict.{Verdict, fine, refused}

@@ -2,14 +2,14 @@
 use mathlib.Core.List.{List, [], _∷_, _++_}
 use Prim.Native.Nat.{ℕ, zero, suc, _+_, _^_, _<_}
 use lib.ListN.{length, getD, replicate}
-use Rattle.chain.specs.Chain.{by, pairs, flat}
+use Rattle.chain.specs.Chain.{by, pairs}
 use Rattle.chain.specs.declared.Step.{Step}
 use Rattle.residue.specs.Residue.{figure}
 use Rattle.verify.specs.Verify.{verifyAnswer, verifyScratch}
 use Rattle.run.specs.Run.{runAnswer, runValues, runFigures}
 use Rattle.layout.specs.Layout.{edition1}
 use Rattle.layout.specs.File.{writeAnswer, writeBytes, readAnswer, readSteps, readOutputs}
-use Rattle.compile.specs.Compile.{chainOf, count, ceiling, compileAnswer, compileSteps, compileOutputs}
+use Rattle.compile.specs.Compile.{count, ceiling, compileAnswer, compileSteps, compileOutputs}
 use Rattle.listing.specs.Listing.{listing}
 use Rattle.trials.specs.Rows.{Row, _gives_, Holds, rows-hold, answered, definitions}
 

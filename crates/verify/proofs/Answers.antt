@@ -1,7 +1,7 @@
 -- What is found before the scratch is used leaves it as it was; what is found after leaves it cleared, whatever the sums left there.
-use mathlib.Core.Path.{_≡_, sym, ap, _∙_}
+use mathlib.Core.Path.{_≡_, ap, _∙_}
 use mathlib.Core.List.{List, [], _++_}
-use Prim.Native.Nat.{ℕ, _+_, _/_, _≤_}
+use Prim.Native.Nat.{ℕ, _+_, _/_}
 use lib.ListN.{length, drop, replicate, length-replicate}
 use Rattle.chain.specs.Verdict.{Verdict, fine, refused, _then_, Answer, refusal, answer, onFine}
 use Rattle.chain.specs.Judgement.{verdictOf}

@@ -1,7 +1,7 @@
 -- Nothing is found before the scratch is used exactly if the chain is legal, the amounts are p times q and the scratch is long enough.
 use mathlib.Core.Path.{_≡_, sym}
 use mathlib.Core.List.{List}
-use Prim.Native.Nat.{ℕ, _+_, _*_, _≤_}
+use Prim.Native.Nat.{ℕ, _*_, _≤_}
 use lib.ListN.{length}
 use Rattle.chain.specs.Verdict.{fine}
 use Rattle.chain.specs.Chain.{Legal, legalRule}

@@ -2,13 +2,13 @@
 ghost use mathlib.Core.Path.{_≡_};
 ghost use mathlib.Core.List.{[]};
 ghost use Prim.Native.Nat.{ℕ, _+_, _*_, _/_, _≤_, _<_};
-ghost use lib.ListN.{length, getD, take, drop, replicate};
+ghost use lib.ListN.{length, getD, take, replicate};
 ghost use Rattle.chain.specs.Tests.{_<?_};
 ghost use Rattle.chain.specs.Verdict.{fine, _then_, refuseIf, answer};
 ghost use Rattle.chain.specs.Written.{over};
 ghost use Rattle.chain.specs.Chain.{mostColumns, pairs, stepsRule, outputsRule, chainRule, values, exponents};
 ghost use Rattle.chain.specs.Judgement.{verdictOf};
-ghost use Rattle.verify.specs.Verify.{earlier, firstOver, firstOther, exponentsRule, payslipsRule, scratchSize, fittingRule, verifyAnswer, verifyScratch};
+ghost use Rattle.verify.specs.Verify.{earlier, firstOther, exponentsRule, payslipsRule, scratchSize, fittingRule, verifyAnswer, verifyScratch};
 ghost use Rattle.verify.specs.Verified.{verifiedOf};
 ghost use Rattle.verify.specs.Inner.{SummedUp, Held};
 use chain::Judgement;

@@ -2,7 +2,6 @@
 use borrow.Author.Needs.{needs}
 use mathlib.Core.Path.{_≡_}
 use Prim.Native.Nat.{_+_, _-_, _≤_, _<_}
-use native.Mathlib.Omega.{arith}
 use lib.ListN.{length, drop, length-set}
 use Rattle.chain.proofs.Steps.{first-within, second-within, within}
 use Rattle.chain.proofs.Filling.{madeTo, fill-start, fill-on}

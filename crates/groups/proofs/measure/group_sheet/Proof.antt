@@ -1,5 +1,4 @@
 -- The measured cells are the columns' bits, over which both sums run; so the numbers are the sheet's.
-use Prim.Native.Nat.{_-_}
 use borrow.Author.Needs.{needs}
 use lib.ListN.{take}
 use Rattle.groups.specs.Inner.{Narrow}

@@ -1,5 +1,4 @@
 -- A group's members are a stretch of the inputs, and its table begins where the full tables before it end.
-use Prim.Native.Nat.{_-_}
 use borrow.Author.Needs.{fits-under, needs}
 use native.Mathlib.Omega.{arith}
 use Rattle.groups.proofs.Counting.{group-inside}

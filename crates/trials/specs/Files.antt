@@ -3,10 +3,12 @@ use mathlib.Core.List.{List, [], _∷_, _++_}
 use Prim.Native.Nat.{ℕ, _+_, _<_}
 use lib.ListN.{length, getD, replicate}
 use Rattle.chain.specs.Chain.{by, pairs}
+use Rattle.digits.specs.Range.{listTo}
 use Rattle.residue.specs.Residue.{figure}
 use Rattle.run.specs.Run.{runAnswer, runValues, runFigures}
 use Rattle.layout.specs.Layout.{edition1}
 use Rattle.layout.specs.File.{fileOf, writeAnswer, writeBytes, readAnswer, readSteps, readOutputs}
+use Rattle.decimal.specs.Decimal.{blank, decimal}
 use Rattle.listing.specs.Listing.{listing}
 use Rattle.trials.specs.Rows.{Row, _gives_, Holds, rows-hold, answered, definitions}
 use Rattle.trials.specs.Trials.{nines}
@@ -44,6 +46,13 @@ files =
     -- case I's file listed: 1 1 62 and 1 4294967295 (Spec 9, 11)
     ∷ listing (fileOf edition1 1 (ones 31) (63 ∷ []))
     gives (49 ∷ 32 ∷ 49 ∷ 32 ∷ 54 ∷ 50 ∷ 10 ∷ 49 ∷ 32 ∷ 52 ∷ 50 ∷ 57 ∷ 52 ∷ 57 ∷ 54 ∷ 55 ∷ 50 ∷ 57 ∷ 53 ∷ 10 ∷ [])
+    -- numbers with zeros in them and at their end, and 0 itself; ten payslips of one amount 0 (Spec 9)
+    ∷ (decimal 0 ++ blank ∷ decimal 10 ++ blank ∷ decimal 2005 ++ blank ∷ decimal 700)
+    gives (48 ∷ 32 ∷ 49 ∷ 48 ∷ 32 ∷ 50 ∷ 48 ∷ 48 ∷ 53 ∷ 32 ∷ 55 ∷ 48 ∷ 48 ∷ [])
+    ∷ listing (0x10 ∷ 0x24 ∷ 0x00 ∷ 0x00 ∷ 0x00 ∷ [])
+    gives (49 ∷ 32 ∷ 49 ∷ 48 ∷ 32 ∷ 48 ∷ 10 ∷ digitsLine (1 ∷ 0 ∷ []) ++ digitsLine (2 ∷ 0 ∷ []) ++ digitsLine (3 ∷ 0 ∷ [])
+    ++ digitsLine (4 ∷ 0 ∷ []) ++ digitsLine (5 ∷ 0 ∷ []) ++ digitsLine (6 ∷ 0 ∷ []) ++ digitsLine (7 ∷ 0 ∷ [])
+    ++ digitsLine (8 ∷ 0 ∷ []) ++ digitsLine (9 ∷ 0 ∷ []) ++ 49 ∷ 48 ∷ 32 ∷ 48 ∷ 10 ∷ [])
     -- W is the bit length of p + n (Spec 5.2): 1, 2 and 3 bits by p alone, 2 and 3 by p and n
     ∷ fileOf edition1 1 [] (1 ∷ []) gives (0x10 ∷ 0x00 ∷ 0x00 ∷ 0x08 ∷ [])
     ∷ fileOf edition1 3 [] (3 ∷ []) gives (0x12 ∷ 0x00 ∷ 0x00 ∷ 0x0c ∷ [])
@@ -68,6 +77,8 @@ files =
     gives (0 ∷ 9 ∷ 1 ∷ 3 ∷ 5 ∷ 7 ∷ 9 ∷ 25 ∷ 49 ∷ 27 ∷ 1323 ∷ 75 ∷ 27 ∷ 675 ∷ 4725 ∷ 9 ∷ 1323 ∷ 75 ∷ 49 ∷ 4725 ∷ 9 ∷ [])
     -- products of residues that 32 bits do not hold: (m − 1)² modulo m is 1 (Spec 6)
     ∷ runValues 1 (by 1 1 ∷ []) (2 ∷ []) 4294967295 (4294967294 ∷ []) 1 (nines 3) gives (1 ∷ 4294967294 ∷ 1 ∷ [])
+    -- the figures of case J (Spec 1.3, 11)
+    ∷ listTo 4 (figure 3 10000 (3 ∷ 5 ∷ 7 ∷ []) (3 ∷ 0 ∷ 2 ∷ 1 ∷ 2 ∷ 0 ∷ 0 ∷ 0 ∷ 2 ∷ 3 ∷ 2 ∷ 1 ∷ [])) gives (1323 ∷ 75 ∷ 49 ∷ 4725 ∷ [])
     -- a power with amount 0 is 1, also of base 0; with another amount it is 0 (Spec 1.3)
     ∷ (figure 2 7 (0 ∷ 3 ∷ []) (0 ∷ 2 ∷ 1 ∷ 2 ∷ []) 0 ∷ figure 2 7 (0 ∷ 3 ∷ []) (0 ∷ 2 ∷ 1 ∷ 2 ∷ []) 1 ∷ []) gives (2 ∷ 0 ∷ [])
     ∷ []

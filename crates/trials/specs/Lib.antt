@@ -5,6 +5,7 @@ pub mod Refusals
 pub mod Orders
 pub mod Places
 pub mod Ranges
+pub mod Files
 pub mod Choices
 pub mod PathRows
 pub mod Methods

@@ -2,7 +2,7 @@
 use mathlib.Core.List.{List, [], _∷_, _++_}
 use Prim.Native.Nat.{ℕ, zero, suc, _+_, _<_}
 use lib.ListN.{length, getD, replicate}
-use Rattle.chain.specs.Chain.{mostColumns, mostPayslips, mostSteps, mostAmount, by, pairs, flat}
+use Rattle.chain.specs.Chain.{mostColumns, mostPayslips, mostSteps, mostAmount, by, pairs, flat, legalRule}
 use Rattle.chain.specs.declared.Step.{Step}
 use Rattle.verify.specs.Verify.{verifyAnswer}
 use Rattle.run.specs.Run.{runAnswer}
@@ -11,7 +11,7 @@ use Rattle.layout.specs.File.{longestFile, byteCount, writeAnswer, readAnswer}
 use Rattle.compile.specs.Compile.{chainOf, count, compileAnswer}
 use Rattle.choose.specs.Choose.{choice, mostScratch}
 use Rattle.listing.specs.Listing.{listing}
-use Rattle.trials.specs.Rows.{Row, _gives_, Holds, rows-hold, answered, chosen, definitions}
+use Rattle.trials.specs.Rows.{Row, _gives_, Holds, rows-hold, verdict, answered, chosen, definitions}
 use Rattle.trials.specs.Trials.{sheetA, stepsA, fileA}
 use Rattle.trials.specs.Refusals.{refusedLine}
 
@@ -122,6 +122,12 @@ ranges =
     ∷ answered (writeAnswer edition1 2 (pairs (2 ∷ 2 ∷ [])) (0 ∷ 3 ∷ []) 9) gives (0 ∷ 5 ∷ [])
     ∷ answered (writeAnswer edition1 2 (pairs (3 ∷ 2 ∷ [])) (0 ∷ 3 ∷ []) 9) gives (10 ∷ 1 ∷ [])
     ∷ answered (writeAnswer edition1 2 (pairs (2 ∷ 2 ∷ [])) (0 ∷ 4 ∷ []) 9) gives (12 ∷ 2 ∷ [])
+    -- a chain is legal if p, q, n, its steps and its outputs are in their ranges (Spec 2.4)
+    ∷ each (λ p. verdict (legalRule p [] (0 ∷ []))) (ends 16) gives (1 ∷ 0 ∷ 0 ∷ 0 ∷ 1 ∷ 0 ∷ [])
+    ∷ each (λ q. verdict (legalRule 1 [] (replicate q 0))) (ends 64) gives (1 ∷ 0 ∷ 0 ∷ 0 ∷ 1 ∷ 0 ∷ [])
+    ∷ each (λ n. verdict (legalRule 1 (replicate n (by 1 0)) (0 ∷ []))) (mostSteps ∷ (mostSteps + 1) ∷ []) gives (9 ∷ 1 ∷ 4 ∷ 0 ∷ [])
+    ∷ each (λ o. verdict (legalRule 2 (pairs stepsA) (0 ∷ o ∷ []))) (0 ∷ 5 ∷ 6 ∷ []) gives (0 ∷ 0 ∷ 12 ∷ 2 ∷ [])
+    ∷ each (λ a. verdict (legalRule 2 (by 2 1 ∷ by a 2 ∷ []) (0 ∷ []))) (1 ∷ 2 ∷ 3 ∷ 4 ∷ []) gives (11 ∷ 2 ∷ 0 ∷ 0 ∷ 10 ∷ 2 ∷ [])
     -- each lent slice of just the length that case A needs, and one cell less (Spec 10.4): compile, write, read, check, run
     ∷ answered (compileAnswer 2 1 sheetA 1 1 3 1) gives (0 ∷ 3 ∷ [])
     ∷ answered (compileAnswer 2 1 sheetA 1 1 2 1) gives (5 ∷ 0 ∷ [])

@@ -1,1 +1,2 @@
-// The worked examples and further rows of the specification, computed by the definitions of the other crates. There is no code here.
+// The trials, samples and examples of document 01, and rows that tie each rule of docs/SPEC.md to the definitions of the other crates: orders of
+// refusals, their places, both ends of every range, files, choices, chains and the whole path. There is no code here.

@@ -1,6 +1,5 @@
 pub mod Rows
 pub mod Trials
-pub mod Samples
 pub mod Refusals
 pub mod Orders
 pub mod Places

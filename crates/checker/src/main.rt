@@ -8,9 +8,9 @@ use libc::STDOUT_FILENO;
 
 // Whether the file in the lent bytes makes the sheet.
 fn check_file(p: usize, q: usize, amounts: &[u32], bytes: &[u8]) {
-    let mut steps = [0u32; 2 * chain::MOST_STEPS];
+    let mut steps = [0u32; 2 * layout::EDITION_1_STEPS];
     let mut outputs = [0u32; chain::MOST_PAYSLIPS];
-    let mut numbers = [0u32; chain::MOST_COLUMNS + chain::MOST_STEPS + 1];
+    let mut numbers = [0u32; layout::EDITION_1_VALUES];
     match choose::judge_file(p, q, amounts, bytes, &mut steps, &mut outputs, &mut numbers) {
         Judged::Refused(number, place) => desk::tell_refusal(STDOUT_FILENO, number, place),
         Judged::Passed(_) => {

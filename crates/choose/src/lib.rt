@@ -23,9 +23,6 @@ pub enum Chosen {
     Neither(u32, usize),
 }
 
-// As many numbers as the check of any chain of edition 1 asks for.
-const MOST_SCRATCH: usize = chain::MOST_COLUMNS + layout::EDITION_1_STEPS + 1;
-
 // 1, 2, then 5: what is found before either file, for so many pairs, outputs and numbers lent.
 fn judge_lent(
     p: usize,
@@ -49,7 +46,7 @@ fn judge_lent(
     if outputs < chain::MOST_PAYSLIPS {
         return Judgement::Refused(5, 0);
     }
-    if numbers < MOST_SCRATCH {
+    if numbers < layout::EDITION_1_VALUES {
         return Judgement::Refused(5, 0);
     }
     Judgement::Fine

@@ -12,9 +12,9 @@ fn choose_file(numbers: &[u32], a: &[u8], b: &[u8])
 {
     let p = desk::size(numbers[0]);
     let q = desk::size(numbers[1]);
-    let mut steps = [0u32; 2 * chain::MOST_STEPS];
+    let mut steps = [0u32; 2 * layout::EDITION_1_STEPS];
     let mut outputs = [0u32; chain::MOST_PAYSLIPS];
-    let mut scratch = [0u32; chain::MOST_COLUMNS + chain::MOST_STEPS + 1];
+    let mut scratch = [0u32; layout::EDITION_1_VALUES];
     match choose::decide(
         p,
         q,

@@ -13,6 +13,9 @@ pub struct Layout {
 // The most steps that a file of edition 1 holds.
 pub const EDITION_1_STEPS: usize = 16000;
 
+// How many values the longest chain in a file of edition 1 has.
+pub const EDITION_1_VALUES: usize = chain::MOST_COLUMNS + EDITION_1_STEPS + 1;
+
 // The bits of n in a header of edition 1, and those of the header before n.
 const EDITION_1_BITS: usize = 14;
 

@@ -6,7 +6,7 @@ use native.Mathlib.Omega.{arith}
 use lib.ListN.{length, take}
 use lib.Seq.{length-take-le}
 use Rattle.chain.specs.Verdict.{Verdict, fine, refused, done, refusal, answer}
-use Rattle.chain.specs.Chain.{mostColumns, mostPayslips, mostSteps, pairs, stepsRule, outputsRule}
+use Rattle.chain.specs.Chain.{mostColumns, mostPayslips, pairs, stepsRule, outputsRule}
 use Rattle.chain.specs.declared.Step.{Step}
 use Rattle.chain.proofs.Rules.{stop, pass, refuse-yes, refuse-no, lt-yes, lt-no, answer-refused, answer-done, not-fine}
 use Rattle.chain.proofs.Legal.{chain-parts}
@@ -60,7 +60,7 @@ module _ (bytes steps outputs : List ℕ) (p q n : ℕ) (t : Good edition1 bytes
   pub outputs-few : length (take q outputs) ≤ mostPayslips
   outputs-few = omega (arith, length-take-le q outputs (t .taken .outputs-room), readable edition1 bytes _ _ (sym (t .reads)) .outputs-room, t .taken .payslips)
 
-  pub room : p + length (take (2 * n) steps) / 2 < mostColumns + mostSteps + 1
+  pub room : p + length (take (2 * n) steps) / 2 < mostColumns + edition1 .limit + 1
   room = omega (arith, length-take-le (2 * n) steps (t .taken .steps-room), t .taken .few, columns-few)
 
   module _ (h : length bytes ≤ longestFile) where

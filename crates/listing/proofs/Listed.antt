@@ -6,7 +6,7 @@ use native.Mathlib.Omega.{arith}
 use lib.ListN.{length, getD}
 use Rattle.chain.specs.Verdict.{fine, refused, answer}
 use Rattle.chain.specs.Written.{over}
-use Rattle.chain.specs.Chain.{mostColumns, mostPayslips, mostSteps}
+use Rattle.chain.specs.Chain.{mostColumns, mostPayslips}
 use Rattle.chain.proofs.Rules.{then-fine}
 use Rattle.chain.proofs.Written.{over-laid}
 use Rattle.layout.specs.Layout.{edition1}
@@ -66,7 +66,7 @@ module _ (bytes : List ℕ) (a : Reading) (answered : readOf a ≡ answer (listi
     pub payslips-few : q ≤ mostPayslips
     payslips-few = rw payslips-are (payslips-low bytes)
 
-    pub steps-few : n ≤ mostSteps
+    pub steps-few : n ≤ edition1 .limit
     unfolding listingRule
     steps-few = rw steps-are (omega (arith, readable edition1 bytes _ _ (then-fine _ _ (then-fine _ _ rule-fine .1) .0) .few))
 

@@ -5,7 +5,7 @@ ghost use Prim.Native.Nat.{ℕ, _+_, _*_, _/_, _≤_, _<_};
 ghost use lib.ListN.{length, getD};
 ghost use Rattle.chain.specs.Verdict.{fine, answer};
 ghost use Rattle.chain.specs.Written.{over, laid};
-ghost use Rattle.chain.specs.Chain.{mostColumns, mostPayslips, mostSteps, pairs, stepsRule, outputsRule, pick, exponentOf};
+ghost use Rattle.chain.specs.Chain.{mostColumns, mostPayslips, pairs, stepsRule, outputsRule, pick, exponentOf};
 ghost use Rattle.chain.specs.Judgement.{verdictOf};
 ghost use Rattle.verify.specs.Verify.{exponentsRule};
 ghost use Rattle.layout.specs.Layout.{edition1};
@@ -84,7 +84,7 @@ fn put_payslips(p: usize, q: usize, table: &[u32], at: usize, text: &mut [u8]) -
 
 // The line `p q n`.
 fn put_sizes(p: usize, q: usize, n: usize, text: &mut [u8]) -> usize
-    requires { ⌜ (p ≤ mostColumns) × (q ≤ mostPayslips) × (n ≤ mostSteps) × (mostSizes ≤ length (now text)) ⌝ }
+    requires { ⌜ (p ≤ mostColumns) × (q ≤ mostPayslips) × (n ≤ edition1 .limit) × (mostSizes ≤ length (now text)) ⌝ }
     ensures { λ r. ⌜ Put 0 (lineOf p (q ∷ n ∷ [])) (now (text .entry)) r (now (text .exit)) ⌝ }
     ensures { λ r. ⌜ r ≤ mostSizes ⌝ }
 {
@@ -97,7 +97,7 @@ fn put_sizes(p: usize, q: usize, n: usize, text: &mut [u8]) -> usize
 
 // The listing of a chain whose amounts stand in the table.
 fn put_chain(p: usize, q: usize, n: usize, table: &[u32], text: &mut [u8]) -> usize
-    requires { ⌜ (p ≤ mostColumns) × (q ≤ mostPayslips) × (n ≤ mostSteps) × (length (now table) ≡ tableSize) × (mostText ≤ length (now text)) ⌝ }
+    requires { ⌜ (p ≤ mostColumns) × (q ≤ mostPayslips) × (n ≤ edition1 .limit) × (length (now table) ≡ tableSize) × (mostText ≤ length (now text)) ⌝ }
     ensures { λ r. ⌜ Put 0 (chainText p q n (amountIn (now (table .entry)))) (now (text .entry)) r (now (text .exit)) ⌝ }
 {
     let at = put_sizes(p, q, n, text);
@@ -161,7 +161,7 @@ fn measure_file(
     scratch: &mut [u32],
     table: &mut [u32],
 ) -> Reading
-    requires { ⌜ (length (now steps) ≡ 2 * mostSteps) × (length (now outputs) ≡ mostPayslips) × (length (now scratch) ≡ mostColumns + mostSteps + 1) ×
+    requires { ⌜ (length (now steps) ≡ 2 * edition1 .limit) × (length (now outputs) ≡ mostPayslips) × (length (now scratch) ≡ mostColumns + edition1 .limit + 1) ×
         (length (now table) ≡ tableSize) ⌝ }
     ensures { λ r. ⌜ readOf r ≡ answer (listingRule (now (bytes .entry)))
         (columnsOf (now (bytes .entry)) ∷ payslipsOf (now (bytes .entry)) ∷ lengthOf edition1 (now (bytes .entry)) ∷ []) ⌝ }
@@ -187,9 +187,9 @@ pub fn list(bytes: &[u8], text: &mut [u8; MOST_TEXT]) -> usize
     ensures { λ r. ⌜ r ≡ length (listing (now (bytes .entry))) ⌝ }
     ensures { λ r. ⌜ now (text .exit) ≡ over (listing (now (bytes .entry))) (now (text .entry)) ⌝ }
 {
-    let mut steps = [0u32; 2 * chain::MOST_STEPS];
+    let mut steps = [0u32; 2 * layout::EDITION_1_STEPS];
     let mut outputs = [0u32; chain::MOST_PAYSLIPS];
-    let mut scratch = [0u32; chain::MOST_VALUES];
+    let mut scratch = [0u32; layout::EDITION_1_VALUES];
     let mut table = [0u32; chain::MOST_PAYSLIPS * chain::MOST_COLUMNS];
     match measure_file(bytes, &mut steps, &mut outputs, &mut scratch, &mut table) {
         Reading::Refused(number, _) => put_refused(number, text),

@@ -50,7 +50,7 @@ fn run_chain(
 
 // Runs the chain of a file, read into the lent steps and outputs.
 fn run_file(bytes: &[u8], m: u32, bases: &[u32], steps: &mut [u32], outputs: &mut [u32]) {
-    let mut values = [0u32; chain::MOST_COLUMNS + chain::MOST_STEPS + 1];
+    let mut values = [0u32; layout::EDITION_1_VALUES];
     let mut figures = [0u32; chain::MOST_PAYSLIPS];
     match reading::read(bytes, steps, outputs) {
         Reading::Refused(number, place) => desk::tell_refusal(STDERR_FILENO, number, place),
@@ -94,7 +94,7 @@ fn main() {
     let Taken::Count(n) = bases_given(&mut bases) else {
         return;
     };
-    let mut steps = [0u32; 2 * chain::MOST_STEPS];
+    let mut steps = [0u32; 2 * layout::EDITION_1_STEPS];
     let mut outputs = [0u32; chain::MOST_PAYSLIPS];
     run_file(&bytes[..size], m, &bases[..n], &mut steps, &mut outputs);
 }

@@ -6,7 +6,7 @@ use Rattle.path.specs.Path.{Lent, lent, pathAnswer, pathLeaves}
 use Rattle.trials.specs.Rows.{Row, _gives_, Holds, rows-hold, answered, definitions}
 use Rattle.trials.specs.Trials.{nines, sheetA, stepsA, fileA}
 
--- slices with the given numbers of cells: two steps' cells for each step, outputs, bytes, steps and outputs read, scratch, values, figures
+-- slices of so many cells: steps (two cells each), outputs, bytes, steps and outputs read, scratch, values, figures
 abbrev pub cells : ℕ → ℕ → ℕ → ℕ → ℕ → ℕ → ℕ → ℕ → Lent
 cells a b c d e f g h = lent (nines a) (nines b) (nines c) (nines d) (nines e) (nines f) (nines g) (nines h)
 

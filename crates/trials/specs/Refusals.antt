@@ -1,6 +1,6 @@
 -- The small examples of document 01's table "Turned down", each with its number and place, and the lent slices as they were (Spec 10.1, 10.5).
 use mathlib.Core.List.{List, [], _∷_, _++_}
-use Prim.Native.Nat.{ℕ, _+_, _<_}
+use Prim.Native.Nat.{ℕ, _<_}
 use lib.ListN.{length, getD, replicate}
 use Rattle.chain.specs.Chain.{pairs}
 use Rattle.verify.specs.Verify.{verifyAnswer, verifyScratch}

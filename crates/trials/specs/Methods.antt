@@ -1,5 +1,5 @@
--- Chains of the methods, step for step, on sheets that document 01's trials do not reach, so that each sentence of Spec 3.1 to 3.7 matters on one:
--- count, ceiling, steps and outputs; example 2 of source document 000 by all methods (trial J); and Straus's largest tables.
+-- Chains of the methods, step for step, on sheets that the worked examples do not reach, so that each sentence of Spec 3.1 to 3.7 matters on one:
+-- count, ceiling, steps and outputs; case J by all methods; and Straus's largest tables.
 use mathlib.Core.List.{List, [], _∷_, _++_}
 use Prim.Native.Nat.{ℕ, _<_}
 use lib.ListN.{length, getD, drop}
@@ -19,7 +19,7 @@ compiles p q amounts method k =
 abbrev pub figures : Chain → List ℕ
 figures c = pick (residues 10000 (3 ∷ 5 ∷ 7 ∷ []) (c .steps)) (c .outputs)
 
--- example 2 of source document 000, and the same widened by two zero columns
+-- case J's sheet, and the same widened by two zero columns
 abbrev pub sheetJ : List ℕ
 sheetJ = 3 ∷ 0 ∷ 2 ∷ 1 ∷ 2 ∷ 0 ∷ 0 ∷ 0 ∷ 2 ∷ 3 ∷ 2 ∷ 1 ∷ []
 

@@ -1,4 +1,4 @@
--- The small examples of document 01's table "Turned down", each with its number and place, and the lent slices as they were (Spec 10.1, 10.5).
+-- One small input for each refusal (Spec 11), each with its number and place, and the lent slices as they were (Spec 10.1, 10.5).
 use mathlib.Core.List.{List, [], _∷_, _++_}
 use Prim.Native.Nat.{ℕ, _<_}
 use lib.ListN.{length, getD, replicate}

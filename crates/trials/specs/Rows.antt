@@ -121,7 +121,7 @@ unfoldable pub otherDefinitions : Unit {0}
 unfolding fileRule better unless chooseRule choice decimal lineOf listingRule chainText refusedText textFor listing pathAnswer pathLeaves
 otherDefinitions = tt
 
--- a table that unfolds this unfolds every definition of document 01
+-- a table that unfolds this unfolds every definition that reads the specification
 unfoldable pub definitions : Unit {0}
 unfolding chainDefinitions checkDefinitions runDefinitions fieldDefinitions fileDefinitions methodDefinitions compileDefinitions otherDefinitions
 definitions = tt

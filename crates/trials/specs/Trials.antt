@@ -1,4 +1,4 @@
--- The trials marked * of document 01, A to H, "stated together, as one table over the definitions, and proved so".
+-- The worked examples A to H (Spec 11), as one table over the definitions.
 use mathlib.Core.List.{List, [], _∷_, _++_}
 use Prim.Native.Nat.{ℕ, zero, suc, _+_, _^_, _<_}
 use lib.ListN.{length, getD, replicate}
@@ -64,7 +64,7 @@ stepsA = 2 ∷ 1 ∷ 3 ∷ 3 ∷ 4 ∷ 1 ∷ []
 abbrev pub fileA : List ℕ
 fileA = 0x11 ∷ 0x00 ∷ 0x00 ∷ 0x34 ∷ 0x5b ∷ 0x86 ∷ 0x80 ∷ []
 
--- source document 001's chain for 63
+-- case G's chain for 63
 abbrev pub stepsG : List Step
 stepsG = pairs (1 ∷ 1 ∷ 2 ∷ 1 ∷ 3 ∷ 2 ∷ 4 ∷ 2 ∷ 5 ∷ 5 ∷ 6 ∷ 6 ∷ 7 ∷ 7 ∷ 8 ∷ 5 ∷ [])
 

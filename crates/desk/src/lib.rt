@@ -6,7 +6,7 @@ use libc::STDERR_FILENO;
 use text::Parsed;
 
 // Room for the numbers of the largest sheet: p, q and the amounts.
-pub const MOST_NUMBERS: usize = 1026;
+pub const MOST_NUMBERS: usize = 2 + chain::MOST_COLUMNS * chain::MOST_PAYSLIPS;
 
 // As many bytes as a sheet's text may not have.
 const MOST_TEXT: usize = 65536;

@@ -23,16 +23,16 @@ pub record InSome (p : ℕ) (B : ℕ → Type 0) : Type 0 where
   pub there : B column
 
 -- a place with 0 for none
-pub data Place (count : ℕ) (B : ℕ → Type 0) : ℕ → Type 0 where
-  nowhere : ((t : ℕ) → 1 ≤ t → t ≤ count → B t → ⊥) → Place count B 0
-  first : {s : ℕ} → First count B s → Place count B s
+pub data FirstPlace (count : ℕ) (B : ℕ → Type 0) : ℕ → Type 0 where
+  nowhere : ((t : ℕ) → 1 ≤ t → t ≤ count → B t → ⊥) → FirstPlace count B 0
+  first : {s : ℕ} → First count B s → FirstPlace count B s
 
 -- `left k` is what is left to find after k places: at each it is found, or left to those that follow
 module _ (count : ℕ) (B : ℕ → Type 0) (decide : (t : ℕ) → Dec (B t)) (left : ℕ → ℕ)
     (found : (k : ℕ) → k < count → B (suc k) → left k ≡ suc k)
     (on : (k : ℕ) → k < count → (B (suc k) → ⊥) → left k ≡ left (suc k))
     (none : left count ≡ 0) where
-  walk : (n k : ℕ) → k + n ≡ count → left 0 ≡ left k → ((t : ℕ) → 1 ≤ t → t ≤ k → B t → ⊥) → Place count B (left 0)
+  walk : (n k : ℕ) → k + n ≡ count → left 0 ≡ left k → ((t : ℕ) → 1 ≤ t → t ≤ k → B t → ⊥) → FirstPlace count B (left 0)
   walk zero k e is past =
       let end : k ≡ count = omega arith in
       rw (is ∙ ap left end ∙ none) (nowhere (λ t h g. past t h (omega arith)))
@@ -44,14 +44,14 @@ module _ (count : ℕ) (B : ℕ → Type 0) (decide : (t : ℕ) → Dec (B t)) (
           let last : t ≡ suc k = omega arith in
           rw last not
 
-      by-test : (left 0 ≡ left (suc k) → ((t : ℕ) → 1 ≤ t → t ≤ suc k → B t → ⊥) → Place count B (left 0)) → Dec (B (suc k))
-          → Place count B (left 0)
+      by-test : (left 0 ≡ left (suc k) → ((t : ℕ) → 1 ≤ t → t ≤ suc k → B t → ⊥) → FirstPlace count B (left 0)) → Dec (B (suc k))
+          → FirstPlace count B (left 0)
       by-test ih (yes b) =
           rw (is ∙ found k (omega arith) b)
           (first {s = suc k} (record { some = omega arith; inside = omega arith; here = b; before = λ t h g. past t h (omega arith) }))
       by-test ih (no not) = ih (is ∙ on k (omega arith) not) (λ t h g. by-place not t h g (decLt t (suc k)))
 
-  pub walked : Place count B (left 0)
+  pub walked : FirstPlace count B (left 0)
   walked = walk count 0 (omega arith) refl (λ t h g b. omega arith)
 
 -- one column more
@@ -93,14 +93,14 @@ module _ (count : ℕ) (B : ℕ → ℕ → Type 0) where
         before = λ t h g. in-neither p (λ c. B c t) (u t h g) (f .before t h g);
       }
 
-  both : (p : ℕ) {a b : ℕ} → Place count (In p) a → Place count (B p) b → Place count (In (suc p)) (earlier a b)
+  both : (p : ℕ) {a b : ℕ} → FirstPlace count (In p) a → FirstPlace count (B p) b → FirstPlace count (In (suc p)) (earlier a b)
   both p (nowhere u) (nowhere v) = nowhere (λ t h g. in-neither p (λ c. B c t) (u t h g) (v t h g))
   both p (nowhere u) (first {s = s} f) = first (last-first p s f (λ t h g. u t h (omega (arith, f .inside))))
   both p (first {s = s} f) (nowhere v) =
       rw (← earlier-first s 0 (omega (arith, f .some)) refl) (first (more-first p s f (λ t h g. v t h (omega (arith, f .inside)))))
   both p (first {s = s} f) (first {s = r} g) = by-size (decLt s r)
     where
-      by-size : Dec (s < r) → Place count (In (suc p)) (earlier s r)
+      by-size : Dec (s < r) → FirstPlace count (In (suc p)) (earlier s r)
       by-size (yes lt) =
           rw (← earlier-less s r (omega (arith, f .some)) (omega (arith, g .some)) lt)
           (first (more-first p s f (λ t h k. g .before t h (omega arith))))
@@ -108,19 +108,19 @@ module _ (count : ℕ) (B : ℕ → ℕ → Type 0) where
           rw (← earlier-more s r (omega (arith, f .some)) (omega (arith, g .some)) (omega arith))
           (first (last-first p r g (λ t h k. f .before t h (omega arith))))
 
-  pub earliest-place : (p : ℕ) (f : ℕ → ℕ) → ((c : ℕ) → c < p → Place count (B c) (f c)) → Place count (In p) (earliest p f)
+  pub earliest-place : (p : ℕ) (f : ℕ → ℕ) → ((c : ℕ) → c < p → FirstPlace count (B c) (f c)) → FirstPlace count (In p) (earliest p f)
   earliest-place zero f each = nowhere (λ t h g i. omega (arith, i .below))
   earliest-place (suc p) f each = both p (earliest-place p f (λ c h. each c (omega arith))) (each p (omega arith))
 
 -- a refusal at a place is one at the first place
 module _ (count : ℕ) (B : ℕ → Type 0) (n s : ℕ) where
-  at-first : (k : ℕ) → Place count B k → refuseAt n k ≡ refused n s → First count B s
+  at-first : (k : ℕ) → FirstPlace count B k → refuseAt n k ≡ refused n s → First count B s
   unfolding refuseAt
   at-first k (nowhere u) e = let z : _≡_ {A = ℕ} 0 1 = cc in absurd (omega arith)
   at-first zero (first f) e = absurd (omega (arith, f .some))
   at-first (suc k) (first f) e = let is : suc k ≡ s = cc in rw is at f
 
-  first-at : (k : ℕ) → Place count B k → First count B s → refuseAt n k ≡ refused n s
+  first-at : (k : ℕ) → FirstPlace count B k → First count B s → refuseAt n k ≡ refused n s
   first-at k (nowhere u) f = absurd (u s (f .some) (f .inside) (f .here))
   first-at k (first g) f = sym (at-some n k s (omega (arith, f .some)) same)
     where
@@ -132,5 +132,5 @@ module _ (count : ℕ) (B : ℕ → Type 0) (n s : ℕ) where
       same : s ≡ k
       same = by-size (decLt s k) (decLt k s)
 
-  pub refused-first : (k : ℕ) → Place count B k → refuseAt n k ≡ refused n s ↔ First count B s
+  pub refused-first : (k : ℕ) → FirstPlace count B k → refuseAt n k ≡ refused n s ↔ First count B s
   refused-first k place = (at-first k place, first-at k place)

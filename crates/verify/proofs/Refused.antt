@@ -17,7 +17,7 @@ use Rattle.verify.specs.Verify.{exponentsRule, payslipsRule, verifyRule}
 use Rattle.verify.proofs.Over.{overLeft, over-start, over-on, over-bad, over-end}
 use Rattle.verify.proofs.Other.{otherLeft, other-start, other-on, other-bad, other-end}
 use Rattle.verify.proofs.Columns.{largeIn, otherIn}
-use Rattle.verify.proofs.First.{First, InSome, Place, walked, earliest-place, refused-first}
+use Rattle.verify.proofs.First.{First, InSome, FirstPlace, walked, earliest-place, refused-first}
 use Rattle.verify.proofs.Fitting.{Fitting, fitting, fits}
 use Rattle.verify.proofs.Numbers.{Never, from-second, from-first, never-at, never-fitting}
 use Rattle.verify.proofs.Passing.{exponents-within, within-exponents}
@@ -36,7 +36,7 @@ Differs p amounts steps outputs i = InSome p (λ c. Same p amounts steps outputs
 
 -- the exponents of the steps, which are walked over in each column
 module _ (p : ℕ) (steps : List Step) where
-  large-place : (c : ℕ) → Place (length steps) (λ s. mostAmount < exponentOf p steps c (p + s)) (largeIn p steps c)
+  large-place : (c : ℕ) → FirstPlace (length steps) (λ s. mostAmount < exponentOf p steps c (p + s)) (largeIn p steps c)
   large-place c =
       rw (over-start p w)
       (walked (length steps) _ (λ s. decLt mostAmount (exponentOf p steps c (p + s))) (overLeft p w) found on none)
@@ -71,7 +71,7 @@ module _ (p : ℕ) (steps : List Step) where
 
 -- the payslips, likewise
 module _ (p : ℕ) (amounts : List ℕ) (steps : List Step) (outputs : List ℕ) where
-  other-place : (c : ℕ) → Place (length outputs) (λ i. Same p amounts steps outputs i c → ⊥) (otherIn p amounts steps outputs c)
+  other-place : (c : ℕ) → FirstPlace (length outputs) (λ i. Same p amounts steps outputs i c → ⊥) (otherIn p amounts steps outputs c)
   other-place c = rw (other-start p c amounts es outputs) (walked (length outputs) _ (λ i. differs (test i)) left found on none)
     where
       es : List ℕ

@@ -20,6 +20,6 @@ pub record SummedUp (p : ℕ) (f : List Step → List ℕ) (steps : List Step) (
   pub cells : new ≡ over (f (stepsBefore r steps)) old
 
 -- all columns held: what was found, and that no cell from `top` on changed
-pub record Held (found wanted : Verdict) (top : ℕ) (old new : List ℕ) : Type 0 where
+pub record ColumnsHeld (found wanted : Verdict) (top : ℕ) (old new : List ℕ) : Type 0 where
   pub verdict : found ≡ wanted
   pub past : drop top new ≡ drop top old

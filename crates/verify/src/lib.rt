@@ -10,7 +10,7 @@ ghost use Rattle.chain.specs.Chain.{mostColumns, pairs, stepsRule, outputsRule,
 ghost use Rattle.chain.specs.Judgement.{verdictOf};
 ghost use Rattle.verify.specs.Verify.{earlier, firstOther, exponentsRule, payslipsRule, scratchSize, fittingRule, verifyAnswer, verifyScratch};
 ghost use Rattle.verify.specs.Verified.{verifiedOf};
-ghost use Rattle.verify.specs.Inner.{SummedUp, Held};
+ghost use Rattle.verify.specs.Inner.{SummedUp, ColumnsHeld};
 use chain::Judgement;
 
 // What the check answers: the chain passed, or a refusal with its number and its place, 0 for none.
@@ -146,7 +146,7 @@ fn hold(p: usize, steps: &[u32], outputs: &[u32], amounts: &[u32], scratch: &mut
     requires { ⌜ (p ≤ mostColumns) × (stepsRule p 1 (pairs (now steps)) ≡ fine) ×
         (outputsRule (p + length (pairs (now steps))) 1 (now outputs) ≡ fine) × (length (now amounts) ≡ p * length (now outputs)) ×
         (p + length (now steps) / 2 < length (now scratch)) ⌝ }
-    ensures { λ r. ⌜ Held (verdictOf r) (exponentsRule p (pairs (now (steps .entry))) then payslipsRule p (now (amounts .entry))
+    ensures { λ r. ⌜ ColumnsHeld (verdictOf r) (exponentsRule p (pairs (now (steps .entry))) then payslipsRule p (now (amounts .entry))
         (pairs (now (steps .entry))) (now (outputs .entry))) (p + length (now (steps .entry)) / 2 + 1) (now (scratch .entry))
         (now (scratch .exit)) ⌝ }
 {

@@ -41,6 +41,7 @@ extern "C" {
 /* The values of a chain with p columns and n steps: what the check's scratch and the run's values need. */
 #define SPOUTBASKET_VALUES(p, n) ((size_t)(p) + (size_t)(n) + 1)
 #define SPOUTBASKET_MOST_VALUES (SPOUTBASKET_MOST_COLUMNS + SPOUTBASKET_MOST_STEPS + 1)
+#define SPOUTBASKET_MOST_VALUES_EDITION_1 (SPOUTBASKET_MOST_COLUMNS + SPOUTBASKET_MOST_STEPS_EDITION_1 + 1)
 
 /* The bytes of the file of a legal chain with p columns, q payslips and n steps. */
 static inline size_t spoutbasket_file_length(size_t p, size_t q, size_t n)
@@ -118,9 +119,9 @@ uint32_t spoutbasket_run_pairs(size_t p, const spoutbasket_step *steps, size_t s
                                uint32_t modulus, const uint32_t *bases, size_t bases_len,
                                uint32_t *values, size_t values_len, uint32_t *figures, size_t figures_len, uint64_t answer[4]);
 
-/* Chooses between two files for a sheet: the one with fewer steps of those that read and pass, the first on equality. Needs as scratch
- * 2 * SPOUTBASKET_MOST_STEPS cells of steps, SPOUTBASKET_MOST_PAYSLIPS outputs and SPOUTBASKET_MOST_VALUES numbers; what they hold afterwards is left
- * open. Answers 1 or 2, the file chosen; if neither will do, the first file's refusal. */
+/* Chooses between two files for a sheet: of two that make it the one with fewer steps, or the first. Needs as scratch
+ * 2 * SPOUTBASKET_MOST_STEPS_EDITION_1 cells of steps, SPOUTBASKET_MOST_PAYSLIPS outputs and SPOUTBASKET_MOST_VALUES_EDITION_1 numbers; what they hold
+ * afterwards is left open. Answers 1 or 2, the file chosen; if neither will do, the first file's refusal. */
 uint32_t spoutbasket_choose(size_t p, size_t q, const uint32_t *amounts, size_t amounts_len,
                             const uint8_t *a, size_t a_len, const uint8_t *b, size_t b_len,
                             uint32_t *steps, size_t steps_len, uint32_t *outputs, size_t outputs_len,

@@ -3,7 +3,7 @@ use crate::{slices, Refusal, Sheet, LONGEST_FILE, MOST_PAYSLIPS, MOST_STEPS, MOS
 
 /// A multiplication chain, whoever made it.
 ///
-/// Value 0 is the empty product, values 1 to p are the bases, and step s makes value p + s as the product of two earlier values. Nothing is asked of a
+/// Its values are the empty product, the bases, and for each step the product of two values before it. Nothing is asked of a
 /// chain that is put together here: each call judges it for itself.
 ///
 /// ```
@@ -84,8 +84,7 @@ impl Chain {
         Ok(lent.chain(columns, payslips, n))
     }
 
-    /// Checks the chain against a sheet: it passes exactly if it is legal, no exponent exceeds 4,294,967,295 and each output's exponents are its
-    /// payslip. A sheet with other columns or payslips that has as many amounts is refused 14, place 0, as the chooser does.
+    /// Checks that the chain is legal and makes the sheet, with no exponent above the largest amount on the way. A sheet with other columns or payslips that has as many amounts is refused 14, place 0, as the chooser does.
     ///
     /// ```
     /// use spoutbasket::{Method, Sheet};

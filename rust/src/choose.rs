@@ -1,8 +1,8 @@
 use crate::refusal::answer;
-use crate::{slices, Refusal, Sheet, MOST_PAYSLIPS, MOST_STEPS, MOST_VALUES};
+use crate::{slices, Refusal, Sheet, MOST_PAYSLIPS, MOST_STEPS_EDITION_1, MOST_VALUES_EDITION_1};
 
-/// Of two files the one with fewer steps among those that read and pass the check against the sheet, the first on equality: one of the two slices
-/// itself. If neither does, the first file's refusal.
+/// The better of two files for a sheet: the one with fewer steps, or the first, if both make the sheet, else the one that does. It is one of the two
+/// slices itself. If neither makes it, the first file's refusal.
 ///
 /// ```
 /// use spoutbasket::{choose, Method, Sheet};
@@ -18,8 +18,8 @@ use crate::{slices, Refusal, Sheet, MOST_PAYSLIPS, MOST_STEPS, MOST_VALUES};
 /// # }
 /// ```
 pub fn choose<'a>(sheet: &Sheet, a: &'a [u8], b: &'a [u8]) -> Result<&'a [u8], Refusal> {
-    let mut steps = vec![0; 2 * MOST_STEPS];
-    let (mut outputs, mut numbers) = (vec![0; MOST_PAYSLIPS], vec![0; MOST_VALUES]);
+    let mut steps = vec![0; 2 * MOST_STEPS_EDITION_1];
+    let (mut outputs, mut numbers) = (vec![0; MOST_PAYSLIPS], vec![0; MOST_VALUES_EDITION_1]);
     let [file, ..] = answer(|words| {
         slices::choose(
             sheet.columns(),

@@ -51,6 +51,8 @@ pub const MOST_STEPS: usize = 16_000;
 pub const MOST_VALUES: usize = 1 + MOST_COLUMNS + MOST_STEPS;
 /// The most steps of a chain in a file of edition 1.
 pub const MOST_STEPS_EDITION_1: usize = 16_000;
+/// The most values of a chain in a file of edition 1.
+pub const MOST_VALUES_EDITION_1: usize = 1 + MOST_COLUMNS + MOST_STEPS_EDITION_1;
 // The bits of n in a file of edition 1; no field of a step or an output is wider.
 const LENGTH_BITS: usize = 14;
 // The bits of a file before its steps: edition, p − 1, q − 1 and n.

@@ -17,7 +17,7 @@ use std::fmt;
 /// ```
 #[derive(Clone, Copy, Debug, PartialEq, Eq)]
 pub enum Method {
-    /// Straus's method (Brauer's for one column), digits of k bits: k from 1 to 5, with p times k at most 10.
+    /// Straus's method (Brauer's for one column), digits of k bits: k is 1 to 5, and the columns times k are 10 at the most.
     Straus(usize),
     /// Yao's method, digits of k bits: k from 1 to 8.
     Yao(usize),

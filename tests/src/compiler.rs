@@ -118,7 +118,7 @@ impl Steps {
     }
 
     /// The values of all vectors of digits below 2^k over the inputs, by their numbers t: the first input has weight 1, each next one 2^k times
-    /// the weight before. A vector that is neither zero nor a unit is made from itself less one of its lowest nonzero input, and that input.
+    /// the weight before. Zero and units are there; any other is one step, from the vector with one less of the first input that it has, and that input.
     fn table(&mut self, k: usize, inputs: &[u32]) -> Vec<Option<u32>> {
         let mut values = vec![None];
         for t in 1..1usize << (k * inputs.len()) {
@@ -135,7 +135,7 @@ impl Steps {
         values
     }
 
-    /// A base's powers 2^(ki) for i below j, by repeated squaring.
+    /// The first j powers of a base whose exponents are powers of 2^k: each is the one before, squared k times.
     fn powers(&mut self, base: u32, k: usize, j: usize) -> Vec<u32> {
         let mut value = base;
         (0..j)

@@ -130,8 +130,8 @@ pub fn decide(
     }
 }
 
-// Hands back the file with fewer steps among those that read and make the sheet, as the lender's own bytes, number and place being 0;
-// else an empty part, and the refusal's number and place.
+// The better of two files that make the sheet, the shorter chain first and else the first file: that very slice, with number and place 0. Where neither
+// will do, an empty part, and the first file's refusal by number and place.
 pub fn choose<'a>(
     p: usize,
     q: usize,

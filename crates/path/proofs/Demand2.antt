@@ -40,7 +40,7 @@ pub legal-one-chain : (p p′ : ℕ) (steps steps′ : List Step) (outputs outpu
 legal-one-chain p p′ steps steps′ outputs outputs′ a b =
     one-chain edition1 edition1-sound p p′ steps steps′ outputs outputs′ (legal-held p steps outputs a) (legal-held p′ steps′ outputs′ b)
 
--- "reading that file into slices long enough yields the chain"
+-- reading the file with room enough gives the chain
 module _ (p : ℕ) (steps : List Step) (outputs : List ℕ) (legal : Legal p steps outputs) where
   pub legal-reads : (pairsLent outputsLent : ℕ) → length steps ≤ pairsLent → length outputs ≤ outputsLent
       → readRule edition1 (fileOf edition1 p steps outputs) pairsLent outputsLent ≡ fine

@@ -94,7 +94,7 @@ trials =
     -- E: 11, Yao 2
     ∷ compiled 1 (11 ∷ []) 2 2 5 gives (0 ∷ 5 ∷ 1 ∷ 1 ∷ 2 ∷ 2 ∷ 3 ∷ 1 ∷ 4 ∷ 1 ∷ 5 ∷ 4 ∷ 9 ∷ 6 ∷ 9 ∷ [])
     ∷ counted 1 (11 ∷ []) 2 2 5 gives (5 ∷ 5 ∷ [])
-    -- F: one amount 0, Straus 1: no step, output 0, figure 1; modulo 1, figure 0
+    -- F: a payslip of zeros has output 0, and the figure of the empty product for any modulus
     ∷ compiled 1 (0 ∷ []) 1 1 0 gives (0 ∷ 0 ∷ 9 ∷ 0 ∷ 9 ∷ [])
     ∷ counted 1 (0 ∷ []) 1 1 0 gives (0 ∷ 0 ∷ [])
     ∷ ran 1 [] 0 1000 (3 ∷ []) gives (0 ∷ 0 ∷ 1 ∷ 3 ∷ 9 ∷ 9 ∷ 9 ∷ 9 ∷ 9 ∷ 9 ∷ 9 ∷ 1 ∷ 9 ∷ [])
@@ -102,7 +102,7 @@ trials =
     ∷ (figure 1 1000 (3 ∷ []) (0 ∷ []) 0 ∷ figure 1 1 (0 ∷ []) (0 ∷ []) 0 ∷ []) gives (1 ∷ 0 ∷ [])
     -- G: a chain whoever made it, output 9, passes for 63
     ∷ checked 1 (63 ∷ []) stepsG 9 gives (0 ∷ replicate 10 0 ++ 9 ∷ [])
-    -- H: 31 squarings pass for 2^31; 32 are refused 13, place 32
+    -- H: squarings in a row, up to the last exponent that is allowed and one further
     ∷ checked 1 (2 ^ 31 ∷ []) (doublings 31) 32 gives (0 ∷ replicate 33 0 ++ 9 ∷ [])
     ∷ checked 1 (2 ^ 31 ∷ []) (doublings 32) 32 gives (13 ∷ 32 ∷ replicate 34 0 ++ 9 ∷ [])
     ∷ []

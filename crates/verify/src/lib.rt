@@ -180,7 +180,7 @@ fn tell(found: Judgement) -> Verified
     }
 }
 
-// Whether a chain makes a sheet: on 13, 14 and passing the first p + n + 1 cells of the scratch are 0 afterwards, else it is untouched.
+// Whether a chain makes a sheet. Where the scratch was used (13, 14, passing) its first p + n + 1 cells are cleared; else it is as it was.
 pub fn verify(
     p: usize,
     steps: &[u32],

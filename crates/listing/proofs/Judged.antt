@@ -13,21 +13,17 @@ use Rattle.chain.proofs.Legal.{chain-parts}
 use Rattle.chain.proofs.Pairs.{pairs-flat}
 use Rattle.verify.specs.Verify.{exponentsRule}
 use Rattle.layout.specs.Layout.{edition1}
-use Rattle.layout.specs.File.{longestFile, columnsOf, payslipsOf, lengthOf, stepsOf, outputsOf, readRule}
+use Rattle.layout.specs.File.{longestFile, columnsOf, payslipsOf, stepsOf, outputsOf, readRule}
 use Rattle.layout.proofs.Readable.{readable, columns-low}
 use Rattle.reading.proofs.Good.{Good}
 use Rattle.listing.specs.Listing.{amountOf, listingRule}
-use Rattle.listing.specs.Inner.{TableHolds}
+use Rattle.listing.specs.Inner.{TableHolds, Measured, sizesOf}
 use Rattle.listing.proofs.Tables.{atOutputs}
-
--- what a file's listing begins with
-abbrev pub sizesOf : List ℕ → List ℕ
-sizesOf bytes = columnsOf bytes ∷ payslipsOf bytes ∷ lengthOf edition1 bytes ∷ []
 
 -- the answer to a refusal, and what it says of a table, which is nothing
 pub listing-refused : (bytes table : List ℕ) (k s : ℕ) → refused k s ≡ listingRule bytes
-    → (refusal k s ≡ answer (listingRule bytes) (sizesOf bytes)) × (listingRule bytes ≡ fine → TableHolds table (payslipsOf bytes) (columnsOf bytes) (amountOf bytes))
-listing-refused bytes table k s e = (answer-refused _ _ k s e, λ f. absurd (not-fine (e ∙ f)))
+    → Measured (refusal k s) (answer (listingRule bytes) (sizesOf bytes)) (listingRule bytes) (TableHolds table (payslipsOf bytes) (columnsOf bytes) (amountOf bytes))
+listing-refused bytes table k s e = record { told-is = answer-refused _ _ k s e; holds = λ f. absurd (not-fine (e ∙ f)) }
 
 module _ (bytes : List ℕ) where
   pub too-long : longestFile < length bytes → refused 6 0 ≡ listingRule bytes
@@ -73,14 +69,16 @@ module _ (bytes steps outputs : List ℕ) (p q n : ℕ) (t : Good edition1 bytes
     -- the answer to a file that is listed, and what the table holds
     pub listing-done : (table : List ℕ) → fine ≡ exponentsRule p (pairs (take (2 * n) steps))
         → TableHolds table (length (take q outputs)) p (atOutputs p (pairs (take (2 * n) steps)) (take q outputs))
-        → (done (p ∷ q ∷ n ∷ []) ≡ answer (listingRule bytes) (sizesOf bytes)) × (listingRule bytes ≡ fine → TableHolds table (payslipsOf bytes) (columnsOf bytes) (amountOf bytes))
-    listing-done table e holds = (
-      rw (t .taken .columns, t .taken .payslips, t .taken .long) (answer-done _ _ (measured fine e)),
-      λ f.
-          record {
-            each = λ i c hi hc.
-                holds .each i c (omega (arith, length-take-le q outputs (t .taken .outputs-room), t .taken .payslips)) (omega (arith, t .taken .columns))
-                ∙ ap₂ (λ (k : ℕ) (l : List Step). atOutputs k l (take q outputs) i c) (t .taken .columns) steps-are
-                ∙ ap (λ (l : List ℕ). atOutputs (columnsOf bytes) (stepsOf edition1 bytes) l i c) (t .taken .outputs-front);
-          },
-    )
+        → Measured (done (p ∷ q ∷ n ∷ [])) (answer (listingRule bytes) (sizesOf bytes)) (listingRule bytes)
+        (TableHolds table (payslipsOf bytes) (columnsOf bytes) (amountOf bytes))
+    listing-done table e holds =
+        record {
+          told-is = rw (t .taken .columns, t .taken .payslips, t .taken .long) (answer-done _ _ (measured fine e));
+          holds = λ f.
+              record {
+                each = λ i c hi hc.
+                    holds .each i c (omega (arith, length-take-le q outputs (t .taken .outputs-room), t .taken .payslips)) (omega (arith, t .taken .columns))
+                    ∙ ap₂ (λ (k : ℕ) (l : List Step). atOutputs k l (take q outputs) i c) (t .taken .columns) steps-are
+                    ∙ ap (λ (l : List ℕ). atOutputs (columnsOf bytes) (stepsOf edition1 bytes) l i c) (t .taken .outputs-front);
+              };
+        }

@@ -18,9 +18,8 @@ use Rattle.layout.proofs.Readable.{readable, columns-low, payslips-low}
 use Rattle.chain.proofs.Told.{verdictIn, told, told-values}
 use Rattle.digits.proofs.Listed.{list-same}
 use Rattle.listing.specs.Listing.{lineOf, payslipLines, amountOf, listingRule, chainText, refusedText, textFor, listing}
-use Rattle.listing.specs.Inner.{amountIn, TableHolds}
+use Rattle.listing.specs.Inner.{amountIn, TableHolds, sizesOf}
 use Rattle.decimal.specs.Inner.{Put}
-use Rattle.listing.proofs.Judged.{sizesOf}
 
 -- the lines of payslips with the same amounts
 lines-same : (p : ℕ) (f g : ℕ → ℕ → ℕ) (q : ℕ) → ((i c : ℕ) → i < q → c < p → f i c ≡ g i c) → payslipLines p f q ≡ payslipLines p g q

@@ -1,10 +1,13 @@
 -- Inner vocabulary: the table of amounts that is filled column by column, and how long the parts of a listing can be. Nobody has to believe it to believe
 -- an entry point's promise.
 use mathlib.Core.Path.{_≡_}
-use mathlib.Core.List.{List}
+use mathlib.Core.List.{List, [], _∷_}
 use Prim.Native.Nat.{ℕ, _+_, _*_, _<_}
 use lib.ListN.{getD}
+use Rattle.chain.specs.Verdict.{Verdict, fine}
 use Rattle.chain.specs.Chain.{mostColumns, mostPayslips}
+use Rattle.layout.specs.Layout.{edition1}
+use Rattle.layout.specs.File.{columnsOf, payslipsOf, lengthOf}
 
 -- a cell for each payslip, column after column
 abbrev pub tableSize : ℕ
@@ -17,6 +20,15 @@ amountIn table i c = getD table (mostPayslips * c + i) 0
 -- the table has the amounts of the first q payslips in the first p columns; f i c is that of payslip i in column c
 pub record TableHolds (table : List ℕ) (q p : ℕ) (f : ℕ → ℕ → ℕ) : Type 0 where
   pub each : (i c : ℕ) → i < q → c < p → amountIn table i c ≡ f i c
+
+-- what a function that fills the table tells, and that the table holds the amounts if the rule finds nothing
+pub record Measured {A : Type 0} (told right : A) (rule : Verdict) (Holds : Type 0) : Type 0 where
+  pub told-is : told ≡ right
+  pub holds : rule ≡ fine → Holds
+
+-- what a file's listing begins with
+abbrev pub sizesOf : List ℕ → List ℕ
+sizesOf bytes = columnsOf bytes ∷ payslipsOf bytes ∷ lengthOf edition1 bytes ∷ []
 
 -- a blank and the 10 digits of the largest amount
 abbrev pub mostField : ℕ

@@ -9,11 +9,11 @@ ghost use Rattle.chain.specs.Chain.{mostColumns, mostPayslips, pairs, stepsRule
 ghost use Rattle.chain.specs.Judgement.{verdictOf};
 ghost use Rattle.verify.specs.Verify.{exponentsRule};
 ghost use Rattle.layout.specs.Layout.{edition1};
-ghost use Rattle.layout.specs.File.{columnsOf, payslipsOf, lengthOf};
+ghost use Rattle.layout.specs.File.{columnsOf, payslipsOf};
 ghost use Rattle.reading.specs.Answers.{readOf};
 ghost use Rattle.listing.specs.Listing.{moreFields, lineOf, payslipLines, amountOf, listingRule, chainText, refusedText, listing};
-ghost use Rattle.listing.specs.Inner.{tableSize, amountIn, TableHolds, mostField, mostSizes, mostLine, mostText};
-ghost use Rattle.decimal.specs.Inner.{Put};
+ghost use Rattle.listing.specs.Inner.{tableSize, amountIn, TableHolds, Measured, sizesOf, mostField, mostSizes, mostLine, mostText};
+ghost use Rattle.decimal.specs.Inner.{Put, PutShort};
 ghost use Rattle.decimal.specs.Decimal.{blank, decimal};
 ghost use Rattle.digits.specs.Range.{listTo};
 use chain::Judgement;
@@ -41,11 +41,10 @@ fn put_field(x: u32, at: usize, text: &mut [u8]) -> usize
     decimal::put_decimal(x as usize, at + 1, text)
 }
 
-// The amounts of payslip i, each after a blank. The table has a cell for each of 64 payslips, column after column.
+// The amounts of payslip i, each after a blank. The table has a cell for every payslip that a sheet can have, column after column.
 fn put_amounts(i: usize, p: usize, table: &[u32], at: usize, text: &mut [u8]) -> usize
     requires { ⌜ (i < mostPayslips) × (p ≤ mostColumns) × (length (now table) ≡ tableSize) × (at + mostField * p ≤ length (now text)) ⌝ }
-    ensures { λ r. ⌜ Put at (moreFields (listTo p (amountIn (now (table .entry)) i))) (now (text .entry)) r (now (text .exit)) ⌝ }
-    ensures { λ r. ⌜ r ≤ at + mostField * p ⌝ }
+    ensures { λ r. ⌜ PutShort (mostField * p) at (moreFields (listTo p (amountIn (now (table .entry)) i))) (now (text .entry)) r (now (text .exit)) ⌝ }
 {
     let mut end = at;
     let mut c: usize = 0;
@@ -59,8 +58,7 @@ fn put_amounts(i: usize, p: usize, table: &[u32], at: usize, text: &mut [u8]) ->
 // The line of payslip i.
 fn put_payslip(i: usize, p: usize, table: &[u32], at: usize, text: &mut [u8]) -> usize
     requires { ⌜ (i < mostPayslips) × (p ≤ mostColumns) × (length (now table) ≡ tableSize) × (at + mostLine ≤ length (now text)) ⌝ }
-    ensures { λ r. ⌜ Put at (lineOf (i + 1) (listTo p (amountIn (now (table .entry)) i))) (now (text .entry)) r (now (text .exit)) ⌝ }
-    ensures { λ r. ⌜ r ≤ at + mostLine ⌝ }
+    ensures { λ r. ⌜ PutShort mostLine at (lineOf (i + 1) (listTo p (amountIn (now (table .entry)) i))) (now (text .entry)) r (now (text .exit)) ⌝ }
 {
     let first = decimal::put_decimal(i + 1, at, text);
     let end = put_amounts(i, p, table, first, text);
@@ -85,8 +83,7 @@ fn put_payslips(p: usize, q: usize, table: &[u32], at: usize, text: &mut [u8]) -
 // The line `p q n`.
 fn put_sizes(p: usize, q: usize, n: usize, text: &mut [u8]) -> usize
     requires { ⌜ (p ≤ mostColumns) × (q ≤ mostPayslips) × (n ≤ edition1 .limit) × (mostSizes ≤ length (now text)) ⌝ }
-    ensures { λ r. ⌜ Put 0 (lineOf p (q ∷ n ∷ [])) (now (text .entry)) r (now (text .exit)) ⌝ }
-    ensures { λ r. ⌜ r ≤ mostSizes ⌝ }
+    ensures { λ r. ⌜ PutShort mostSizes 0 (lineOf p (q ∷ n ∷ [])) (now (text .entry)) r (now (text .exit)) ⌝ }
 {
     let first = decimal::put_decimal(p, 0, text);
     let second = put_field(q as u32, first, text);
@@ -135,9 +132,8 @@ fn measure(
     requires { ⌜ (p ≤ mostColumns) × (stepsRule p 1 (pairs (now steps)) ≡ fine) ×
         (outputsRule (p + length (pairs (now steps))) 1 (now outputs) ≡ fine) × (length (now outputs) ≤ mostPayslips) ×
         (p + length (now steps) / 2 < length (now scratch)) × (length (now table) ≡ tableSize) ⌝ }
-    ensures { λ r. ⌜ verdictOf r ≡ exponentsRule p (pairs (now (steps .entry))) ⌝ }
-    ensures { λ r. ⌜ (verdictOf r ≡ fine → TableHolds (now (table .exit)) (length (now (outputs .entry))) p
-        (λ i c. exponentOf p (pairs (now (steps .entry))) c (getD (now (outputs .entry)) i 0))) ⌝ }
+    ensures { λ r. ⌜ Measured (verdictOf r) (exponentsRule p (pairs (now (steps .entry)))) (verdictOf r)
+        (TableHolds (now (table .exit)) (length (now (outputs .entry))) p (λ i c. exponentOf p (pairs (now (steps .entry))) c (getD (now (outputs .entry)) i 0))) ⌝ }
 {
     let mut large: usize = 0;
     let mut c: usize = 0;
@@ -163,10 +159,8 @@ fn measure_file(
 ) -> Reading
     requires { ⌜ (length (now steps) ≡ 2 * edition1 .limit) × (length (now outputs) ≡ mostPayslips) × (length (now scratch) ≡ mostColumns + edition1 .limit + 1) ×
         (length (now table) ≡ tableSize) ⌝ }
-    ensures { λ r. ⌜ readOf r ≡ answer (listingRule (now (bytes .entry)))
-        (columnsOf (now (bytes .entry)) ∷ payslipsOf (now (bytes .entry)) ∷ lengthOf edition1 (now (bytes .entry)) ∷ []) ⌝ }
-    ensures { λ r. ⌜ (listingRule (now (bytes .entry)) ≡ fine → TableHolds (now (table .exit)) (payslipsOf (now (bytes .entry)))
-        (columnsOf (now (bytes .entry))) (amountOf (now (bytes .entry)))) ⌝ }
+    ensures { λ r. ⌜ Measured (readOf r) (answer (listingRule (now (bytes .entry))) (sizesOf (now (bytes .entry)))) (listingRule (now (bytes .entry)))
+        (TableHolds (now (table .exit)) (payslipsOf (now (bytes .entry))) (columnsOf (now (bytes .entry))) (amountOf (now (bytes .entry)))) ⌝ }
 {
     if MOST_BYTES < bytes.len() {
         return Reading::Refused(6, 0);

@@ -5,7 +5,7 @@ ghost use Prim.Native.Nat.{_+_, _-_, _≤_};
 ghost use lib.ListN.{length, take, drop};
 ghost use Rattle.text.specs.Text.{spotOf};
 ghost use Rattle.decimal.specs.Decimal.{decimal};
-ghost use Rattle.decimal.specs.Inner.{Put};
+ghost use Rattle.decimal.specs.Inner.{Put, PutShort};
 ghost use Rattle.messages.specs.Messages.{mostMessage, phrases, phrase, reason, placeText, refusalText, spotText, faultText};
 ghost use Rattle.messages.specs.Inner.{startOf, phraseNumber};
 use text::Parsed;
@@ -16,8 +16,7 @@ pub const MOST_MESSAGE: usize = 128;
 // Words and a number.
 fn put_named(words: &[u8], number: usize, at: usize, message: &mut [u8]) -> usize
     requires { ⌜ at + length (now words) + 20 ≤ length (now message) ⌝ }
-    ensures { λ r. ⌜ Put at (now (words .entry) ++ decimal number) (now (message .entry)) r (now (message .exit)) ⌝ }
-    ensures { λ r. ⌜ r ≤ at + length (now (words .entry)) + 20 ⌝ }
+    ensures { λ r. ⌜ PutShort (length (now (words .entry)) + 20) at (now (words .entry) ++ decimal number) (now (message .entry)) r (now (message .exit)) ⌝ }
 {
     let end = decimal::put_word(words, at, message);
     decimal::put_decimal(number, end, message)
@@ -26,8 +25,7 @@ fn put_named(words: &[u8], number: usize, at: usize, message: &mut [u8]) -> usiz
 // The place of a refusal, unless it is 0.
 fn put_place(place: usize, at: usize, message: &mut [u8]) -> usize
     requires { ⌜ at + 24 ≤ length (now message) ⌝ }
-    ensures { λ r. ⌜ Put at (placeText place) (now (message .entry)) r (now (message .exit)) ⌝ }
-    ensures { λ r. ⌜ r ≤ at + 24 ⌝ }
+    ensures { λ r. ⌜ PutShort 24 at (placeText place) (now (message .entry)) r (now (message .exit)) ⌝ }
 {
     if place == 0 {
         return at;

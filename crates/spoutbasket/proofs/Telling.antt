@@ -33,7 +33,8 @@ module _ {M : Type 1} (𝓤 : URA M) (H : Heap 𝓤) (A : Atoms 𝓤) (κ : Lft)
   ToTell = ‵ (flft κ q) ⊛ ‵ (MutRef (named 0) κ Words .own y (wordsVal y ∷ []))
 
   pub asks-tell : Given 𝓤 H A → (R : RattleType) (v : R .Denot) (w : Val)
-      → ent 𝓤 (⋆ 𝓤 H A (‵ (R .own v (w ∷ [])) ∷ ToTell ∷ [])) (sep 𝓤 (mean 𝓤 H A ((‵ (flft κ q) ⊛ ‵ ftrue) ⊛ ‵ (owns (R ∷ MutRef (named 0) κ Words ∷ []) (v, (y, tt)) (w ∷ [], (wordsVal y ∷ [], tt))))) (emp 𝓤))
+      → ent 𝓤 (⋆ 𝓤 H A (‵ (R .own v (w ∷ [])) ∷ ToTell ∷ [])) (sep 𝓤 (mean 𝓤 H A
+      ((‵ (flft κ q) ⊛ ‵ ftrue) ⊛ ‵ (owns (R ∷ MutRef (named 0) κ Words ∷ []) (v, (y, tt)) (w ∷ [], (wordsVal y ∷ [], tt))))) (emp 𝓤))
   asks-tell W R v w =
       qed W (‵ (R .own v (w ∷ [])) ∷ ToTell ∷ []) ∵ move ! (1 ∷ []) $ split ! $
       -- [the token; what the reference owns; what the value owns]

@@ -63,21 +63,38 @@ all-amounts r =
     let l = now (start r .args .numbers) in
     take-all (length l - 2) (drop 2 l) (simp length-drop (omega arith))
 
--- what the code calls compile with
+-- what the code calls compile with, besides the amounts
+abbrev p-at : tie.After-compile → ℕ
+p-at r = r .before .before .before .before .before .before .before .before .size .result
+
+abbrev q-at : tie.After-compile → ℕ
+q-at r = r .before .before .before .before .before .before .size2 .result
+
+abbrev method-at : tie.After-compile → ℕ
+method-at r = r .before .before .before .before .size3 .result
+
+abbrev k-at : tie.After-compile → ℕ
+k-at r = r .before .before .before .size4 .result
+
 sizes : (r : tie.After-compile)
     → let a = start r .args in
-    (r .before .before .before .before .before .before .before .before .size .result ≡ getD (now (a .numbers)) 0 0) × (r .before .before .before .before .before .before .size2 .result ≡ getD (now (a .numbers)) 1 0) × (r .before .before .before .before .size3 .result ≡ a .method) × (r .before .before .before .size4 .result ≡ a .k)
-sizes r = (r .before .before .before .before .before .before .before .before .size .ensures, r .before .before .before .before .before .before .size2 .ensures, r .before .before .before .before .size3 .ensures, r .before .before .before .size4 .ensures)
+    (p-at r ≡ getD (now (a .numbers)) 0 0) × (q-at r ≡ getD (now (a .numbers)) 1 0) × (method-at r ≡ a .method) × (k-at r ≡ a .k)
+sizes r = (
+  r .before .before .before .before .before .before .before .before .size .ensures,
+  r .before .before .before .before .before .before .size2 .ensures,
+  r .before .before .before .before .size3 .ensures,
+  r .before .before .before .size4 .ensures,
+)
 
 rule-at : (r : tie.After-compile) (pairsLent outputsLent : ℕ)
     → let a = start r .args in
-    compileRule (r .before .before .before .before .before .before .before .before .size .result) (r .before .before .before .before .before .before .size2 .result) (amounts r) (r .before .before .before .before .size3 .result) (r .before .before .before .size4 .result) pairsLent outputsLent
+    compileRule (p-at r) (q-at r) (amounts r) (method-at r) (k-at r) pairsLent outputsLent
     ≡ ruleIn (now (a .numbers)) (a .method) (a .k) pairsLent outputsLent
 rule-at r = let e = sizes r in sheet-rule (now (start r .args .numbers)) _ _ _ _ _ _ _ (e .0) (e .1) (all-amounts r) (e .2) (e .3)
 
 chain-at : (r : tie.After-compile)
     → let a = start r .args in
-    chainOf (r .before .before .before .before .before .before .before .before .size .result) (r .before .before .before .before .before .before .size2 .result) (amounts r) (r .before .before .before .before .size3 .result) (r .before .before .before .size4 .result) ≡ chainIn (now (a .numbers)) (a .method) (a .k)
+    chainOf (p-at r) (q-at r) (amounts r) (method-at r) (k-at r) ≡ chainIn (now (a .numbers)) (a .method) (a .k)
 chain-at r = let e = sizes r in sheet-chain (now (start r .args .numbers)) _ _ _ _ _ _ _ (e .0) (e .1) (all-amounts r) (e .2) (e .3)
 
 -- amounts are what 32 bits hold
@@ -89,11 +106,14 @@ low r =
 -- the chain that compile filled
 filled-at : (c : tie.After-n)
     → let r = c .before .before .before .before .before .before in
-    Filled (r .before .before .before .before .before .before .before .before .size .result) (r .before .before .before .before .before .before .size2 .result) (amounts r) (r .before .before .before .before .size3 .result) (r .before .before .before .size4 .result) (r .compile .last .1 .1 .1 .1 .1 .0) (r .compile .last .1 .1 .1 .1 .1 .1 .0) (c .n .given .0 .0)
+    let last = r .compile .last .1 .1 .1 .1 .1 in
+    Filled (p-at r) (q-at r) (amounts r) (method-at r) (k-at r) (last .0) (last .1 .0) (c .n .given .0 .0)
 filled-at c =
     let r = c .before .before .before .before .before .before in
     let a = start r .args in
-    filled _ _ (amounts r) _ _ (now (a .steps)) (now (a .outputs)) _ (r .compile .ensures .0) _ (c .n .given .1) (low r) _ _ (r .compile .ensures .1 .0) (r .compile .ensures .1 .1)
+    let answer = r .compile .ensures .0 in
+    let slices = r .compile .ensures .1 in
+    filled _ _ (amounts r) _ _ (now (a .steps)) (now (a .outputs)) _ answer _ (c .n .given .1) (low r) _ _ (slices .0) (slices .1)
 
 mul-write : tie.Need-mul-write
 mul-write c = omega (arith, filled-at (c .before) .few)
@@ -123,8 +143,10 @@ returns : tie.Need-returns
 returns c =
     let r = c .before .before .before .before .before .before .before in
     let a = start r .args in
+    let answer = r .compile .ensures .0 in
     not-made (now (a .numbers)) (a .method) (a .k) _ _ (now (a .bytes)) _ _
-    (compile-stops (r .before .before .before .before .before .before .before .before .size .result) (r .before .before .before .before .before .before .size2 .result) (amounts r) (r .before .before .before .before .size3 .result) (r .before .before .before .size4 .result) (now (a .steps)) (now (a .outputs)) _ (r .compile .ensures .0) _ _ (c .before .number .given .1) ∙ rule-at r _ _)
+    (compile-stops (p-at r) (q-at r) (amounts r) (method-at r) (k-at r) (now (a .steps)) (now (a .outputs)) _ answer _ _ (c .before .number .given .1)
+    ∙ rule-at r _ _)
 
 same-length-3 : tie.Need-same-length-3
 same-length-3 c = search needs
@@ -143,10 +165,11 @@ returns-2 c =
     let a = start r .args in
     let f = filled-at n in
     let e = sizes r in
+    let answer = r .compile .ensures .0 in
     let steps = f .steps-front ∙ ap (λ (x : Chain). x .steps) (chain-at r) in
     let outputs = f .outputs-front ∙ ap (λ (x : Chain). x .outputs) (chain-at r) in
     made (now (a .numbers)) (a .method) (a .k) _ _ (now (a .bytes)) _ _ _ _ _
-    (compile-passes (r .before .before .before .before .before .before .before .before .size .result) (r .before .before .before .before .before .before .size2 .result) (amounts r) (r .before .before .before .before .size3 .result) (r .before .before .before .size4 .result) (now (a .steps)) (now (a .outputs)) _ (r .compile .ensures .0) _ (n .n .given .1) ∙ rule-at r _ _)
+    (compile-passes (p-at r) (q-at r) (amounts r) (method-at r) (k-at r) (now (a .steps)) (now (a .outputs)) _ answer _ (n .n .given .1) ∙ rule-at r _ _)
     (e .0) steps outputs (w .write .ensures .0) (w .write .ensures .1)
 
 pub make-file-spec : {M : Type 1} → statement M

@@ -35,10 +35,10 @@ put-chain-requires : tie.Need-put-chain-requires
 put-chain-requires c κs =
     let k = c .before .before .before in
     let t = k .before .before .before .before .before .before in (
-      columns-few _ _ (t .measure-file .ensures .0) _ _ _ (k .p .given .1),
-      payslips-few _ _ (t .measure-file .ensures .0) _ _ _ (k .p .given .1),
+      columns-few _ _ (t .measure-file .ensures .told-is) _ _ _ (k .p .given .1),
+      payslips-few _ _ (t .measure-file .ensures .told-is) _ _ _ (k .p .given .1),
       steps-few _ _
-          (t .measure-file .ensures .0) _ _ _ (k .p .given .1),
+          (t .measure-file .ensures .told-is) _ _ _ (k .p .given .1),
       search needs,
       search needs,
     )
@@ -46,13 +46,13 @@ put-chain-requires c κs =
 returns : tie.Need-returns
 returns c =
     let k = c .before .before .before in
-    listed-refused _ _ (k .before .before .before .before .before .before .measure-file .ensures .0) _ _ _ _ _ (k .number .given .1) (c .put-refused .ensures)
+    listed-refused _ _ (k .before .before .before .before .before .before .measure-file .ensures .told-is) _ _ _ _ _ (k .number .given .1) (c .put-refused .ensures)
 
 returns-2 : tie.Need-returns-2
 returns-2 c =
     let k = c .before .before .before .before in
     let t = k .before .before .before .before .before .before in
-    listed-chain _ _ (t .measure-file .ensures .0) _ _ _ (k .p .given .1) (t .measure-file .last .1 .1 .1 .1 .0) _ _ _ (t .measure-file .ensures .1)
+    listed-chain _ _ (t .measure-file .ensures .told-is) _ _ _ (k .p .given .1) (t .measure-file .last .1 .1 .1 .1 .0) _ _ _ (t .measure-file .ensures .holds)
     (c .put-chain .ensures)
 
 pub list-spec : {M : Type 1} → statement M

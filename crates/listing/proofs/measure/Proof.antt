@@ -85,7 +85,10 @@ same-length-2 c = search needs
 returns : tie.Need-returns Inv-loop μ-loop
 returns c =
     let l = c .before .before .loop in
-    (exponents-large _ _ _ _ (c .before .loop-test .left) (l .inv .0) (l .inv .3) (c .if1 .taken), λ f. absurd (not-fine f))
+    record {
+      told-is = exponents-large _ _ _ _ (c .before .loop-test .left) (l .inv .0) (l .inv .3) (c .if1 .taken);
+      holds = λ f. absurd (not-fine f);
+    }
 
 same-length-3 : tie.Need-same-length-3 Inv-loop μ-loop
 same-length-3 c = search needs
@@ -95,11 +98,11 @@ same-length-4 c = search needs
 
 returns-2 : tie.Need-returns-2 Inv-loop μ-loop
 returns-2 c =
-    let l = c .before .before .loop in (
-      exponents-fine _ _ _ _ (c .before .loop-test .left) (l .inv .0) (l .inv .3)
-          (c .if1 .left),
-      λ f. record { each = λ i j hi hj. l .inv .4 (c .if1 .left) .each i j hi (omega (arith, c .before .loop-test .left)) },
-    )
+    let l = c .before .before .loop in
+    record {
+      told-is = exponents-fine _ _ _ _ (c .before .loop-test .left) (l .inv .0) (l .inv .3) (c .if1 .left);
+      holds = λ f. record { each = λ i j hi hj. l .inv .4 (c .if1 .left) .each i j hi (omega (arith, c .before .loop-test .left)) };
+    }
 
 pub measure-spec : {M : Type 1} → statement M
 measure-spec =

@@ -100,7 +100,7 @@ returns-3 c =
     let k = m .before .before .before .before .before .before in
     let r = k .before .before .before .before .before .before in
     listing-refused _ _ _ _
-    (measured _ _ _ _ _ _ (read-file k) (r .before .before .before .if1 .left) _ (told-refused _ _ _ _ (m .measure .ensures .0) (c .before .number2 .given .1)))
+    (measured _ _ _ _ _ _ (read-file k) (r .before .before .before .if1 .left) _ (told-refused _ _ _ _ (m .measure .ensures .told-is) (c .before .number2 .given .1)))
 
 same-length-7 : tie.Need-same-length-7
 same-length-7 c = search needs
@@ -120,8 +120,8 @@ returns-4 c =
     let k = m .before .before .before .before .before .before in
     let r = k .before .before .before .before .before .before in
     let passed = c .enum-told .given .1 in
-    listing-done _ _ _ _ _ _ (read-file k) (r .before .before .before .if1 .left) _ (told-fine _ _ (m .measure .ensures .0) passed)
-    (m .measure .ensures .1 (ap verdictOf passed))
+    listing-done _ _ _ _ _ _ (read-file k) (r .before .before .before .if1 .left) _ (told-fine _ _ (m .measure .ensures .told-is) passed)
+    (m .measure .ensures .holds (ap verdictOf passed))
 
 pub measure-file-spec : {M : Type 1} → statement M
 measure-file-spec =

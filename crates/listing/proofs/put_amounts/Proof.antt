@@ -77,7 +77,7 @@ returns c =
     let l = c .before .loop in
     let s = c .before .before .before .before in
     let e : l .c ≡ s .args .p = omega (arith, l .inv .0, c .loop-test .left) in
-    (rw e at (l .inv .3), rw e at (l .inv .2))
+    record { put = rw e at (l .inv .3); short = rw e at (l .inv .2) }
 
 pub put-amounts-spec : {M : Type 1} → statement M
 put-amounts-spec =

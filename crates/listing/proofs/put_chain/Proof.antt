@@ -19,7 +19,7 @@ returns c =
     let k = c .before .before in
     let j = k .before .before .before .before in
     let s = j .before .before .before .before in
-    put-listing _ _ _ (amountIn (s .args .table .now)) _ _ _ _ _ (j .put-sizes .ensures .0) (k .put-payslips .ensures)
+    put-listing _ _ _ (amountIn (s .args .table .now)) _ _ _ _ _ (j .put-sizes .ensures .put) (k .put-payslips .ensures)
 
 pub put-chain-spec : {M : Type 1} → statement M
 put-chain-spec = tie.close (tie.spec put-sizes-requires put-payslips-requires same-length returns)

@@ -42,7 +42,7 @@ line-end c =
     let k = c .before .before in
     let j = k .before .before .before .before in
     let s = j .before .before .before .before in
-    omega (arith, decimal-short 1 (s .args .i + 1) (omega (arith, s .pre .0)), j .put-decimal .ensures .place, k .put-amounts .ensures .1, s .pre .1)
+    omega (arith, decimal-short 1 (s .args .i + 1) (omega (arith, s .pre .0)), j .put-decimal .ensures .place, k .put-amounts .ensures .short, s .pre .1)
 
 slice-write-text : tie.Need-slice-write-text
 slice-write-text c =
@@ -67,7 +67,10 @@ returns c =
     let k = c .before .before in
     let j = k .before .before .before .before in
     let s = j .before .before .before .before in
-    (put-line _ _ _ _ _ _ _ _ (j .put-decimal .ensures) (k .put-amounts .ensures .0) (omega (arith, line-end c, s .pre .3)), omega (arith, line-end c))
+    record {
+      put = put-line _ _ _ _ _ _ _ _ (j .put-decimal .ensures) (k .put-amounts .ensures .put) (omega (arith, line-end c, s .pre .3));
+      short = omega (arith, line-end c);
+    }
 
 pub put-payslip-spec : {M : Type 1} → statement M
 put-payslip-spec =

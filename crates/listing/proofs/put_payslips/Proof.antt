@@ -41,8 +41,8 @@ loop-again c =
     let s = l .before .before .before in (
       search needs,
       b .put-payslip .kept .1 .1 .1 .1 .0 ∙ l .loop .inv .1,
-      omega (arith, b .put-payslip .ensures .1, l .loop .inv .2),
-      put-next _ _ _ (amountIn (s .args .table .now)) _ _ _ _ _ (omega (arith, s .pre .3)) (l .loop .inv .3) (b .put-payslip .ensures .0),
+      omega (arith, b .put-payslip .ensures .short, l .loop .inv .2),
+      put-next _ _ _ (amountIn (s .args .table .now)) _ _ _ _ _ (omega (arith, s .pre .3)) (l .loop .inv .3) (b .put-payslip .ensures .put),
     )
 
 same-length : tie.Need-same-length Inv-loop μ-loop

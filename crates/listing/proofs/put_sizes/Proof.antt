@@ -74,13 +74,14 @@ returns c =
     let k = c .before .before in
     let j = k .before .before .before .before in
     let i = j .before .before .before .before in
-    let s = i .before .before .before in (
-      put-line _ _ _ _ _ _ _ _ (i .put-decimal .ensures)
+    let s = i .before .before .before in
+    record {
+      put = put-line _ _ _ _ _ _ _ _ (i .put-decimal .ensures)
           (put-two _ _ _ _ _ _ _ _ (omega (arith, short s .0, i .put-decimal .ensures .place, i .put-decimal .kept .1 .1 .0, s .pre .3)) (j .put-field .ensures)
           (k .put-field2 .ensures))
-          (omega (arith, line-end c, s .pre .3)),
-      omega (arith, line-end c),
-    )
+          (omega (arith, line-end c, s .pre .3));
+      short = omega (arith, line-end c);
+    }
 
 pub put-sizes-spec : {M : Type 1} → statement M
 put-sizes-spec =

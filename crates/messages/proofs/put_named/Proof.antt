@@ -22,10 +22,12 @@ returns : tie.Need-returns
 returns c =
     let k = c .before .before in
     let j = k .before .before .before .before in
-    let s = j .before .before .before .before in (
-      put-more _ _ _ _ _ (j .put-word .ensures) _ _ _ (omega (arith, s .pre)) (k .put-decimal .ensures),
-      omega (arith, decimal-short 19 (s .args .number) (omega (arith, s .fits .number .fits)), j .put-word .ensures .place, k .put-decimal .ensures .place),
-    )
+    let s = j .before .before .before .before in
+    let digits = decimal-short 19 (s .args .number) (omega (arith, s .fits .number .fits)) in
+    record {
+      put = put-more _ _ _ _ _ (j .put-word .ensures) _ _ _ (omega (arith, s .pre)) (k .put-decimal .ensures);
+      short = omega (arith, digits, j .put-word .ensures .place, k .put-decimal .ensures .place);
+    }
 
 pub put-named-spec : {M : Type 1} → statement M
 put-named-spec = tie.close (tie.spec put-word-requires put-decimal-requires same-length returns)

@@ -6,7 +6,7 @@ use Rattle.messages.proofs.put_place.Statement.{statement}
 use Rattle.messages.proofs.put_place.Tie as tie
 
 returns : tie.Need-returns
-returns c = (put-no-place _ _ _ (c .if1 .taken), omega arith)
+returns c = record { put = put-no-place _ _ _ (c .if1 .taken); short = omega arith }
 
 slice-aggregate-put-named : tie.Need-slice-aggregate-put-named
 slice-aggregate-put-named c = search needs
@@ -19,8 +19,8 @@ same-length c = search needs
 
 returns-2 : tie.Need-returns-2
 returns-2 c =
-    let put = c .before .before .put-named .ensures in
-    (put-some-place _ _ _ _ _ (c .before .before .before .before .before .if1 .left) (put .0), omega (arith, put .1))
+    let named = c .before .before .put-named .ensures in
+    record { put = put-some-place _ _ _ _ _ (c .before .before .before .before .before .if1 .left) (named .put); short = omega (arith, named .short) }
 
 pub put-place-spec : {M : Type 1} → statement M
 put-place-spec =

@@ -27,8 +27,8 @@ returns c =
     let k = c .before .before in
     let j = k .before .before .before .before in
     let i = j .before .before .before .before in
-    put-three _ _ _ _ _ _ _ _ _ _ (omega (arith, i .put-named .ensures .1, i .put-named .kept .1 .1 .1 .0, i .before .before .before .before .pre))
-    (i .put-named .ensures .0) (j .put-place .ensures .0) (k .put-phrase .ensures)
+    put-three _ _ _ _ _ _ _ _ _ _ (omega (arith, i .put-named .ensures .short, i .put-named .kept .1 .1 .1 .0, i .before .before .before .before .pre))
+    (i .put-named .ensures .put) (j .put-place .ensures .put) (k .put-phrase .ensures)
 
 pub put-refusal-spec : {M : Type 1} → statement M
 put-refusal-spec =

@@ -35,8 +35,8 @@ returns c =
     let i = j .before .before .before .before .before in
     let s = i .before .before .before .before .before .before .before in
     let e = i .before .before .before .spot-of .ensures in
-    rw e at (put-three _ _ _ _ _ _ _ _ _ _ (omega (arith, i .put-named .ensures .1, i .put-named .kept .1 .1 .1 .0, s .pre .1)) (i .put-named .ensures .0)
-    (j .put-named2 .ensures .0) (k .put-reason .ensures))
+    rw e at (put-three _ _ _ _ _ _ _ _ _ _ (omega (arith, i .put-named .ensures .short, i .put-named .kept .1 .1 .1 .0, s .pre .1)) (i .put-named .ensures .put)
+    (j .put-named2 .ensures .put) (k .put-reason .ensures))
 
 pub put-spot-spec : {M : Type 1} → statement M
 put-spot-spec =

@@ -115,7 +115,8 @@ module _ {M : Type 1} (𝓤 : URA M) (H : Heap 𝓤) (A : Atoms 𝓤) (W : Given
   args = vint w64 p ∷ vx ∷ val x₁ ∷ vint w32 m ∷ val x₂ ∷ val x₃ ∷ val x₄ ∷ []
 
   abbrev Post : Val → SProp 𝓤
-  Post = walkOf 𝓤 H A this.ended stayed (this.clauses 𝓤 H A at-mem run) .post (((κ, (κ₁, (κ₂, (κ₃, (κ₄, tt))))), (q, (q₁, (q₂, (q₃, (q₄, tt))))), tt, a, at), tt)
+  Post = walkOf 𝓤 H A this.ended stayed (this.clauses 𝓤 H A at-mem run) .post
+      (((κ, (κ₁, (κ₂, (κ₃, (κ₄, tt))))), (q, (q₁, (q₂, (q₃, (q₄, tt))))), tt, a, at), tt)
 
   -- what is passed on as it came: the tokens of all lifetimes but steps's, and what the parameters from `outputs` on own
   abbrev Tokens : Item 𝓤
@@ -153,7 +154,16 @@ module _ {M : Type 1} (𝓤 : URA M) (H : Heap 𝓤) (A : Atoms 𝓤) (W : Given
     given-front = (p, (arraySlice b δ l, (n, (x₁, (m, (x₂, (x₃, (x₄, tt))))))))
 
     abbrev to-front : Front 𝓤 H A at-mem run .Ghost
-    to-front = (((ν ∷ [], (κ₁, (κ₂, (κ₃, (κ₄, tt))))), (fullShare, (q₁, (q₂, (q₃, (q₄, tt))))), tt, given-front, (vint w64 p ∷ [], (sliceOf b l, (vint w64 n ∷ [], at .1 .1)))), tt)
+    to-front = (
+      (
+        (ν ∷ [], (κ₁, (κ₂, (κ₃, (κ₄, tt))))),
+        (fullShare, (q₁, (q₂, (q₃, (q₄, tt))))),
+        tt,
+        given-front,
+        (vint w64 p ∷ [], (sliceOf b l, (vint w64 n ∷ [], at .1 .1))),
+      ),
+      tt,
+    )
 
     asks-front : n < 2 ^ 64 → 2 * n ≤ length l → ent 𝓤
         (⋆ 𝓤 H A (‵ (flft (ν ∷ []) fullShare) ∷ Tokens ∷ ‵ (ShrSlice (named 0) (ν ∷ []) u32 .own (arraySlice b δ l) (sliceOf b l)) ∷ ‵ Rest ∷ []))
@@ -244,8 +254,10 @@ module _ {M : Type 1} (𝓤 : URA M) (H : Heap 𝓤) (A : Atoms 𝓤) (W : Given
         (and-then ! (load ! (from ! (stop !)) (look ! 28 refl))
         (and-then ! (load ! (from ! (stop !)) (look ! 9 refl)) (and-then ! (load ! (from ! (stop !)) (look ! 5 refl)) (no-more !))))))))) (λ w₂.
         use1 W (later (some (λ (r : Ran). ((‵ (flft (ν₂ ∷ []) fullShare) ⊛ Tokens) ⊛ ‵ (E.the-row .own r (w₂ ∷ []))) ⊛ raw (ensured 𝓤 H A front.ended
-        (front.clauses 𝓤 H A at-mem run) (ν₂ ∷ [], (κ₁, (κ₂, (κ₃, (κ₄, tt))))) (given-front l₈ n (ws .1 .0) ν₂ δ₂) tt r)))) (id⊢ 𝓤 _) $ await ! tt $ pick ! (λ r.
-        split ! $ move ! (1 ∷ []) $ use1 W (some (λ (us : Unit {0} × (Unit {0} × (Unit {0} × (Unit {0} × (Unit {0} × (Unit {0} × (List ℕ × (List ℕ × Unit {0})))))))).
+        (front.clauses 𝓤 H A at-mem run) (ν₂ ∷ [], (κ₁, (κ₂, (κ₃, (κ₄, tt))))) (given-front l₈ n (ws .1 .0) ν₂ δ₂) tt r)))) (id⊢ 𝓤 _) $ await ! tt $
+        pick ! (λ r.
+        split ! $ move ! (1 ∷ []) $ use1 W (some (λ (us : Unit {0} × (Unit {0} ×
+        (Unit {0} × (Unit {0} × (Unit {0} × (Unit {0} × (List ℕ × (List ℕ × Unit {0})))))))).
         ‵ (lasts front.ended (ν₂ ∷ [], (κ₁, (κ₂, (κ₃, (κ₄, tt))))) (given-front l₈ n (ws .1 .0) ν₂ δ₂) us)
         ⊛ raw (fact 𝓤 (Answered (pairs (take (2 * n) (ws .1 .0))) r)) ⊛ raw (fact 𝓤
         (Valued (pairs (take (2 * n) (ws .1 .0))) (us .1 .1 .1 .1 .1 .1 .0))) ⊛ raw (fact 𝓤
@@ -331,7 +343,8 @@ this-meets 𝓤 H A W at-mem run 𝓣 known known₂ = walk-meets 𝓤 H A this.
     ),
   ),
 )
-    (this.clauses 𝓤 H A at-mem run) (WpFn 𝓤 H (𝓣 .C) (𝓣 .Λ) code.function) (WpFn-mono 𝓤 H (W .laws) 𝓣 code.function) (this-walks 𝓤 H A W at-mem run 𝓣 known known₂)
+    (this.clauses 𝓤 H A at-mem run) (WpFn 𝓤 H (𝓣 .C) (𝓣 .Λ) code.function) (WpFn-mono 𝓤 H (W .laws) 𝓣 code.function)
+    (this-walks 𝓤 H A W at-mem run 𝓣 known known₂)
 
 pub run-pairs-spec : {M : Type 1} → stated.statement M
 unfolding code.routine tablesOf
@@ -339,5 +352,6 @@ run-pairs-spec 𝓤 H 𝓜 𝓖 𝓡 =
     entered 𝓤 H (tripleOf 𝓤 H (𝓖 .A) this.signature (this.spec 𝓤 H (𝓖 .A) (𝓜 .mem) (𝓡 .run)))
     (tables 𝓤 H 𝓜 𝓡 code.env .C) (tables 𝓤 H 𝓜 𝓡 code.env .Λ) #pairs·run-pairs code.function (code.unfolded 𝓤 H 𝓜 𝓡)
     (this-meets 𝓤 H (𝓖 .A) (givenOf 𝓤 H 𝓜 𝓖) (𝓜 .mem) (𝓡 .run) (tablesOf 𝓤 H 𝓜 (tables 𝓤 H 𝓜 𝓡 code.env))
-    (cited 𝓤 H (Flatten 𝓤 H (𝓖 .A) (𝓜 .mem) (𝓡 .run)) 𝓜 𝓡 code.env #pairs·flatten-some flatten-def.routine code.calls-pairs·flatten-some (flatten-thm.met 𝓤 H 𝓜 𝓖 𝓡))
+    (cited 𝓤 H (Flatten 𝓤 H (𝓖 .A) (𝓜 .mem)
+    (𝓡 .run)) 𝓜 𝓡 code.env #pairs·flatten-some flatten-def.routine code.calls-pairs·flatten-some (flatten-thm.met 𝓤 H 𝓜 𝓖 𝓡))
     (cited 𝓤 H (Front 𝓤 H (𝓖 .A) (𝓜 .mem) (𝓡 .run)) 𝓜 𝓡 code.env #pairs·run-front front-def.routine code.calls-pairs·run-front (front-thm.met 𝓤 H 𝓜 𝓖 𝓡)))

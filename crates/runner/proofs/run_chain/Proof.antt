@@ -26,7 +26,8 @@ slice-reshare-prefix-print-figures : tie.Need-slice-reshare-prefix-print-figures
 slice-reshare-prefix-print-figures c =
     let r = c .before .before .before .before .before .before .before in
     let a = r .before .before .before .before .before .before .before .before .args in
-    let ok = ran (a .p) (pairs (now (a .steps))) (now (a .outputs)) (a .m) (now (a .bases)) (length (now (a .values))) (length (now (a .figures))) _ _ (r .run .ensures .0) (c .before .n .given .1) in
+    let ok = ran (a .p) (pairs (now (a .steps))) (now (a .outputs)) (a .m) (now (a .bases)) (length (now (a .values)))
+    (length (now (a .figures))) _ _ (r .run .ensures .0) (c .before .n .given .1) in
     omega (arith, ok .figures-fit, r .run .kept .1 .1 .1 .1 .1 .1 .0)
 
 slice-aggregate-print-figures : tie.Need-slice-aggregate-print-figures

@@ -103,7 +103,8 @@ module _ {M : Type 1} (𝓤 : URA M) (H : Heap 𝓤) (A : Atoms 𝓤) (W : Given
   args = vint w64 p ∷ vx ∷ val x₁ ∷ val x₂ ∷ val x₃ ∷ wordsVal x₄ ∷ []
 
   abbrev Post : Val → SProp 𝓤
-  Post = walkOf 𝓤 H A this.ended stayed (this.clauses 𝓤 H A at-mem run) .post (((κ, (κ₁, (κ₂, (κ₃, (κ₄, tt))))), (q, (q₁, (q₂, (q₃, (q₄, tt))))), tt, a, at), tt)
+  Post = walkOf 𝓤 H A this.ended stayed (this.clauses 𝓤 H A at-mem run) .post
+      (((κ, (κ₁, (κ₂, (κ₃, (κ₄, tt))))), (q, (q₁, (q₂, (q₃, (q₄, tt))))), tt, a, at), tt)
 
   -- the tokens of all lifetimes but answer's, and what all parameters but answer own: with these `verify_pairs` is called
   abbrev Tokens : Item 𝓤
@@ -116,7 +117,8 @@ module _ {M : Type 1} (𝓤 : URA M) (H : Heap 𝓤) (A : Atoms 𝓤) (W : Given
   vals-check = (vint w64 p ∷ [], (vx ∷ [], (val x₁ ∷ [], (val x₂ ∷ [], (val x₃ ∷ [], tt)))))
 
   abbrev ToCheck : Item 𝓤
-  ToCheck = Tokens ⊛ ‵ (owns (usize ∷ ShrSlice (named 0) κ T.the-row ∷ ShrSlice (named 1) κ₁ u32 ∷ ShrSlice (named 2) κ₂ u32 ∷ MutSlice (named 3) κ₃ u32 ∷ []) given-check vals-check)
+  ToCheck = Tokens ⊛ ‵ (owns (usize ∷ ShrSlice (named 0) κ T.the-row ∷ ShrSlice (named 1) κ₁ u32 ∷ ShrSlice (named 2) κ₂ u32
+      ∷ MutSlice (named 3) κ₃ u32 ∷ []) given-check vals-check)
 
   abbrev to-check : Check 𝓤 H A at-mem run .Ghost
   to-check = (((κ, (κ₁, (κ₂, (κ₃, tt)))), (q, (q₁, (q₂, (q₃, tt)))), tt, given-check, vals-check), tt)
@@ -137,60 +139,88 @@ module _ {M : Type 1} (𝓤 : URA M) (H : Heap 𝓤) (A : Atoms 𝓤) (W : Given
     to-tell = (((κ₄, tt), (q₄, tt), tt, given-tell, (w ∷ [], (wordsVal x₄ ∷ [], tt))), tt)
 
   -- what is had on entry, parted between the two calls
-  parted : ent 𝓤 (onEntry 𝓤 H A this.signature (κ, (κ₁, (κ₂, (κ₃, (κ₄, tt))))) (q, (q₁, (q₂, (q₃, (q₄, tt))))) a at) (mean 𝓤 H A (ToCheck ⊛ ToTell 𝓤 H A κ₄ q₄ x₄))
+  parted : ent 𝓤 (onEntry 𝓤 H A this.signature (κ, (κ₁, (κ₂, (κ₃, (κ₄, tt))))) (q, (q₁, (q₂, (q₃, (q₄, tt))))) a at)
+      (mean 𝓤 H A (ToCheck ⊛ ToTell 𝓤 H A κ₄ q₄ x₄))
   parted =
-      qed W ((‵ (flft κ q) ⊛ ‵ (flft κ₁ q₁) ⊛ ‵ (flft κ₂ q₂) ⊛ ‵ (flft κ₃ q₃) ⊛ ‵ (flft κ₄ q₄) ⊛ ‵ ftrue) ∷ ‵ (owns (usize ∷ ShrSlice (named 0) κ T.the-row ∷ ShrSlice (named 1) κ₁ u32 ∷ ShrSlice (named 2) κ₂ u32 ∷ MutSlice (named 3) κ₃ u32 ∷ MutRef (named 4) κ₄ Words ∷ []) a at) ∷ []) ∵
+      qed W ((‵ (flft κ q) ⊛ ‵ (flft κ₁ q₁) ⊛ ‵ (flft κ₂ q₂) ⊛ ‵ (flft κ₃ q₃) ⊛ ‵ (flft κ₄ q₄) ⊛ ‵ ftrue)
+      ∷ ‵ (owns (usize ∷ ShrSlice (named 0) κ T.the-row ∷ ShrSlice (named 1) κ₁ u32 ∷ ShrSlice (named 2) κ₂ u32 ∷ MutSlice (named 3) κ₃ u32
+      ∷ MutRef (named 4) κ₄ Words ∷ []) a at) ∷ []) ∵
       split ! $ move ! (1 ∷ []) $ split ! $ move ! (1 ∷ []) $ split ! $ move ! (1 ∷ []) $ split ! $ move ! (1 ∷ []) $ split ! $
       -- [κ₄'s token; true; κ₃'s; κ₂'s; κ₁'s; κ's; what the parameters own]
       move ! (2 ∷ 1 ∷ []) $ join ! $ move ! (2 ∷ 0 ∷ []) $ join ! $ move ! (2 ∷ 0 ∷ []) $ join ! $ move ! (2 ∷ 0 ∷ []) $ join ! $ move ! (2 ∷ []) $
-      fsplit ! $ move ! (1 ∷ []) $ fsplit ! $ move ! (1 ∷ []) $ fsplit ! $ move ! (1 ∷ []) $ fsplit ! $ move ! (1 ∷ []) $ fsplit ! $ move ! (1 ∷ []) $ fsplit ! $
+      fsplit ! $ move ! (1 ∷ []) $ fsplit ! $ move ! (1 ∷ []) $ fsplit ! $ move ! (1 ∷ []) $ fsplit ! $ move ! (1 ∷ []) $ fsplit ! $
+      move ! (1 ∷ []) $ fsplit ! $
       -- [answer's; true; scratch's; amounts'; outputs'; steps'; p's; the tokens but κ₄'s; κ₄'s]
-      move ! (2 ∷ 1 ∷ []) $ fjoin ! $ move ! (2 ∷ 0 ∷ []) $ fjoin ! $ move ! (2 ∷ 0 ∷ []) $ fjoin ! $ move ! (2 ∷ 0 ∷ []) $ fjoin ! $ move ! (2 ∷ 0 ∷ []) $ fjoin ! $ move ! (2 ∷ 0 ∷ []) $ join ! $ frame ! $ move ! (1 ∷ 0 ∷ []) $ done !
+      move ! (2 ∷ 1 ∷ []) $ fjoin ! $ move ! (2 ∷ 0 ∷ []) $ fjoin ! $ move ! (2 ∷ 0 ∷ []) $ fjoin ! $ move ! (2 ∷ 0 ∷ []) $ fjoin ! $
+      move ! (2 ∷ 0 ∷ []) $ fjoin ! $ move ! (2 ∷ 0 ∷ []) $ join ! $ frame ! $ move ! (1 ∷ 0 ∷ []) $ done !
 
   exits : (u : Val) (n : ℕ) (cells ws : List ℕ) (v : Verified) → Answered v → Scratched cells → ToldAs (verifiedOf v) n ws → length cells ≡ length (x₃ .now)
       → ent 𝓤 (⋆ 𝓤 H A (Tokens ∷ (‵ (flft κ₄ q₄) ⊛ ‵ ftrue) ∷ ‵ (finally u32 (x₃ .name) cells) ∷ ‵ (LastWords x₄ ws) ∷ ‵ (u32 .own n (u ∷ [])) ∷ [])) (Post u)
   exits u n cells ws v e e₂ told len =
       qed W (Tokens ∷ (‵ (flft κ₄ q₄) ⊛ ‵ ftrue) ∷ ‵ (finally u32 (x₃ .name) cells) ∷ ‵ (LastWords x₄ ws) ∷ ‵ (u32 .own n (u ∷ [])) ∷ []) ∵
-      suffices ! _ (ends-saying 𝓤 H A this.ended stayed (this.clauses 𝓤 H A at-mem run) W (((κ, (κ₁, (κ₂, (κ₃, (κ₄, tt))))), (q, (q₁, (q₂, (q₃, (q₄, tt))))), tt, a, at), tt) u n
-      (tt, (tt, (tt, (tt, (cells, (ws, tt)))))) (tt, (tt, (tt, (tt, (len, (tt, tt)))))) (three-facts 𝓤 _ _ _ (told .number-is ∙ ap numberOf e) (told .words-are ∙ ap wordsOf e) e₂)) $
+      suffices ! _ (ends-saying 𝓤 H A this.ended stayed (this.clauses 𝓤 H A at-mem run) W
+      (((κ, (κ₁, (κ₂, (κ₃, (κ₄, tt))))), (q, (q₁, (q₂, (q₃, (q₄, tt))))), tt, a, at), tt) u n
+      (tt, (tt, (tt, (tt, (cells, (ws, tt)))))) (tt, (tt, (tt, (tt, (len, (tt, tt))))))
+      (three-facts 𝓤 _ _ _ (told .number-is ∙ ap numberOf e) (told .words-are ∙ ap wordsOf e) e₂)) $
       split ! $ move ! (1 ∷ []) $ split ! $ move ! (1 ∷ []) $ split ! $ move ! (1 ∷ []) $ split ! $
       -- [κ₃'s token; true; κ₂'s; κ₁'s; κ's; κ₄'s; scratch's last list; answer's last words; the result's]
       move ! (0 ∷ 5 ∷ []) $ join ! $ move ! (2 ∷ 0 ∷ []) $ join ! $ move ! (2 ∷ 0 ∷ []) $ join ! $ move ! (2 ∷ 0 ∷ []) $ join ! $ frame ! $
-      move ! (2 ∷ 0 ∷ []) $ fjoin ! $ move ! (1 ∷ 0 ∷ []) $ fjoin ! $ nothing ! $ fjoin ! $ nothing ! $ fjoin ! $ nothing ! $ fjoin ! $ nothing ! $ fjoin ! $ done !
+      move ! (2 ∷ 0 ∷ []) $ fjoin ! $ move ! (1 ∷ 0 ∷ []) $ fjoin ! $ nothing ! $ fjoin ! $ nothing ! $ fjoin ! $ nothing ! $ fjoin ! $ nothing ! $
+      fjoin ! $ done !
 
-  module _ (C : Calls 𝓤 H) (Λ : Loops 𝓤 H) (fm : FmC 𝓤 H (W .laws) C) (known : Triple 𝓤 (C #pairs·verify-pairs) (Check 𝓤 H A at-mem run)) (known₂ : Triple 𝓤 (C #tell·tell-verified) (Tell 𝓤 H A at-mem run)) where
+  module _ (C : Calls 𝓤 H) (Λ : Loops 𝓤 H) (fm : FmC 𝓤 H (W .laws) C) (known : Triple 𝓤 (C #pairs·verify-pairs) (Check 𝓤 H A at-mem run))
+      (known₂ : Triple 𝓤 (C #tell·tell-verified) (Tell 𝓤 H A at-mem run)) where
     walk : Room T.the-row (length (x .now)) → Room u32 (length (x₁ .now)) → Room u32 (length (x₂ .now)) → Room u32 (length (x₃ .now))
         → ent 𝓤 (onEntry 𝓤 H A this.signature (κ, (κ₁, (κ₂, (κ₃, (κ₄, tt))))) (q, (q₁, (q₂, (q₃, (q₄, tt))))) a at) (WpFn 𝓤 H C Λ code.function args Post)
     walk g g₁ g₂ g₃ =
-        qed W (raw (onEntry 𝓤 H A this.signature (κ, (κ₁, (κ₂, (κ₃, (κ₄, tt))))) (q, (q₁, (q₂, (q₃, (q₄, tt))))) a at) ∷ []) ∵ use1 W (ToCheck ⊛ ToTell 𝓤 H A κ₄ q₄ x₄) parted $ enter ! C Λ code.function args _ $
-        alloc1 ! (λ l₀. alloc1 ! (λ l₁. alloc1 ! (λ l₂. alloc1 ! (λ l₃. alloc1 ! (λ l₄. alloc1 ! (λ l₅. alloc1 ! (λ l₆. alloc1 ! (λ l₇. alloc1 ! (λ l₈. alloc1 ! (λ l₉. alloc1 ! (λ l₁₀. alloc0 ! $ params1 ! $
-        pass1 ! (init ! 18 refl (tt, record { fits = p-fits })) $ pass1 ! (init ! 16 refl (tt, (tt, (record { fits = g .0 }, tt)))) $ pass1 ! (init ! 14 refl (tt, (tt, (record { fits = g₁ .0 }, tt)))) $
-        pass1 ! (init ! 12 refl (tt, (tt, (record { fits = g₂ .0 }, tt)))) $ pass1 ! (init ! 10 refl (tt, (tt, (record { fits = g₃ .0 }, tt)))) $ pass1 ! (init ! 8 refl (tt, tt)) $ pass0 ! $
+        qed W (raw (onEntry 𝓤 H A this.signature (κ, (κ₁, (κ₂, (κ₃, (κ₄, tt))))) (q, (q₁, (q₂, (q₃, (q₄, tt))))) a at) ∷ []) ∵
+        use1 W (ToCheck ⊛ ToTell 𝓤 H A κ₄ q₄ x₄) parted $ enter ! C Λ code.function args _ $
+        alloc1 ! (λ l₀. alloc1 ! (λ l₁. alloc1 ! (λ l₂. alloc1 ! (λ l₃. alloc1 ! (λ l₄.
+        alloc1 ! (λ l₅. alloc1 ! (λ l₆. alloc1 ! (λ l₇. alloc1 ! (λ l₈. alloc1 ! (λ l₉. alloc1 ! (λ l₁₀. alloc0 ! $ params1 ! $
+        pass1 ! (init ! 18 refl (tt, record { fits = p-fits })) $ pass1 ! (init ! 16 refl (tt, (tt, (record { fits = g .0 }, tt)))) $
+        pass1 ! (init ! 14 refl (tt, (tt, (record { fits = g₁ .0 }, tt)))) $
+        pass1 ! (init ! 12 refl (tt, (tt, (record { fits = g₂ .0 }, tt)))) $ pass1 ! (init ! 10 refl (tt, (tt, (record { fits = g₃ .0 }, tt)))) $
+        pass1 ! (init ! 8 refl (tt, tt)) $ pass0 ! $
         -- [_10; …; _0; …; what is had for the two calls]: scratch is passed on, and `verify_pairs` is called
         assigns ! (addr ! (from ! (fld ! refl (hop ! (look-in ! 10 (sub ! 0 refl (whole !))) (stop !))))) (from ! (stop !)) (init ! 4 refl (tt, tt)) $
-        assigns ! (agg ! (and-then ! (load ! (from ! (stop !)) (look ! 4 refl)) (and-then ! (load ! (from ! (fld ! refl (stop !))) (look-in ! 10 (sub ! 1 refl (whole !)))) (no-more !)))) (from ! (stop !)) (init ! 2 refl (tt, (tt, (record { fits = g₃ .0 }, tt)))) $
+        assigns ! (agg ! (and-then ! (load ! (from ! (stop !)) (look ! 4 refl))
+        (and-then ! (load ! (from ! (fld ! refl (stop !))) (look-in ! 10 (sub ! 1 refl (whole !)))) (no-more !)))) (from ! (stop !))
+        (init ! 2 refl (tt, (tt, (record { fits = g₃ .0 }, tt)))) $
         move ! (22 ∷ []) $ split ! $ use1 W (raw (Check 𝓤 H A at-mem run .pre to-check)) (qed W (ToCheck ∷ []) ∵ frame ! $ done !) $
         calls-at ! fm (Check 𝓤 H A at-mem run) known to-check
-        (and-then ! (load ! (from ! (stop !)) (look ! 20 refl)) (and-then ! (load ! (from ! (stop !)) (look ! 18 refl)) (and-then ! (load ! (from ! (stop !)) (look ! 16 refl)) (and-then ! (load ! (from ! (stop !)) (look ! 14 refl)) (and-then ! (load ! (from ! (stop !)) (look ! 4 refl)) (no-more !)))))) (λ w.
-        use1 W (later (some (λ (v : Verified). (Tokens ⊛ ‵ (E.the-row .own v (w ∷ []))) ⊛ raw (ensured 𝓤 H A check.ended (check.clauses 𝓤 H A at-mem run) (κ, (κ₁, (κ₂, (κ₃, tt)))) given-check tt v)))) (id⊢ 𝓤 _) $ await ! tt $ pick ! (λ v.
-        split ! $ move ! (1 ∷ []) $ use1 W (some (λ (ws : Lasts check.ended (κ, (κ₁, (κ₂, (κ₃, tt)))) given-check). ‵ (lasts check.ended (κ, (κ₁, (κ₂, (κ₃, tt)))) given-check ws) ⊛ raw (fact 𝓤 (Answered v)) ⊛ raw (fact 𝓤 (Scratched (ws .1 .1 .1 .1 .0))))) (id⊢ 𝓤 _) $ pick ! (λ ws.
-        split ! $ move ! (1 ∷ []) $ split ! $ heard ! (Answered v) (λ e. heard ! (Scratched (ws .1 .1 .1 .1 .0)) (λ e₂. fsplit ! $ drop ! $ fsplit ! $ drop ! $ fsplit ! $ drop ! $ fsplit ! $ drop ! $ fsplit ! $ fsplit ! $ move ! (1 ∷ []) $ feqL ! (λ len.
+        (and-then ! (load ! (from ! (stop !)) (look ! 20 refl)) (and-then ! (load ! (from ! (stop !)) (look ! 18 refl))
+        (and-then ! (load ! (from ! (stop !)) (look ! 16 refl)) (and-then ! (load ! (from ! (stop !)) (look ! 14 refl))
+        (and-then ! (load ! (from ! (stop !)) (look ! 4 refl)) (no-more !)))))) (λ w.
+        use1 W (later (some (λ (v : Verified). (Tokens ⊛ ‵ (E.the-row .own v (w ∷ [])))
+        ⊛ raw (ensured 𝓤 H A check.ended (check.clauses 𝓤 H A at-mem run) (κ, (κ₁, (κ₂, (κ₃, tt)))) given-check tt v)))) (id⊢ 𝓤 _) $ await ! tt $
+        pick ! (λ v.
+        split ! $ move ! (1 ∷ []) $ use1 W (some (λ (ws : Lasts check.ended (κ, (κ₁, (κ₂, (κ₃, tt)))) given-check). ‵ (lasts check.ended
+        (κ, (κ₁, (κ₂, (κ₃, tt)))) given-check ws) ⊛ raw (fact 𝓤 (Answered v)) ⊛ raw (fact 𝓤 (Scratched (ws .1 .1 .1 .1 .0))))) (id⊢ 𝓤 _) $
+        pick ! (λ ws.
+        split ! $ move ! (1 ∷ []) $ split ! $ heard ! (Answered v) (λ e. heard ! (Scratched (ws .1 .1 .1 .1 .0)) (λ e₂. fsplit ! $ drop ! $
+        fsplit ! $ drop ! $ fsplit ! $ drop ! $ fsplit ! $ drop ! $ fsplit ! $ fsplit ! $ move ! (1 ∷ []) $ feqL ! (λ len.
         -- [scratch's last list; true; the tokens and what v owns; answer's; _10; …]
         move ! (2 ∷ []) $ split ! $ move ! (1 ∷ []) $ peeks ! E.the-row (Is E.the-row) (shows 𝓤 H A E.the-row) v (w ∷ []) (λ is.
         land ! (from ! (stop !)) (init ! 11 refl (EL.lawful E.the-type E′.the-laws 𝓤 H A W tt .typed v _ is .0)) $
         -- [what v owns; the tokens; scratch's last list; true; answer's; _10; …]: answer is passed on, and `tell_verified` is called
         assigns ! (addr ! (from ! (hop ! (look ! 13 refl) (stop !)))) (from ! (stop !)) (init ! 5 refl (tt, tt)) $
         move ! (0 ∷ 4 ∷ []) $ use2 W (raw (Tell 𝓤 H A at-mem run .pre (to-tell v w))) (asks-tell 𝓤 H A κ₄ q₄ x₄ W E.the-row v w) $
-        calls-at ! fm (Tell 𝓤 H A at-mem run) known₂ (to-tell v w) (and-then ! (load ! (from ! (stop !)) (look ! 10 refl)) (and-then ! (load ! (from ! (stop !)) (look ! 4 refl)) (no-more !))) (λ u.
-        use1 W (later (some (λ (n : ℕ). ((‵ (flft κ₄ q₄) ⊛ ‵ ftrue) ⊛ ‵ (u32 .own n (u ∷ []))) ⊛ raw (ensured 𝓤 H A tell.ended (tell.clauses 𝓤 H A at-mem run) (κ₄, tt) (given-tell v w) tt n)))) (id⊢ 𝓤 _) $ await ! tt $ pick ! (λ n.
-        split ! $ move ! (1 ∷ []) $ use1 W (some (λ (us : Lasts tell.ended (κ₄, tt) (given-tell v w)). ‵ (lasts tell.ended (κ₄, tt) (given-tell v w) us) ⊛ raw (fact 𝓤 (ToldAs (verifiedOf v) n (us .1 .0))))) (id⊢ 𝓤 _) $ pick ! (λ us.
+        calls-at ! fm (Tell 𝓤 H A at-mem run) known₂ (to-tell v w) (and-then ! (load ! (from ! (stop !)) (look ! 10 refl))
+        (and-then ! (load ! (from ! (stop !)) (look ! 4 refl)) (no-more !))) (λ u.
+        use1 W (later (some (λ (n : ℕ). ((‵ (flft κ₄ q₄) ⊛ ‵ ftrue) ⊛ ‵ (u32 .own n (u ∷ [])))
+        ⊛ raw (ensured 𝓤 H A tell.ended (tell.clauses 𝓤 H A at-mem run) (κ₄, tt) (given-tell v w) tt n)))) (id⊢ 𝓤 _) $ await ! tt $ pick ! (λ n.
+        split ! $ move ! (1 ∷ []) $ use1 W (some (λ (us : Lasts tell.ended (κ₄, tt) (given-tell v w)). ‵ (lasts tell.ended (κ₄, tt)
+        (given-tell v w) us) ⊛ raw (fact 𝓤 (ToldAs (verifiedOf v) n (us .1 .0))))) (id⊢ 𝓤 _) $ pick ! (λ us.
         split ! $ move ! (1 ∷ []) $ heard ! (ToldAs (verifiedOf v) n (us .1 .0)) (λ told. fsplit ! $ drop ! $ fsplit ! $
         -- [answer's last words; true; κ₄'s token and the number's; the tokens; scratch's last list; true; _10; …]
         move ! (2 ∷ []) $ split ! $ move ! (1 ∷ []) $ peeks ! u32 (Is u32) (shows 𝓤 H A u32) n (u ∷ []) (λ is₂.
         land ! (from ! (stop !)) (init ! 27 refl (uint-lawful 𝓤 H A W w32 .typed n _ is₂ .0)) $
-        returns ! (look ! 27 refl) $ forget ! 7 refl $ forget ! 9 refl $ forget ! 11 refl $ forget ! 13 refl $ forget ! 15 refl $ forget ! 17 refl $ forget ! 19 refl $ forget ! 21 refl $ forget ! 23 refl $ forget ! 25 refl $ forget ! 27 refl $
-        move ! (27 ∷ 28 ∷ []) $ free1 ! $ move ! (25 ∷ 26 ∷ []) $ free1 ! $ move ! (23 ∷ 24 ∷ []) $ free1 ! $ move ! (21 ∷ 22 ∷ []) $ free1 ! $ move ! (19 ∷ 20 ∷ []) $ free1 ! $ move ! (17 ∷ 18 ∷ []) $ free1 ! $
-        move ! (15 ∷ 16 ∷ []) $ free1 ! $ move ! (13 ∷ 14 ∷ []) $ free1 ! $ move ! (11 ∷ 12 ∷ []) $ free1 ! $ move ! (9 ∷ 10 ∷ []) $ free1 ! $ move ! (7 ∷ 8 ∷ []) $ free1 ! $ free0 ! $
+        returns ! (look ! 27 refl) $ forget ! 7 refl $ forget ! 9 refl $ forget ! 11 refl $ forget ! 13 refl $ forget ! 15 refl $ forget ! 17 refl $
+        forget ! 19 refl $ forget ! 21 refl $ forget ! 23 refl $ forget ! 25 refl $ forget ! 27 refl $
+        move ! (27 ∷ 28 ∷ []) $ free1 ! $ move ! (25 ∷ 26 ∷ []) $ free1 ! $ move ! (23 ∷ 24 ∷ []) $ free1 ! $ move ! (21 ∷ 22 ∷ []) $ free1 ! $
+        move ! (19 ∷ 20 ∷ []) $ free1 ! $ move ! (17 ∷ 18 ∷ []) $ free1 ! $
+        move ! (15 ∷ 16 ∷ []) $ free1 ! $ move ! (13 ∷ 14 ∷ []) $ free1 ! $ move ! (11 ∷ 12 ∷ []) $ free1 ! $ move ! (9 ∷ 10 ∷ []) $ free1 ! $
+        move ! (7 ∷ 8 ∷ []) $ free1 ! $ free0 ! $
         -- [the number's; κ₄'s token; answer's last words; true; the tokens; scratch's last list; true]
         keep ! (4 ∷ 1 ∷ 5 ∷ 2 ∷ 0 ∷ []) $ by ! (exits u n (ws .1 .1 .1 .1 .0) (us .1 .0) v e e₂ told len))))))))))))))))))))))))
 
@@ -199,9 +229,22 @@ module _ {M : Type 1} (𝓤 : URA M) (H : Heap 𝓤) (A : Atoms 𝓤) (W : Given
   this-walks : Walks 𝓤 H A this.ended stayed (WpFn 𝓤 H (𝓣 .C) (𝓣 .Λ) code.function) (this.clauses 𝓤 H A at-mem run)
   this-walks = walked 𝓤 H A this.ended stayed (this.clauses 𝓤 H A at-mem run) (WpFn 𝓤 H (𝓣 .C) (𝓣 .Λ) code.function)
       (λ κs. (uint-vals w64, (slice-vals, (slice-vals, (slice-vals, (slice-vals, (ptr-vals, tt)))))))
-      (λ κs. (uint-tells w64, (shr-slice-tells (named 0) (κs .0) T.the-row, (shr-slice-tells (named 1) (κs .1 .0) u32, (shr-slice-tells (named 2) (κs .1 .1 .0) u32, (mut-slice-tells (named 3) (κs .1 .1 .1 .0) u32, (mut-tells (named 4) (κs .1 .1 .1 .1 .0) Words, tt)))))))
+      (λ κs. (
+        uint-tells w64,
+        (
+          shr-slice-tells (named 0) (κs .0) T.the-row,
+          (
+            shr-slice-tells (named 1) (κs .1 .0) u32,
+            (
+              shr-slice-tells (named 2) (κs .1 .1 .0) u32,
+              (mut-slice-tells (named 3) (κs .1 .1 .1 .0) u32, (mut-tells (named 4) (κs .1 .1 .1 .1 .0) Words, tt)),
+            ),
+          ),
+        ),
+      ))
       (λ κs qs bounds a g are. via 𝓤 _ (fst∗ 𝓤 _ (emp 𝓤))
-      (walk 𝓤 H A W at-mem run (κs .0) (κs .1 .0) (κs .1 .1 .0) (κs .1 .1 .1 .0) (κs .1 .1 .1 .1 .0) (qs .0) (qs .1 .0) (qs .1 .1 .0) (qs .1 .1 .1 .0) (qs .1 .1 .1 .1 .0)
+      (walk 𝓤 H A W at-mem run (κs .0) (κs .1 .0) (κs .1 .1 .0) (κs .1 .1 .1 .0) (κs .1 .1 .1 .1 .0) (qs .0) (qs .1 .0) (qs .1 .1 .0)
+      (qs .1 .1 .1 .0) (qs .1 .1 .1 .1 .0)
       (a .0) (a .1 .0) (a .1 .1 .0) (a .1 .1 .1 .0) (a .1 .1 .1 .1 .0) (a .1 .1 .1 .1 .1 .0) (are .0 .1) (𝓣 .C) (𝓣 .Λ) (fmOf 𝓤 H (W .laws) 𝓣) known known₂
       (are .1 .0 .0 .1) (are .1 .1 .0 .0 .1) (are .1 .1 .1 .0 .0 .1) (are .1 .1 .1 .1 .0 .0 .1)))
 
@@ -221,7 +264,8 @@ this-meets 𝓤 H A W at-mem run 𝓣 known known₂ = walk-meets 𝓤 H A this.
     ),
   ),
 )
-    (this.clauses 𝓤 H A at-mem run) (WpFn 𝓤 H (𝓣 .C) (𝓣 .Λ) code.function) (WpFn-mono 𝓤 H (W .laws) 𝓣 code.function) (this-walks 𝓤 H A W at-mem run 𝓣 known known₂)
+    (this.clauses 𝓤 H A at-mem run) (WpFn 𝓤 H (𝓣 .C) (𝓣 .Λ) code.function) (WpFn-mono 𝓤 H (W .laws) 𝓣 code.function)
+    (this-walks 𝓤 H A W at-mem run 𝓣 known known₂)
 
 pub spoutbasket-verify-pairs-spec : {M : Type 1} → stated.statement M
 unfolding code.routine tablesOf

@@ -17,12 +17,12 @@ use Rattle.layout.specs.File.{longestFile, columnsOf, payslipsOf, stepsOf, outp
 use Rattle.layout.proofs.Readable.{readable, columns-low}
 use Rattle.reading.proofs.Good.{Good}
 use Rattle.listing.specs.Listing.{amountOf, listingRule}
-use Rattle.listing.specs.Inner.{TableHolds, Measured, sizesOf}
+use Rattle.listing.specs.Inner.{TableHolds, AmountsTold, sizesOf}
 use Rattle.listing.proofs.Tables.{atOutputs}
 
 -- the answer to a refusal, and what it says of a table, which is nothing
 pub listing-refused : (bytes table : List ℕ) (k s : ℕ) → refused k s ≡ listingRule bytes
-    → Measured (refusal k s) (answer (listingRule bytes) (sizesOf bytes)) (listingRule bytes) (TableHolds table (payslipsOf bytes) (columnsOf bytes) (amountOf bytes))
+    → AmountsTold (refusal k s) (answer (listingRule bytes) (sizesOf bytes)) (listingRule bytes) (TableHolds table (payslipsOf bytes) (columnsOf bytes) (amountOf bytes))
 listing-refused bytes table k s e = record { told-is = answer-refused _ _ k s e; holds = λ f. absurd (not-fine (e ∙ f)) }
 
 module _ (bytes : List ℕ) where
@@ -69,7 +69,7 @@ module _ (bytes steps outputs : List ℕ) (p q n : ℕ) (t : Good edition1 bytes
     -- the answer to a file that is listed, and what the table holds
     pub listing-done : (table : List ℕ) → fine ≡ exponentsRule p (pairs (take (2 * n) steps))
         → TableHolds table (length (take q outputs)) p (atOutputs p (pairs (take (2 * n) steps)) (take q outputs))
-        → Measured (done (p ∷ q ∷ n ∷ [])) (answer (listingRule bytes) (sizesOf bytes)) (listingRule bytes)
+        → AmountsTold (done (p ∷ q ∷ n ∷ [])) (answer (listingRule bytes) (sizesOf bytes)) (listingRule bytes)
         (TableHolds table (payslipsOf bytes) (columnsOf bytes) (amountOf bytes))
     listing-done table e holds =
         record {

@@ -22,7 +22,7 @@ pub record TableHolds (table : List ℕ) (q p : ℕ) (f : ℕ → ℕ → ℕ) :
   pub each : (i c : ℕ) → i < q → c < p → amountIn table i c ≡ f i c
 
 -- what a function that fills the table tells, and that the table holds the amounts if the rule finds nothing
-pub record Measured {A : Type 0} (told right : A) (rule : Verdict) (Holds : Type 0) : Type 0 where
+pub record AmountsTold {A : Type 0} (told right : A) (rule : Verdict) (Holds : Type 0) : Type 0 where
   pub told-is : told ≡ right
   pub holds : rule ≡ fine → Holds
 

@@ -12,7 +12,7 @@ ghost use Rattle.layout.specs.Layout.{edition1};
 ghost use Rattle.layout.specs.File.{columnsOf, payslipsOf};
 ghost use Rattle.reading.specs.Answers.{readOf};
 ghost use Rattle.listing.specs.Listing.{moreFields, lineOf, payslipLines, amountOf, listingRule, chainText, refusedText, listing};
-ghost use Rattle.listing.specs.Inner.{tableSize, amountIn, TableHolds, Measured, sizesOf, mostField, mostSizes, mostLine, mostText};
+ghost use Rattle.listing.specs.Inner.{tableSize, amountIn, TableHolds, AmountsTold, sizesOf, mostField, mostSizes, mostLine, mostText};
 ghost use Rattle.decimal.specs.Inner.{Put, PutShort};
 ghost use Rattle.decimal.specs.Decimal.{blank, decimal};
 ghost use Rattle.digits.specs.Range.{listTo};
@@ -132,7 +132,7 @@ fn measure(
     requires { ⌜ (p ≤ mostColumns) × (stepsRule p 1 (pairs (now steps)) ≡ fine) ×
         (outputsRule (p + length (pairs (now steps))) 1 (now outputs) ≡ fine) × (length (now outputs) ≤ mostPayslips) ×
         (p + length (now steps) / 2 < length (now scratch)) × (length (now table) ≡ tableSize) ⌝ }
-    ensures { λ r. ⌜ Measured (verdictOf r) (exponentsRule p (pairs (now (steps .entry)))) (verdictOf r)
+    ensures { λ r. ⌜ AmountsTold (verdictOf r) (exponentsRule p (pairs (now (steps .entry)))) (verdictOf r)
         (TableHolds (now (table .exit)) (length (now (outputs .entry))) p (λ i c. exponentOf p (pairs (now (steps .entry))) c (getD (now (outputs .entry)) i 0))) ⌝ }
 {
     let mut large: usize = 0;
@@ -159,7 +159,7 @@ fn measure_file(
 ) -> Reading
     requires { ⌜ (length (now steps) ≡ 2 * edition1 .limit) × (length (now outputs) ≡ mostPayslips) × (length (now scratch) ≡ mostColumns + edition1 .limit + 1) ×
         (length (now table) ≡ tableSize) ⌝ }
-    ensures { λ r. ⌜ Measured (readOf r) (answer (listingRule (now (bytes .entry))) (sizesOf (now (bytes .entry)))) (listingRule (now (bytes .entry)))
+    ensures { λ r. ⌜ AmountsTold (readOf r) (answer (listingRule (now (bytes .entry))) (sizesOf (now (bytes .entry)))) (listingRule (now (bytes .entry)))
         (TableHolds (now (table .exit)) (payslipsOf (now (bytes .entry))) (columnsOf (now (bytes .entry))) (amountOf (now (bytes .entry)))) ⌝ }
 {
     if MOST_BYTES < bytes.len() {

@@ -2,7 +2,7 @@
 ghost use mathlib.Core.Path.{_≡_};
 ghost use Prim.Native.Nat.{ℕ, _+_, _*_, _≤_, _<_};
 ghost use lib.ListN.{length, getD};
-ghost use Rattle.chain.specs.Chain.{mostColumns, by, pairs, sizesRule, lengthRule, shapeRule, stepRule, stepsRule, outputsRule, chainRule, legalRule, pick};
+ghost use Rattle.chain.specs.Chain.{mostColumns, by, pairs, sizesRule, lengthRule, shapeRule, stepRule, stepsRule, outputsRule, chainRule, pick};
 ghost use Rattle.chain.specs.Written.{over};
 ghost use Rattle.chain.specs.Inner.{stepAt};
 ghost use Rattle.chain.specs.Judgement.{verdictOf};
@@ -107,7 +107,7 @@ pub fn judge_step(v: usize, s: usize, first: u32, second: u32) -> Judgement
 }
 
 // The steps in order, first and second in turn.
-pub fn judge_steps(p: usize, steps: &[u32]) -> Judgement
+fn judge_steps(p: usize, steps: &[u32]) -> Judgement
     requires { ⌜ p ≤ mostColumns ⌝ }
     ensures { λ r. ⌜ verdictOf r ≡ stepsRule p 1 (pairs (now (steps .entry))) ⌝ }
 {
@@ -127,7 +127,7 @@ pub fn judge_steps(p: usize, steps: &[u32]) -> Judgement
 }
 
 // 12: an output above top, the number of the last value.
-pub fn judge_outputs(top: usize, outputs: &[u32]) -> Judgement
+fn judge_outputs(top: usize, outputs: &[u32]) -> Judgement
     ensures { λ r. ⌜ verdictOf r ≡ outputsRule top 1 (now (outputs .entry)) ⌝ }
 {
     let mut i: usize = 0;
@@ -149,16 +149,6 @@ pub fn judge_chain(p: usize, steps: &[u32], outputs: &[u32]) -> Judgement
     match judge_steps(p, steps) {
         Judgement::Refused(number, place) => Judgement::Refused(number, place),
         Judgement::Fine => judge_outputs(p + steps.len() / 2, outputs),
-    }
-}
-
-// Whether a chain is legal: 1, 4, steps, 12.
-pub fn judge_legal(p: usize, steps: &[u32], outputs: &[u32]) -> Judgement
-    ensures { λ r. ⌜ verdictOf r ≡ legalRule p (pairs (now (steps .entry))) (now (outputs .entry)) ⌝ }
-{
-    match judge_shape(MOST_STEPS, p, outputs.len(), steps.len() / 2) {
-        Judgement::Refused(number, place) => Judgement::Refused(number, place),
-        Judgement::Fine => judge_chain(p, steps, outputs),
     }
 }
 

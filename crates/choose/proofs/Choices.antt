@@ -7,7 +7,8 @@ use Rattle.chain.specs.Verdict.{Verdict, fine, refused}
 use Rattle.chain.proofs.Rules.{then-fine, refuseIf-fine, neither as no-test, not-lt}
 use Rattle.layout.specs.Layout.{edition1}
 use Rattle.layout.specs.File.{lengthOf}
-use Rattle.choose.specs.Choose.{fileRule, Choice, neither, better, unless, chooseRule, choice, Handed}
+use Rattle.choose.specs.Choose.{fileRule, better, unless, chooseRule, choice, Handed}
+use Rattle.answers.specs.Answers.{Choice, neither}
 use Rattle.choose.specs.Answers.{countOf}
 use Rattle.choose.specs.Inner.{Enough, FileJudged}
 use Rattle.choose.specs.declared.Judged.{Judged}

@@ -11,9 +11,9 @@ use Rattle.chain.proofs.Rules.{not-fine, stop, pass, refuse-yes, refuse-no, or-
 use Rattle.chain.proofs.Told.{verdictIn, told}
 use Rattle.chain.proofs.Pairs.{pairs-flat}
 use Rattle.verify.specs.Verify.{verifyRule, verifyAnswer}
-use Rattle.verify.specs.Verified.{verifiedOf}
-use Rattle.verify.specs.declared.Verified.{Verified}
-use Rattle.verify.specs.declared.Verified.the-variants as verified
+use Rattle.answers.specs.Answers.{verifiedOf}
+use Rattle.answers.specs.declared.Verified.{Verified}
+use Rattle.answers.specs.declared.Verified.the-variants as verified
 use Rattle.layout.specs.Layout.{edition1}
 use Rattle.layout.specs.File.{stepsOf, outputsOf, readRule}
 use Rattle.layout.proofs.Readable.{columns-low}

@@ -5,7 +5,8 @@ use Prim.Native.Nat.{ℕ, _≤_, _<_}
 use Rattle.chain.specs.Tests.{_≤?_}
 use Rattle.chain.specs.Verdict.{Verdict, fine, refused}
 use Rattle.chain.proofs.Rules.{le-yes, le-no}
-use Rattle.choose.specs.Choose.{Choice, first, second, neither, better}
+use Rattle.choose.specs.Choose.{better}
+use Rattle.answers.specs.Answers.{Choice, first, second, neither}
 use Rattle.choose.specs.Answers.{verdictOf, countOf}
 use Rattle.choose.specs.declared.Judged.{Judged}
 use Rattle.choose.specs.declared.Judged.the-variants.{Passed, Refused}

@@ -1,11 +1,8 @@
--- What each case of the code's enums says (Spec 8).
+-- What each case of the code's `Judged` says (Spec 8).
 use Prim.Native.Nat.{ℕ}
 use Rattle.chain.specs.Verdict.{Verdict, fine, refused}
-use Rattle.choose.specs.Choose.{Choice, first, second, neither}
 use Rattle.choose.specs.declared.Judged.{Judged}
 use Rattle.choose.specs.declared.Judged.the-variants as judged
-use Rattle.choose.specs.declared.Chosen.{Chosen}
-use Rattle.choose.specs.declared.Chosen.the-variants as chosen
 
 -- the verdict on a file
 abbrev pub verdictOf : Judged → Verdict
@@ -16,8 +13,3 @@ verdictOf (judged.Refused number place) = refused number place
 abbrev pub countOf : Judged → ℕ
 countOf (judged.Passed n) = n
 countOf (judged.Refused number place) = 0
-
-abbrev pub choiceOf : Chosen → Choice
-choiceOf chosen.First = first
-choiceOf chosen.Second = second
-choiceOf (chosen.Neither number place) = neither number place

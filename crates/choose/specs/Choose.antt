@@ -7,6 +7,7 @@ use denote.Ref.{RefT, now}
 use Rattle.chain.specs.Tests.{_<?_, _≤?_, _≠?_, _or_}
 use Rattle.chain.specs.Verdict.{Verdict, fine, refused, _then_, refuseIf}
 use Rattle.chain.specs.Chain.{mostColumns, mostPayslips}
+use Rattle.answers.specs.Answers.{Choice, first, second, neither}
 use Rattle.sheet.specs.Sheet.{sheetRule}
 use Rattle.verify.specs.Verify.{scratchSize, verifyRule}
 use Rattle.layout.specs.Layout.{edition1}
@@ -22,12 +23,6 @@ fileRule p q amounts file =
     readRule edition1 file (edition1 .limit) mostPayslips
     then refuseIf (columnsOf file ≠? p or payslipsOf file ≠? q) 14 0
     then verifyRule p (stepsOf edition1 file) (outputsOf edition1 file) amounts mostScratch
-
--- which file is handed back, or the refusal
-pub data Choice : Type 0 where
-  first : Choice
-  second : Choice
-  neither : ℕ → ℕ → Choice
 
 -- Spec 8: of two good files the one with fewer steps, the first if they are equal; of one, that one; of none, the first file's refusal.
 -- The verdicts on the two files, and their numbers of steps.

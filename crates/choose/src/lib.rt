@@ -3,24 +3,19 @@ ghost use mathlib.Core.Path.{_≡_};
 ghost use Prim.Native.Nat.{_/_};
 ghost use lib.ListN.{length};
 ghost use Rattle.chain.specs.Judgement as judgement;
+ghost use Rattle.answers.specs.Answers.{choiceOf};
 ghost use Rattle.choose.specs.Choose.{better, chooseRule, choice, Handed};
-ghost use Rattle.choose.specs.Answers.{verdictOf, countOf, choiceOf};
+ghost use Rattle.choose.specs.Answers.{verdictOf, countOf};
 ghost use Rattle.choose.specs.Inner.{Enough, FileJudged};
+use answers::Chosen;
 use chain::Judgement;
-use reading::Reading;
-use verify::Verified;
+use answers::Reading;
+use answers::Verified;
 
 // A file's number of steps where it reads and passes, or a refusal.
 pub enum Judged {
     Passed(usize),
     Refused(u32, usize),
-}
-
-// The file chosen, or a refusal.
-pub enum Chosen {
-    First,
-    Second,
-    Neither(u32, usize),
 }
 
 // 1, 2, then 5: what is found before either file, for so many pairs, outputs and numbers lent.

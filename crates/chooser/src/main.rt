@@ -1,7 +1,7 @@
 // chooser SHEET FIRST SECOND: writes to standard output the file with fewer steps, of two that make the sheet whose text is in the first file.
 ghost use Prim.Native.Nat.{_≤_};
 ghost use lib.ListN.{length};
-use choose::Chosen;
+use answers::Chosen;
 use desk::Taken;
 use libc::STDERR_FILENO;
 use libc::STDOUT_FILENO;

@@ -14,9 +14,9 @@ use Rattle.chain.proofs.Told.{verdictIn, told, told-values}
 use Rattle.sheet.specs.Sheet.{sheetRule}
 use Rattle.methods.specs.Inner.{ChainStored}
 use Rattle.compile.specs.Compile.{methodRule, chainOf, count, acceptedRule, compileRule, compileAnswer, compileSteps, compileOutputs}
-use Rattle.compile.specs.Compiled.{compiledOf}
-use Rattle.compile.specs.declared.Compiled.{Compiled}
-use Rattle.compile.specs.declared.Compiled.the-variants.{Steps, Refused}
+use Rattle.answers.specs.Answers.{compiledOf}
+use Rattle.answers.specs.declared.Compiled.{Compiled}
+use Rattle.answers.specs.declared.Compiled.the-variants.{Steps, Refused}
 
 module _ (p q : ℕ) (amounts : List ℕ) (method k : ℕ) where
   abbrev count′ : ℕ

@@ -12,9 +12,9 @@ use Rattle.chain.proofs.Told.{verdictIn, told, told-values}
 use Rattle.chain.proofs.Pairs.{pairs-flat, length-flat}
 use Rattle.chain.proofs.Written.{take-over, over-length}
 use Rattle.compile.specs.Compile.{chainOf, count, compileRule, compileAnswer, compileSteps, compileOutputs}
-use Rattle.compile.specs.Compiled.{compiledOf}
-use Rattle.compile.specs.declared.Compiled.{Compiled}
-use Rattle.compile.specs.declared.Compiled.the-variants.{Steps, Refused}
+use Rattle.answers.specs.Answers.{compiledOf}
+use Rattle.answers.specs.declared.Compiled.{Compiled}
+use Rattle.answers.specs.declared.Compiled.the-variants.{Steps, Refused}
 use Rattle.compile.proofs.Fits.{accepted}
 use Rattle.compile.proofs.Right.{compiled-right}
 

@@ -1,2 +1,1 @@
 pub mod Compile
-pub mod Compiled

@@ -9,14 +9,9 @@ ghost use Rattle.chain.specs.Verdict.{fine, answer};
 ghost use Rattle.sheet.specs.Sheet.{sheetRule};
 ghost use Rattle.methods.specs.Inner.{ChainStored};
 ghost use Rattle.compile.specs.Compile.{methodRule, chainOf, count, acceptedRule, compileAnswer, compileSteps, compileOutputs};
-ghost use Rattle.compile.specs.Compiled.{compiledOf};
+ghost use Rattle.answers.specs.Answers.{compiledOf};
+use answers::Compiled;
 use chain::Judgement;
-
-// The steps of the chain compiled, or a refusal with its number and place.
-pub enum Compiled {
-    Steps(usize),
-    Refused(u32, usize),
-}
 
 // 3: the number of a method, and its own range of parameters.
 fn judge_method(p: usize, method: usize, k: usize) -> Judgement

@@ -10,9 +10,9 @@ use Rattle.chain.specs.declared.Step.{Step}
 use Rattle.compile.specs.Compile.{chainOf, compileRule}
 use Rattle.layout.specs.Layout.{edition1}
 use Rattle.layout.specs.File.{writeAnswer, writeBytes}
-use Rattle.writing.specs.Answers.{writtenOf}
-use Rattle.writing.specs.declared.Written.{Written}
-use Rattle.writing.specs.declared.Written.the-variants.{Bytes}
+use Rattle.answers.specs.Answers.{writtenOf}
+use Rattle.answers.specs.declared.Written.{Written}
+use Rattle.answers.specs.declared.Written.the-variants.{Bytes}
 use Rattle.writing.proofs.Told.{write-room}
 use Rattle.compiler.specs.Made.{orElse, columnsIn, chainIn, ruleIn, madeAnswer, madeBytes}
 

@@ -2,15 +2,15 @@
 ghost use mathlib.Core.Path.{_≡_};
 ghost use Prim.Native.Nat.{_/_, _≤_};
 ghost use lib.ListN.{length};
-ghost use Rattle.writing.specs.Answers.{writtenOf};
+ghost use Rattle.answers.specs.Answers.{writtenOf};
 ghost use Rattle.compiler.specs.Made.{madeAnswer, madeBytes};
-use compile::Compiled;
+use answers::Compiled;
 use desk::Given;
 use desk::Taken;
 use libc::STDERR_FILENO;
 use libc::STDIN_FILENO;
 use libc::STDOUT_FILENO;
-use writing::Written;
+use answers::Written;
 
 // Compiles a sheet, whose p and q stand before its amounts, and writes the chain's file into the lent bytes. The chain is made in the lent slices.
 fn make_file(

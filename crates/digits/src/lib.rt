@@ -1,6 +1,6 @@
 // Digits of numbers in base 2^k, powers of two, and what sums and maxima over ranges are made of.
 ghost use mathlib.Core.Path.{_≡_};
-ghost use Prim.Native.Nat.{_*_, _^_, _≤_, _<_, max};
+ghost use Prim.Native.Nat.{_-_, _*_, _^_, _≤_, _<_, max};
 ghost use Rattle.digits.specs.Digits.{digitCount, bitLength, digit};
 ghost use Rattle.digits.specs.Range.{sign};
 
@@ -70,4 +70,14 @@ pub fn bit_length(top: usize) -> usize
         4096..=8191 => 13,
         _ => 14,
     }
+}
+
+// x less some, or 0.
+pub fn lessened(x: usize, less: usize) -> usize
+    ensures { λ r. ⌜ r ≡ x - less ⌝ }
+{
+    if x < less {
+        return 0;
+    }
+    x - less
 }

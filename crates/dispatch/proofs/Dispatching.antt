@@ -8,9 +8,9 @@ use Rattle.chain.specs.declared.Step.{Step}
 use Rattle.chain.proofs.Rules.{stop, pass, answer-refused, kept, renewed}
 use Rattle.layout.specs.Layout.{edition1}
 use Rattle.layout.specs.File.{fileOf, writeAnswer, writeBytes, readAnswer, readSteps, readOutputs}
-use Rattle.writing.specs.Answers.{writtenOf}
-use Rattle.writing.specs.declared.Written.{Written}
-use Rattle.writing.specs.declared.Written.the-variants.{Bytes, Refused}
+use Rattle.answers.specs.Answers.{writtenOf}
+use Rattle.answers.specs.declared.Written.{Written}
+use Rattle.answers.specs.declared.Written.the-variants.{Bytes, Refused}
 use Rattle.writing.proofs.Told.{write-stops, write-passes, write-front}
 use Rattle.dispatch.specs.Inner.{dispatchAnswer, dispatchSteps, dispatchOutputs, Dispatched}
 

@@ -1,9 +1,9 @@
 // A chain sent off: written, and read back from exactly the bytes counted.
 ghost use Rattle.chain.specs.Chain.{pairs};
-ghost use Rattle.reading.specs.Answers.{readOf};
+ghost use Rattle.answers.specs.Answers.{readOf};
 ghost use Rattle.dispatch.specs.Inner.{Dispatched};
-use reading::Reading;
-use writing::Written;
+use answers::Reading;
+use answers::Written;
 
 pub fn dispatch(
     p: usize,

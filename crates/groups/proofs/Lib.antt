@@ -9,5 +9,3 @@ pub mod Squarings
 pub mod Numbering
 pub mod Rows
 pub mod Measured
-pub mod Tabling
-pub mod Making

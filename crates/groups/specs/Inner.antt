@@ -1,4 +1,4 @@
--- Inner vocabulary: what the functions of this crate ask and leave; nobody has to believe it to believe an entry point's promise.
+-- Inner vocabulary: what the functions of this crate and of `subsets` ask and leave; nobody has to believe it to believe an entry point's promise.
 use mathlib.Core.Path.{_≡_}
 use mathlib.Core.List.{List}
 use Prim.Native.Nat.{ℕ, _+_, _-_, _*_, _/_, _^_, _≤_, _<_}

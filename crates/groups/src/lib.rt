@@ -1,10 +1,6 @@
 // Method 3 up to its groups' tables: the columns' bits, the inputs, the groups, and a payslip's bits cut into parts.
 pub mod cut;
 pub mod measure;
-pub mod subsets;
-
-ghost use mathlib.Core.Path.{_≡_};
-ghost use Prim.Native.Nat.{_-_};
 
 // No sheet has more inputs: an amount has at most 32 bits.
 pub const MOST_INPUTS: usize = chain::MOST_COLUMNS * 32;
@@ -24,14 +20,4 @@ pub struct Row {
     pub bits: u64,
     pub held: usize,
     pub g: usize,
-}
-
-// x less some, or 0.
-fn lessened(x: usize, less: usize) -> usize
-    ensures { λ r. ⌜ r ≡ x - less ⌝ }
-{
-    if x < less {
-        return 0;
-    }
-    x - less
 }

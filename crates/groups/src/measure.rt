@@ -1,6 +1,5 @@
 // The columns' bits, and what they add up to.
 use crate::Grouping;
-use crate::lessened;
 ghost use mathlib.Core.Path.{_≡_};
 ghost use Prim.Native.Nat.{_*_, _≤_, _<_};
 ghost use lib.ListN.{length, take};
@@ -38,7 +37,7 @@ fn column_sum(bits: &[u32], less: usize) -> usize
     let mut s: usize = 0;
     let mut col: usize = 0;
     while col < bits.len() {
-        s += lessened(bits[col] as usize, less);
+        s += digits::lessened(bits[col] as usize, less);
         col += 1;
     }
     s

@@ -11,9 +11,9 @@ use Rattle.chain.proofs.Rules.{then-fine}
 use Rattle.chain.proofs.Written.{over-laid}
 use Rattle.layout.specs.Layout.{edition1}
 use Rattle.layout.specs.File.{columnsOf, payslipsOf, lengthOf}
-use Rattle.reading.specs.Answers.{readOf}
-use Rattle.reading.specs.declared.Reading.{Reading}
-use Rattle.reading.specs.declared.Reading.the-variants as reading
+use Rattle.answers.specs.Answers.{readOf}
+use Rattle.answers.specs.declared.Reading.{Reading}
+use Rattle.answers.specs.declared.Reading.the-variants as reading
 use Rattle.layout.proofs.Readable.{readable, columns-low, payslips-low}
 use Rattle.chain.proofs.Told.{verdictIn, told, told-values}
 use Rattle.digits.proofs.Listed.{list-same}

@@ -10,14 +10,14 @@ ghost use Rattle.chain.specs.Judgement.{verdictOf};
 ghost use Rattle.verify.specs.Verify.{exponentsRule};
 ghost use Rattle.layout.specs.Layout.{edition1};
 ghost use Rattle.layout.specs.File.{columnsOf, payslipsOf};
-ghost use Rattle.reading.specs.Answers.{readOf};
+ghost use Rattle.answers.specs.Answers.{readOf};
 ghost use Rattle.listing.specs.Listing.{moreFields, lineOf, payslipLines, amountOf, listingRule, chainText, refusedText, listing};
 ghost use Rattle.listing.specs.Inner.{tableSize, amountIn, TableHolds, AmountsTold, sizesOf, mostField, mostSizes, mostLine, mostText};
 ghost use Rattle.decimal.specs.Inner.{Put, PutShort};
 ghost use Rattle.decimal.specs.Decimal.{blank, decimal};
 ghost use Rattle.digits.specs.Range.{listTo};
 use chain::Judgement;
-use reading::Reading;
+use answers::Reading;
 
 // The longest parts of a listing: a blank and the digits of an amount; the first line; a payslip's line.
 const MOST_FIELD: usize = 11;

@@ -22,7 +22,7 @@ fn make_parts(
     let mut r = PartialProduct { n: n, value: 0 };
     let mut g: usize = 0;
     while g < s.groups {
-        let y = groups::subsets::part_value(s, members, g, numbers[g]);
+        let y = subsets::part_value(s, members, g, numbers[g]);
         r = products::times(s.p, r, y, steps);
         g += 1;
     }
@@ -88,7 +88,7 @@ pub fn make_chain(
     ensures { λ r. ⌜ ChainStored (now (steps .entry)) (now (outputs .entry)) (now (steps .exit)) (now (outputs .exit))
         (partition (s .p) (s .q) (now (amounts .entry)) (s .c)) ⌝ }
 {
-    let n = groups::subsets::make_groups(s, bits, members, steps);
+    let n = subsets::make_groups(s, bits, members, steps);
     let w = s.inputs;
     make_payslips(s, amounts, bits, &members[..w], n, cells, steps, outputs);
 }

@@ -56,7 +56,7 @@ pub fn chain_count(s: Grouping, amounts: &[u32], bits: &[u32]) -> usize
     requires { ⌜ Grouped s (now amounts) (now bits) ⌝ }
     ensures { λ r. ⌜ r ≡ partitionCount (s .p) (s .q) (now (amounts .entry)) (s .c) ⌝ }
 {
-    let n = s.squarings + groups::subsets::tables_count(s);
+    let n = s.squarings + subsets::tables_count(s);
     let mut cells = [0u32; groups::MOST_INPUTS];
     n + payslips_count(s, amounts, bits, &mut cells)
 }

@@ -8,14 +8,14 @@ use Rattle.chain.specs.Chain.{Chain, mostAmount}
 use Rattle.chain.specs.declared.Step.{Step}
 use Rattle.chain.proofs.Rules.{stop, pass, then-fine, then-assoc, answer-refused, answer-done, kept, renewed}
 use Rattle.chain.proofs.Told.{verdictIn, told, told-values}
-use Rattle.run.specs.Ran.{ranOf}
-use Rattle.run.specs.declared.Ran.{Ran}
-use Rattle.run.specs.declared.Ran.the-variants as ran
+use Rattle.answers.specs.Answers.{ranOf}
+use Rattle.answers.specs.declared.Ran.{Ran}
+use Rattle.answers.specs.declared.Ran.the-variants as ran
 use Rattle.layout.specs.Layout.{edition1}
 use Rattle.layout.specs.File.{columnsOf, lengthOf, stepsOf, outputsOf, writeBytes, readAnswer}
-use Rattle.reading.specs.Answers.{readOf}
-use Rattle.reading.specs.declared.Reading.{Reading}
-use Rattle.reading.specs.declared.Reading.the-variants as reading
+use Rattle.answers.specs.Answers.{readOf}
+use Rattle.answers.specs.declared.Reading.{Reading}
+use Rattle.answers.specs.declared.Reading.the-variants as reading
 use Rattle.reading.proofs.Told.{ChainTaken, taken}
 use Rattle.compile.specs.Compile.{count, compileSteps, compileOutputs}
 use Rattle.dispatch.specs.Inner.{dispatchAnswer, dispatchSteps, dispatchOutputs, Dispatched}

@@ -1,3 +1,2 @@
 pub mod Path
 pub mod Demand3
-pub mod Figured

@@ -2,20 +2,11 @@
 ghost use mathlib.Core.Path.{_≡_};
 ghost use Rattle.path.specs.Path.{lent, pathAnswer, pathLeaves};
 ghost use Rattle.path.specs.Demand3.{Demand3};
-ghost use Rattle.path.specs.Figured.{figuredOf};
-use compile::Compiled;
-use reading::Reading;
-use run::Ran;
-
-// The steps that compile and read return and the multiplications made, or the refusal of the first call that refuses.
-pub enum Figured {
-    Counts {
-        compiled: usize,
-        read: usize,
-        made: usize,
-    },
-    Refused(u32, usize),
-}
+ghost use Rattle.answers.specs.Answers.{figuredOf};
+use answers::Figured;
+use answers::Compiled;
+use answers::Reading;
+use answers::Ran;
 
 // Demand 3's path: compile, write, read, check and run, each from exactly what the call before it filled. What is read stands in `received` and `results`.
 pub fn sheet_to_figures(

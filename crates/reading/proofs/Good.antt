@@ -7,9 +7,9 @@ use Rattle.chain.specs.Verdict.{fine, refused}
 use Rattle.chain.specs.Chain.{mostPayslips}
 use Rattle.layout.specs.declared.Layout.{Layout}
 use Rattle.layout.specs.File.{readRule, readAnswer, readSteps, readOutputs}
-use Rattle.reading.specs.Answers.{readOf}
-use Rattle.reading.specs.declared.Reading.{Reading}
-use Rattle.reading.specs.declared.Reading.the-variants as reading
+use Rattle.answers.specs.Answers.{readOf}
+use Rattle.answers.specs.declared.Reading.{Reading}
+use Rattle.answers.specs.declared.Reading.the-variants as reading
 use Rattle.layout.proofs.Lent.{read-any}
 use Rattle.reading.proofs.Told.{ChainTaken, taken, read-stops, read-passes}
 

@@ -15,9 +15,9 @@ use Rattle.layout.specs.declared.Layout.{Layout}
 use Rattle.layout.specs.File.{columnsOf, payslipsOf, lengthOf, stepsOf, outputsOf, readRule, readAnswer, readSteps, readOutputs}
 use Rattle.layout.proofs.Readable.{readable}
 use Rattle.layout.proofs.OneFile.{length-stepsOf, length-outputsOf}
-use Rattle.reading.specs.Answers.{readOf}
-use Rattle.reading.specs.declared.Reading.{Reading}
-use Rattle.reading.specs.declared.Reading.the-variants.{Chain, Refused}
+use Rattle.answers.specs.Answers.{readOf}
+use Rattle.answers.specs.declared.Reading.{Reading}
+use Rattle.answers.specs.declared.Reading.the-variants.{Chain, Refused}
 
 -- bytes that were read: their p, q and n, and their chain at the front of the two slices
 pub record ChainTaken (L : Layout) (bytes steps outputs : List ℕ) (p q n : ℕ) : Type 0 where

@@ -8,19 +8,14 @@ ghost use Rattle.fields.specs.Inner.{FieldsRoom};
 ghost use Rattle.layout.specs.Layout.{edition1};
 ghost use Rattle.layout.specs.File.{readAnswer, readSteps, readOutputs};
 ghost use Rattle.layout.specs.Inner.{SoundLayout};
-ghost use Rattle.reading.specs.Answers.{readOf};
+ghost use Rattle.answers.specs.Answers.{readOf};
 ghost use Rattle.reading.specs.Inner.{HeaderRoom, headerIn, headed, Proper, Contained, fileSteps, fileOutputs, bodyRule, BodyRead, FileRead, ListsTaken};
+use answers::Reading;
 use bits::BitReader;
 use bits::Cursor;
 use chain::Judgement;
 use layout::Extent;
 use layout::Layout;
-
-// The chain's p, q and n, or a refusal.
-pub enum Reading {
-    Chain { p: usize, q: usize, n: usize },
-    Refused(u32, usize),
-}
 
 // What a header says.
 struct Header {

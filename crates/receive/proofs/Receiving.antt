@@ -8,9 +8,9 @@ use Rattle.chain.specs.declared.Step.{Step}
 use Rattle.chain.proofs.Rules.{stop, pass, answer-refused, kept, renewed}
 use Rattle.chain.proofs.Told.{verdictIn, told}
 use Rattle.verify.specs.Verify.{verifyRule, verifyAnswer, verifyScratch}
-use Rattle.verify.specs.Verified.{verifiedOf}
-use Rattle.verify.specs.declared.Verified.{Verified}
-use Rattle.verify.specs.declared.Verified.the-variants.{Passed, Refused}
+use Rattle.answers.specs.Answers.{verifiedOf}
+use Rattle.answers.specs.declared.Verified.{Verified}
+use Rattle.answers.specs.declared.Verified.the-variants.{Passed, Refused}
 use Rattle.run.specs.Run.{runAnswer, runValues, runFigures}
 use Rattle.receive.specs.Inner.{receiveAnswer, receiveValues, receiveFigures, Received}
 

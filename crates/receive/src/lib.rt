@@ -1,9 +1,9 @@
 // A chain received: checked against its sheet, then run.
 ghost use Rattle.chain.specs.Chain.{pairs};
-ghost use Rattle.run.specs.Ran.{ranOf};
+ghost use Rattle.answers.specs.Answers.{ranOf};
 ghost use Rattle.receive.specs.Inner.{Received};
-use run::Ran;
-use verify::Verified;
+use answers::Ran;
+use answers::Verified;
 
 pub fn receive(
     p: usize,

@@ -9,14 +9,9 @@ ghost use Rattle.chain.specs.Written.{over, laid};
 ghost use Rattle.chain.specs.Chain.{mostColumns, pairs, stepsRule, values};
 ghost use Rattle.residue.specs.Residue.{timesMod};
 ghost use Rattle.run.specs.Run.{residues, anyNotBelow, runRule, runAnswer, runValues, runFigures};
-ghost use Rattle.run.specs.Ran.{ranOf};
+ghost use Rattle.answers.specs.Answers.{ranOf};
+use answers::Ran;
 use chain::Judgement;
-
-// The multiplications made, or a refusal with its number and place.
-pub enum Ran {
-    Multiplications(usize),
-    Refused(u32, usize),
-}
 
 // Whether some number is not below the limit.
 fn any_not_below(limit: u32, numbers: &[u32]) -> bool

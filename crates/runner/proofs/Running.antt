@@ -5,9 +5,9 @@ use Prim.Native.Nat.{ℕ}
 use Rattle.chain.specs.declared.Step.{Step}
 use Rattle.chain.proofs.Told.{verdictIn, told}
 use Rattle.run.specs.Run.{runAnswer}
-use Rattle.run.specs.Ran.{ranOf}
-use Rattle.run.specs.declared.Ran.{Ran}
-use Rattle.run.specs.declared.Ran.the-variants.{Multiplications}
+use Rattle.answers.specs.Answers.{ranOf}
+use Rattle.answers.specs.declared.Ran.{Ran}
+use Rattle.answers.specs.declared.Ran.the-variants.{Multiplications}
 use Rattle.run.proofs.Runnable.{Runnable, runnable}
 
 pub ran : (p : ℕ) (steps : List Step) (outputs : List ℕ) (m : ℕ) (bases : List ℕ) (room places : ℕ) (r : Ran) (n : ℕ)

@@ -4,8 +4,8 @@ use desk::Given;
 use desk::Taken;
 use libc::STDERR_FILENO;
 use libc::STDOUT_FILENO;
-use reading::Reading;
-use run::Ran;
+use answers::Reading;
+use answers::Ran;
 
 // One base more than a chain can have, so that too many are known to be too many.
 const MOST_BASES: usize = chain::MOST_COLUMNS + 1;

@@ -3,7 +3,7 @@ use mathlib.Core.List.{List, [], _∷_, _++_}
 use Prim.Native.Nat.{ℕ}
 use lib.ListN.{take}
 use Rattle.chain.specs.Verdict.{Answer, done, refusal}
-use Rattle.choose.specs.Choose.{Choice, first, second, neither}
+use Rattle.answers.specs.Answers.{Choice, first, second, neither}
 
 -- what is returned: 0 where the call is done, else the refusal's number
 abbrev pub numberOf : Answer → ℕ

@@ -24,7 +24,8 @@ use Rattle.yao.specs.Yao.{yaoDigits, gatherOne, yao, yaoCount, yaoCeiling}
 use Rattle.groups.specs.Groups.{columnBits, inputs, selection}
 use Rattle.partition.specs.Partition.{partition, partitionCount, partitionCeiling}
 use Rattle.compile.specs.Compile.{methodRule, methodOf, acceptedRule, compileRule, compileAnswer, compileSteps, compileOutputs}
-use Rattle.choose.specs.Choose.{Choice, first, second, neither, fileRule, better, unless, chooseRule, choice}
+use Rattle.choose.specs.Choose.{fileRule, better, unless, chooseRule, choice}
+use Rattle.answers.specs.Answers.{Choice, first, second, neither}
 use Rattle.decimal.specs.Decimal.{decimal}
 use Rattle.listing.specs.Listing.{lineOf, listingRule, chainText, refusedText, textFor, listing}
 use Rattle.path.specs.Path.{pathAnswer, pathLeaves}

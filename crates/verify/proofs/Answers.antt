@@ -12,8 +12,8 @@ use Rattle.chain.specs.declared.Step.{Step}
 use Rattle.chain.proofs.Rules.{stop, pass}
 use Rattle.chain.proofs.Pairs.{length-pairs}
 use Rattle.verify.specs.Verify.{exponentsRule, payslipsRule, fittingRule, verifyRule, verifyAnswer, verifyScratch}
-use Rattle.verify.specs.Verified.{verifiedOf}
-use Rattle.verify.specs.declared.Verified.the-variants.{Passed, Refused}
+use Rattle.answers.specs.Answers.{verifiedOf}
+use Rattle.answers.specs.declared.Verified.the-variants.{Passed, Refused}
 
 module _ (j : judgement.Judgement) where
   pub told-passed : j ≡ judgement.the-variants.Fine → verifiedOf Passed ≡ answer (verdictOf j) []

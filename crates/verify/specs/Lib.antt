@@ -1,3 +1,2 @@
 pub mod Verify
-pub mod Verified
 pub mod Inner

@@ -9,15 +9,10 @@ ghost use Rattle.chain.specs.Written.{over};
 ghost use Rattle.chain.specs.Chain.{mostColumns, pairs, stepsRule, outputsRule, chainRule, values, exponents};
 ghost use Rattle.chain.specs.Judgement.{verdictOf};
 ghost use Rattle.verify.specs.Verify.{earlier, firstOther, exponentsRule, payslipsRule, scratchSize, fittingRule, verifyAnswer, verifyScratch};
-ghost use Rattle.verify.specs.Verified.{verifiedOf};
+ghost use Rattle.answers.specs.Answers.{verifiedOf};
 ghost use Rattle.verify.specs.Inner.{SummedUp, ColumnsHeld};
+use answers::Verified;
 use chain::Judgement;
-
-// What the check answers: the chain passed, or a refusal with its number and its place, 0 for none.
-pub enum Verified {
-    Passed,
-    Refused(u32, usize),
-}
 
 // The steps, 12, then 5: scratch is the number of cells lent.
 fn judge_room(p: usize, steps: &[u32], outputs: &[u32], scratch: usize) -> Judgement

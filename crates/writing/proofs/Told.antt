@@ -13,9 +13,9 @@ use Rattle.chain.proofs.Written.{take-over, over-length}
 use Rattle.layout.specs.declared.Layout.{Layout}
 use Rattle.layout.specs.File.{byteCount, fileOf, writeRule, writeAnswer, writeBytes}
 use Rattle.layout.proofs.Lengths.{length-file}
-use Rattle.writing.specs.Answers.{writtenOf}
-use Rattle.writing.specs.declared.Written.{Written}
-use Rattle.writing.specs.declared.Written.the-variants.{Bytes, Refused}
+use Rattle.answers.specs.Answers.{writtenOf}
+use Rattle.answers.specs.declared.Written.{Written}
+use Rattle.answers.specs.declared.Written.the-variants.{Bytes, Refused}
 
 module _ (L : Layout) (p : ℕ) (steps : List Step) (outputs bytes : List ℕ) (w : Written)
     (answered : writtenOf w ≡ writeAnswer L p steps outputs (length bytes)) where

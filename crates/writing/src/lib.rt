@@ -11,18 +11,13 @@ ghost use Rattle.bits.specs.Inner.{FieldStored};
 ghost use Rattle.layout.specs.Layout.{edition1};
 ghost use Rattle.layout.specs.File.{headerBits, headerSize, fileOf, writeAnswer, writeBytes};
 ghost use Rattle.layout.specs.Inner.{SoundLayout};
-ghost use Rattle.writing.specs.Answers.{writtenOf};
+ghost use Rattle.answers.specs.Answers.{writtenOf};
 ghost use Rattle.writing.specs.Inner.{HeaderFill, ToWrite, Wrote};
+use answers::Written;
 use bits::Cursor;
 use chain::Judgement;
 use layout::Extent;
 use layout::Layout;
-
-// The number of bytes, or a refusal.
-pub enum Written {
-    Bytes(usize),
-    Refused(u32, usize),
-}
 
 // The steps, 12, then 5 where fewer bytes are lent than the file has.
 fn judge_rest(p: usize, steps: &[u32], outputs: &[u32], count: usize, lent: usize) -> Judgement

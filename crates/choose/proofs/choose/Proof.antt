@@ -5,7 +5,7 @@ use Prim.Native.Nat.{_/_}
 use lib.ListN.{length}
 use denote.Ref.{now}
 use Rattle.choose.specs.Choose.{choice}
-use Rattle.choose.specs.Answers.{choiceOf}
+use Rattle.answers.specs.Answers.{choiceOf}
 use Rattle.choose.proofs.Choices.{handed}
 use Rattle.choose.proofs.choose.Statement.{statement}
 use Rattle.choose.proofs.choose.Tie as tie

@@ -46,10 +46,10 @@ use denote.Exit.{yes}
 use Rattle.chain.specs.Chain.{pairs}
 use Rattle.chain.specs.declared.Step.{Step}
 use Rattle.run.specs.Run.{runAnswer, runValues, runFigures}
-use Rattle.run.specs.Ran.{ranOf}
-use Rattle.run.specs.declared.Ran.{Ran}
-use Rattle.run.proofs.Ran as E
-use Rattle.run.proofs.Ran.Laws as E′
+use Rattle.answers.specs.Answers.{ranOf}
+use Rattle.answers.specs.declared.Ran.{Ran}
+use Rattle.answers.proofs.Ran as E
+use Rattle.answers.proofs.Ran.Laws as E′
 use Rattle.pairs.proofs.Facts.{three-facts, ends-saying}
 use Rattle.pairs.proofs.Flattening.{N, zeros, zeros-length, room-at, R, Flatten, to-flatten, asks-flatten, Counted, Filled, in-front, front-steps}
 use Rattle.pairs.proofs.LocalArray.{arraySlice, sliceOf, Elements, lends-array, shares-array, frees-array, big-lit}

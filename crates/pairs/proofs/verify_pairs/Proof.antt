@@ -46,10 +46,10 @@ use denote.Exit.{yes}
 use Rattle.chain.specs.Chain.{pairs}
 use Rattle.chain.specs.declared.Step.{Step}
 use Rattle.verify.specs.Verify.{verifyAnswer, verifyScratch}
-use Rattle.verify.specs.Verified.{verifiedOf}
-use Rattle.verify.specs.declared.Verified.{Verified}
-use Rattle.verify.proofs.Verified as E
-use Rattle.verify.proofs.Verified.Laws as E′
+use Rattle.answers.specs.Answers.{verifiedOf}
+use Rattle.answers.specs.declared.Verified.{Verified}
+use Rattle.answers.proofs.Verified as E
+use Rattle.answers.proofs.Verified.Laws as E′
 use Rattle.pairs.proofs.Facts.{two-facts, ends-saying}
 use Rattle.pairs.proofs.Flattening.{N, zeros, zeros-length, room-at, R, Flatten, to-flatten, asks-flatten, Counted, Filled, in-front, front-steps}
 use Rattle.pairs.proofs.LocalArray.{arraySlice, sliceOf, Elements, lends-array, shares-array, frees-array, big-lit}

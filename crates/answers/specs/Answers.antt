@@ -1,0 +1,59 @@
+-- What each case of the calls' answers says (Spec 10.6): the values, or the refusal's number and place.
+use mathlib.Core.List.{[], _∷_}
+use Prim.Native.Nat.{ℕ}
+use Rattle.chain.specs.Verdict.{Answer, done, refusal}
+use Rattle.answers.specs.declared.Compiled.{Compiled}
+use Rattle.answers.specs.declared.Compiled.the-variants as compiled
+use Rattle.answers.specs.declared.Written.{Written}
+use Rattle.answers.specs.declared.Written.the-variants as written
+use Rattle.answers.specs.declared.Reading.{Reading}
+use Rattle.answers.specs.declared.Reading.the-variants as reading
+use Rattle.answers.specs.declared.Verified.{Verified}
+use Rattle.answers.specs.declared.Verified.the-variants as verified
+use Rattle.answers.specs.declared.Ran.{Ran}
+use Rattle.answers.specs.declared.Ran.the-variants as ran
+use Rattle.answers.specs.declared.Chosen.{Chosen}
+use Rattle.answers.specs.declared.Chosen.the-variants as chosen
+use Rattle.answers.specs.declared.Figured.{Figured}
+use Rattle.answers.specs.declared.Figured.the-variants as figured
+
+-- compile: n
+abbrev pub compiledOf : Compiled → Answer
+compiledOf (compiled.Steps n) = done (n ∷ [])
+compiledOf (compiled.Refused number place) = refusal number place
+
+-- write: the number of bytes
+abbrev pub writtenOf : Written → Answer
+writtenOf (written.Bytes n) = done (n ∷ [])
+writtenOf (written.Refused number place) = refusal number place
+
+-- read: p, q and n
+abbrev pub readOf : Reading → Answer
+readOf (reading.Chain p q n) = done (p ∷ q ∷ n ∷ [])
+readOf (reading.Refused number place) = refusal number place
+
+-- check: that the chain passed
+abbrev pub verifiedOf : Verified → Answer
+verifiedOf verified.Passed = done []
+verifiedOf (verified.Refused number place) = refusal number place
+
+-- run: the multiplications made
+abbrev pub ranOf : Ran → Answer
+ranOf (ran.Multiplications n) = done (n ∷ [])
+ranOf (ran.Refused number place) = refusal number place
+
+-- Spec 8: which file the chooser hands back, or the refusal
+pub data Choice : Type 0 where
+  first : Choice
+  second : Choice
+  neither : ℕ → ℕ → Choice
+
+abbrev pub choiceOf : Chosen → Choice
+choiceOf chosen.First = first
+choiceOf chosen.Second = second
+choiceOf (chosen.Neither number place) = neither number place
+
+-- Spec 7.3, the whole path: the steps that compile and read return and the multiplications made
+abbrev pub figuredOf : Figured → Answer
+figuredOf (figured.Counts compiled read made) = done (compiled ∷ read ∷ made ∷ [])
+figuredOf (figured.Refused number place) = refusal number place

@@ -1,2 +1,5 @@
 pub mod Width
 pub mod Products
+mod Upper
+mod Quotient
+mod Correction

@@ -1,1 +1,2 @@
 pub mod Residue
+pub mod Inner

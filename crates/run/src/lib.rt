@@ -90,18 +90,19 @@ fn start(m: u32, bases: &[u32], values: &mut [u32])
     lay(bases, 1, values);
 }
 
-// Each step's product, after the p + 1 values that stand in the slice.
+// Each step's product, after the p + 1 values that stand in the slice. The modulus is inverted once for all of them.
 fn multiply(p: usize, steps: &[u32], m: u32, cells: &mut [u32])
     requires { ⌜ (0 < m) × (p ≤ mostColumns) × (stepsRule p 1 (pairs (now steps)) ≡ fine) × (p + length (now steps) / 2 < length (now cells)) ⌝ }
     ensures { λ r. ⌜ now (cells .exit) ≡ over (values (timesMod m) (take (p + 1) (now (cells .entry))) (pairs (now (steps .entry)))) (now (cells .entry)) ⌝ }
 {
     let n = steps.len() / 2;
+    let inverse = residue::inverse(m);
     let mut s: usize = 0;
     while s < n {
         let x = chain::step_at(steps, s);
         let a = x.first as usize;
         let b = x.second as usize;
-        cells[p + s + 1] = residue::times(cells[a], cells[b], m);
+        cells[p + s + 1] = residue::times(cells[a], cells[b], m, inverse);
         s += 1;
     }
 }

@@ -10,7 +10,7 @@ use Rattle.run.proofs.multiply.Statement.{statement}
 use Rattle.run.proofs.multiply.Tie as tie
 
 abbrev Inv-loop : tie.InvT-loop
-Inv-loop p steps m cells₀ n s₀ cells s =
+Inv-loop p steps m cells₀ n inverse s₀ cells s =
     (s ≤ n)
     × (length cells ≡ length cells₀)
     × (p + n < length cells)
@@ -18,7 +18,10 @@ Inv-loop p steps m cells₀ n s₀ cells s =
     × (cells ≡ madeTo (timesMod m) p steps s cells₀)
 
 abbrev μ-loop : tie.MeasureT-loop
-μ-loop p steps m cells₀ n s₀ cells s = n - s
+μ-loop p steps m cells₀ n inverse s₀ cells s = n - s
+
+inverse-requires : tie.Need-inverse-requires Inv-loop μ-loop
+inverse-requires c κs = search needs
 
 loop-holds : tie.Need-loop-holds Inv-loop μ-loop
 loop-holds c = search (needs, filling)
@@ -39,7 +42,7 @@ slice-read-times : tie.Need-slice-read-times Inv-loop μ-loop
 slice-read-times c =
     let l = c .before .before .before .before .before in
     let t = c .before .before .before .before .loop-test .taken in
-    first-within _ _ _ _ _ (c .before .before .before .step-at .ensures) t (l .before .before .before .pre .2) (l .loop .inv .2)
+    first-within _ _ _ _ _ (c .before .before .before .step-at .ensures) t (l .before .before .before .before .pre .2) (l .loop .inv .2)
 
 mul-times-2 : tie.Need-mul-times-2 Inv-loop μ-loop
 mul-times-2 c = search (needs, within)
@@ -48,7 +51,7 @@ slice-read-times-2 : tie.Need-slice-read-times-2 Inv-loop μ-loop
 slice-read-times-2 c =
     let l = c .before .before .before .before .before .before in
     let t = c .before .before .before .before .before .loop-test .taken in
-    second-within _ _ _ _ _ (c .before .before .before .before .step-at .ensures) t (l .before .before .before .pre .2) (l .loop .inv .2)
+    second-within _ _ _ _ _ (c .before .before .before .before .step-at .ensures) t (l .before .before .before .before .pre .2) (l .loop .inv .2)
 
 times-requires : tie.Need-times-requires Inv-loop μ-loop
 times-requires c κs = search needs
@@ -86,6 +89,7 @@ multiply-spec =
     (tie.spec
     Inv-loop
     μ-loop
+    inverse-requires
     loop-holds
     step-at-requires
     cast-a

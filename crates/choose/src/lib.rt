@@ -8,9 +8,9 @@ ghost use Rattle.choose.specs.Choose.{better, chooseRule, choice, Handed
 ghost use Rattle.choose.specs.Answers.{verdictOf, countOf};
 ghost use Rattle.choose.specs.Inner.{Enough, FileJudged};
 use answers::Chosen;
-use chain::Judgement;
 use answers::Reading;
 use answers::Verified;
+use chain::Judgement;
 
 // A file's number of steps where it reads and passes, or a refusal.
 pub enum Judged {

@@ -5,12 +5,12 @@ ghost use lib.ListN.{length};
 ghost use Rattle.answers.specs.Answers.{writtenOf};
 ghost use Rattle.compiler.specs.Made.{madeAnswer, madeBytes};
 use answers::Compiled;
+use answers::Written;
 use desk::Given;
 use desk::Taken;
 use libc::STDERR_FILENO;
 use libc::STDIN_FILENO;
 use libc::STDOUT_FILENO;
-use answers::Written;
 
 // Compiles a sheet, whose p and q stand before its amounts, and writes the chain's file into the lent bytes. The chain is made in the lent slices.
 fn make_file(

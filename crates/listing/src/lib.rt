@@ -16,8 +16,8 @@ ghost use Rattle.listing.specs.Inner.{tableSize, amountIn, TableHolds, A
 ghost use Rattle.decimal.specs.Inner.{Put, PutShort};
 ghost use Rattle.decimal.specs.Decimal.{blank, decimal};
 ghost use Rattle.digits.specs.Range.{listTo};
-use chain::Judgement;
 use answers::Reading;
+use chain::Judgement;
 
 // The longest parts of a listing: a blank and the digits of an amount; the first line; a payslip's line.
 const MOST_FIELD: usize = 11;

@@ -5,12 +5,11 @@ ghost use lib.ListN.{length, take};
 ghost use Rattle.chain.specs.Written.{over};
 ghost use Rattle.chain.specs.Chain.{flat, pairs};
 ghost use Rattle.run.specs.Run.{runAnswer, runValues, runFigures};
-ghost use Rattle.answers.specs.Answers.{ranOf};
+ghost use Rattle.answers.specs.Answers.{ranOf, verifiedOf};
 ghost use Rattle.verify.specs.Verify.{verifyAnswer, verifyScratch};
-ghost use Rattle.answers.specs.Answers.{verifiedOf};
-use chain::Step;
 use answers::Ran;
 use answers::Verified;
+use chain::Step;
 
 // Two cells for each step, of one more than is legal: so the flat form itself refuses a chain that is too long.
 const CELLS: usize = 2 * (chain::MOST_STEPS + 1);

@@ -8,12 +8,11 @@ use Rattle.chain.specs.Chain.{Chain, mostAmount}
 use Rattle.chain.specs.declared.Step.{Step}
 use Rattle.chain.proofs.Rules.{stop, pass, then-fine, then-assoc, answer-refused, answer-done, kept, renewed}
 use Rattle.chain.proofs.Told.{verdictIn, told, told-values}
-use Rattle.answers.specs.Answers.{ranOf}
+use Rattle.answers.specs.Answers.{ranOf, readOf}
 use Rattle.answers.specs.declared.Ran.{Ran}
 use Rattle.answers.specs.declared.Ran.the-variants as ran
 use Rattle.layout.specs.Layout.{edition1}
 use Rattle.layout.specs.File.{columnsOf, lengthOf, stepsOf, outputsOf, writeBytes, readAnswer}
-use Rattle.answers.specs.Answers.{readOf}
 use Rattle.answers.specs.declared.Reading.{Reading}
 use Rattle.answers.specs.declared.Reading.the-variants as reading
 use Rattle.reading.proofs.Told.{ChainTaken, taken}

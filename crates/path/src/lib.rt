@@ -3,10 +3,10 @@ ghost use mathlib.Core.Path.{_≡_};
 ghost use Rattle.path.specs.Path.{lent, pathAnswer, pathLeaves};
 ghost use Rattle.path.specs.Demand3.{Demand3};
 ghost use Rattle.answers.specs.Answers.{figuredOf};
-use answers::Figured;
 use answers::Compiled;
-use answers::Reading;
+use answers::Figured;
 use answers::Ran;
+use answers::Reading;
 
 // Demand 3's path: compile, write, read, check and run, each from exactly what the call before it filled. What is read stands in `received` and `results`.
 pub fn sheet_to_figures(

@@ -1,11 +1,11 @@
 // runner CHAIN MODULUS BASE..: runs the chain in a file over residues and prints its figures, one to a line, then the multiplications made.
 ghost use Rattle.desk.specs.Taken.{counted};
+use answers::Ran;
+use answers::Reading;
 use desk::Given;
 use desk::Taken;
 use libc::STDERR_FILENO;
 use libc::STDOUT_FILENO;
-use answers::Reading;
-use answers::Ran;
 
 // One base more than a chain can have, so that too many are known to be too many.
 const MOST_BASES: usize = chain::MOST_COLUMNS + 1;

@@ -1,3 +1,4 @@
 pub mod Table
 pub mod Entries
 pub mod Tabling
+mod Trailing

@@ -14,7 +14,7 @@ use Rattle.digits.specs.Digits.{digitCount, digit}
 use Rattle.digits.proofs.Count.{low-count, count-high, count-some, count-few}
 use Rattle.digits.proofs.Words.{digit-place}
 use Rattle.products.specs.Product.{ordered}
-use Rattle.tables.specs.Table.{isUnit, entry, lowestFrom, lowest, tableNext, table}
+use Rattle.tables.specs.Table.{isUnit, entry, lowest, tableNext, table}
 use Rattle.products.specs.Inner.{stepsIn, StepsRoom, StepsStored}
 use Rattle.products.proofs.Sound.{Begins, begins-own, begins-more, begins-rise}
 use Rattle.tables.proofs.Table.{lowest-digit}
@@ -60,39 +60,6 @@ unfolding entry
 entry-none k inputs at t e = rw (eq-yes t 0 e)
 
 pub ruleset entering = (above-zero, digits-some, top-fits, unit-told, input-place, entry-none, entry-input, entry-made)
-
--- the place of the lowest digit that is not 0, sought from place j on; d is how many digits t has
-from-zero : (f k t j : ℕ) → digit k t j ≡ 0 → lowestFrom (suc f) k t j ≡ lowestFrom f k t (suc j)
-from-zero f k t j e = rw (eq-yes (digit k t j) 0 e, lowestFrom)
-
-from-some : (f k t j : ℕ) → (digit k t j ≡ 0 → ⊥) → lowestFrom (suc f) k t j ≡ j
-from-some f k t j h = rw (eq-no (digit k t j) 0 h, lowestFrom)
-
-pub lowest-start : (k t d : ℕ) → d ≡ digitCount k t → lowest k t ≡ lowestFrom (d - 0) k t 0
-lowest-start k t d e =
-    let s : d - 0 ≡ digitCount k t = omega arith in
-    rw s
-
-module _ (k t d j w : ℕ) where
-  pub place-fits : d ≡ digitCount k t → 0 < k → t < 2 ^ 32 → j < d → k * j < 32
-  place-fits is some low h = digit-place k t j some low (omega arith)
-
-  pub lowest-on : (x : ℕ) → x ≡ digit k t j → x ≡ 0 → j < d → w ≡ lowestFrom (d - j) k t j → w ≡ lowestFrom (d - (j + 1)) k t (j + 1)
-  lowest-on x e z h i =
-      let s : d - j ≡ suc (d - suc j) = omega arith in
-      rw (add-one j) (i ∙ rw s (from-zero (d - suc j) k t j (sym e ∙ z)))
-
-  pub lowest-stop : (x : ℕ) → x ≡ digit k t j → (x ≡ 0 → ⊥) → j < d → w ≡ lowestFrom (d - j) k t j → j ≡ w
-  lowest-stop x e z h i =
-      let s : d - j ≡ suc (d - (j + 1)) = omega arith in
-      sym (i ∙ rw s (from-some (d - (j + 1)) k t j (λ y. z (e ∙ y))))
-
-  pub lowest-end : d ≤ j → w ≡ lowestFrom (d - j) k t j → j ≡ w
-  lowest-end h i =
-      let s : d - j ≡ 0 = omega arith in
-      sym (i ∙ rw s)
-
-pub ruleset seeking = (lowest-start, place-fits, lowest-on, lowest-stop, lowest-end)
 
 -- the lowest digit of t is one of its digits
 lowest-below : (k t : ℕ) → 0 < k → 0 < t → lowest k t < digitCount k t

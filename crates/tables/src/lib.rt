@@ -29,20 +29,16 @@ pub fn entry(k: usize, inputs: &[u32], at: u32, t: u32) -> u32
     (at as usize + t as usize - d - 1) as u32
 }
 
-// The place of the lowest digit of t that is not 0.
+// The place of the lowest digit of t that is not 0, from the zeros below it. Digits of one bit are not cut, which spares a division.
 fn lowest(k: usize, t: u32) -> usize
-    requires { ⌜ (0 < k) × (k < 32) ⌝ }
+    requires { ⌜ (0 < k) × (0 < t) ⌝ }
     ensures { λ r. ⌜ r ≡ lowest k t ⌝ }
 {
-    let d = digits::digit_count(k, t);
-    let mut j: usize = 0;
-    while j < d {
-        if digits::digit(k, t, j) != 0 {
-            return j;
-        }
-        j += 1;
+    let zeros = u32::trailing_zeros(t) as usize;
+    if k == 1 {
+        return zeros;
     }
-    j
+    zeros / k
 }
 
 // The step of entry t, after n steps, unless it is zero or a unit.

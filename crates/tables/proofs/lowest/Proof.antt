@@ -1,53 +1,22 @@
--- One digit a turn: what is left to seek begins at the next digit.
+-- The zeros below a number's lowest digit that is not 0, cut into digits, are its place.
 use borrow.Author.Needs.{needs}
-use mathlib.Core.Path.{_≡_}
-use Prim.Native.Nat.{_≤_, _-_}
-use Rattle.tables.specs.Table.{lowestFrom, lowest}
-use Rattle.tables.proofs.Tabling.{seeking}
+use native.Mathlib.Omega.{arith}
+use lib.Count.{trailing-le}
+use Rattle.tables.proofs.Trailing.{trailing-lowest, trailing-bit}
 use Rattle.tables.proofs.lowest.Statement.{statement}
 use Rattle.tables.proofs.lowest.Tie as tie
 
-abbrev Inv-loop : tie.InvT-loop
-Inv-loop k t d j₀ j = (j ≤ d) × (lowest k t ≡ lowestFrom (d - j) k t j)
+cast-zeros : tie.Need-cast-zeros
+cast-zeros c = omega (arith, trailing-le 32 (c .args .t))
 
-abbrev μ-loop : tie.MeasureT-loop
-μ-loop k t d j₀ j = d - j
+returns : tie.Need-returns
+returns c = trailing-bit 32 _ _ (search needs) (c .before .pre .1) (c .before .fits .t .fits)
 
-digit-count-requires : tie.Need-digit-count-requires Inv-loop μ-loop
-digit-count-requires c κs = search needs
+div-result : tie.Need-div-result
+div-result c = search needs
 
-loop-holds : tie.Need-loop-holds Inv-loop μ-loop
-loop-holds c = search (needs, seeking)
-
-digit-requires : tie.Need-digit-requires Inv-loop μ-loop
-digit-requires c κs = search (needs, seeking)
-
-returns : tie.Need-returns Inv-loop μ-loop
-returns c = search seeking
-
-add-j : tie.Need-add-j Inv-loop μ-loop
-add-j c = search needs
-
-loop-less : tie.Need-loop-less Inv-loop μ-loop
-loop-less c = search needs
-
-loop-again : tie.Need-loop-again Inv-loop μ-loop
-loop-again c = search (needs, seeking)
-
-returns-2 : tie.Need-returns-2 Inv-loop μ-loop
-returns-2 c = search seeking
+returns-2 : tie.Need-returns-2
+returns-2 c = trailing-lowest 32 _ _ (c .before .pre .0) (c .before .pre .1) (c .before .fits .t .fits)
 
 pub lowest-spec : {M : Type 1} → statement M
-lowest-spec =
-    tie.close
-    (tie.spec
-    Inv-loop
-    μ-loop
-    digit-count-requires
-    loop-holds
-    digit-requires
-    returns
-    add-j
-    loop-less
-    loop-again
-    returns-2)
+lowest-spec = tie.close (tie.spec cast-zeros returns div-result returns-2)

@@ -31,10 +31,10 @@ use Rattle.chain.specs.Chain.{mostSteps, pairs, flat}
 use Rattle.chain.specs.Written.{over}
 use Rattle.chain.specs.declared.Step.{Step}
 use Rattle.chain.proofs.Step as T
-use Rattle.pairs.proofs.Flattened.{flattened-pairs}
+use Rattle.flatten.proofs.Flattened.{flattened-pairs}
 use Rattle.pairs.proofs.LocalArray.{arraySlice, sliceOf}
 use Rattle.pairs.proofs.TooLong.{front-same}
-use Rattle.pairs.proofs.flatten_some as flatten
+use Rattle.flatten.proofs.flatten_some as flatten
 
 abbrev pub N : ℕ
 N = 2 * (mostSteps + 1)

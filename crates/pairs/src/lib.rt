@@ -1,9 +1,8 @@
 // The check and the run of a chain that is lent as a slice of steps: the steps are laid flat in a local array, and the flat form is called.
 ghost use mathlib.Core.Path.{_≡_};
-ghost use Prim.Native.Nat.{_*_, _/_, _≤_, min};
+ghost use Prim.Native.Nat.{_*_, _≤_};
 ghost use lib.ListN.{length, take};
-ghost use Rattle.chain.specs.Written.{over};
-ghost use Rattle.chain.specs.Chain.{flat, pairs};
+ghost use Rattle.chain.specs.Chain.{pairs};
 ghost use Rattle.run.specs.Run.{runAnswer, runValues, runFigures};
 ghost use Rattle.answers.specs.Answers.{ranOf, verifiedOf};
 ghost use Rattle.verify.specs.Verify.{verifyAnswer, verifyScratch};
@@ -13,33 +12,6 @@ use chain::Step;
 
 // Two cells for each step, of one more than is legal: so the flat form itself refuses a chain that is too long.
 const CELLS: usize = 2 * (chain::MOST_STEPS + 1);
-
-// How many of the steps have room, two cells each.
-fn fitting(steps: usize, cells: usize) -> usize
-    ensures { λ r. ⌜ r ≡ min steps (cells / 2) ⌝ }
-{
-    let room = cells / 2;
-    if steps <= room { steps } else { room }
-}
-
-// As many steps as have room, first and second in turn, over the front of the cells; how many they are.
-pub fn flatten_some(steps: &[Step], cells: &mut [u32]) -> usize
-    ensures { λ r. ⌜ r ≡ min (length (now (steps .entry))) (length (now (cells .entry)) / 2) ⌝ }
-    ensures { λ r. ⌜ now (cells .exit) ≡ over (flat (take (length (now (cells .entry)) / 2) (now (steps .entry)))) (now (cells .entry)) ⌝ }
-{
-    let n = fitting(steps.len(), cells.len());
-    let mut i: usize = 0;
-    let mut at: usize = 0;
-    while i < n {
-        let s = steps[i];
-        cells[at] = s.first;
-        at += 1;
-        cells[at] = s.second;
-        at += 1;
-        i += 1;
-    }
-    n
-}
 
 // The run of the first n steps that stand in the cells.
 fn run_front(
@@ -99,7 +71,7 @@ pub fn run_pairs(
         (length (now (values .entry))) (now (figures .entry)) ⌝ }
 {
     let mut cells = [0u32; CELLS];
-    let n = flatten_some(steps, &mut cells);
+    let n = flatten::flatten_some(steps, &mut cells);
     run_front(p, &cells, n, outputs, m, bases, values, figures)
 }
 
@@ -117,6 +89,6 @@ pub fn verify_pairs(
         ≡ verifyScratch p (now (steps .entry)) (now (outputs .entry)) (now (amounts .entry)) (now (scratch .entry)) ⌝ }
 {
     let mut cells = [0u32; CELLS];
-    let n = flatten_some(steps, &mut cells);
+    let n = flatten::flatten_some(steps, &mut cells);
     verify_front(p, &cells, n, outputs, amounts, scratch)
 }

@@ -10,7 +10,7 @@ use lib.ListN.{length, getD, length-append}
 use Rattle.chain.specs.Tests.{_=?_, _or_}
 use Rattle.chain.specs.declared.Step.{Step}
 use Rattle.chain.proofs.Rules.{eq-yes, eq-no, or-left, or-right, or-none}
-use Rattle.digits.specs.Digits.{digitCount, digit}
+use Rattle.digits.specs.Digits.{digitCount}
 use Rattle.digits.proofs.Count.{low-count, count-high, count-some, count-few}
 use Rattle.digits.proofs.Words.{digit-place}
 use Rattle.products.specs.Product.{ordered}

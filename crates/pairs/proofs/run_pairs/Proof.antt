@@ -50,14 +50,14 @@ use Rattle.answers.specs.Answers.{ranOf}
 use Rattle.answers.specs.declared.Ran.{Ran}
 use Rattle.answers.proofs.Ran as E
 use Rattle.answers.proofs.Ran.Laws as E′
-use Rattle.pairs.proofs.Facts.{three-facts, ends-saying}
+use Rattle.flatten.proofs.Facts.{three-facts, ends-saying}
 use Rattle.pairs.proofs.Flattening.{N, zeros, zeros-length, room-at, R, Flatten, to-flatten, asks-flatten, Counted, Filled, in-front, front-steps}
 use Rattle.pairs.proofs.LocalArray.{arraySlice, sliceOf, Elements, lends-array, shares-array, frees-array, big-lit}
 use Rattle.pairs.proofs.TooLong.{run-answer-long, run-values-long, run-figures-long}
-use Rattle.pairs.proofs.flatten_some as flatten
-use Rattle.pairs.proofs.flatten_some.Symbol as flatten-def
-use Rattle.pairs.proofs.flatten_some.Symbol.{name as #pairs·flatten-some}
-use Rattle.pairs.proofs.flatten_some.Met as flatten-thm
+use Rattle.flatten.proofs.flatten_some as flatten
+use Rattle.flatten.proofs.flatten_some.Symbol as flatten-def
+use Rattle.flatten.proofs.flatten_some.Symbol.{name as #flatten·flatten-some}
+use Rattle.flatten.proofs.flatten_some.Met as flatten-thm
 use Rattle.pairs.proofs.run_front as front
 use Rattle.pairs.proofs.run_front.Symbol as front-def
 use Rattle.pairs.proofs.run_front.Symbol.{name as #pairs·run-front}
@@ -174,7 +174,7 @@ module _ {M : Type 1} (𝓤 : URA M) (H : Heap 𝓤) (A : Atoms 𝓤) (W : Given
         owned ! usize (Is usize) (uint-makes 𝓤 H A W w64) n _ (refl, n-fits) $ move ! (0 ∷ 2 ∷ []) $ fjoin ! $ move ! (1 ∷ 0 ∷ []) $ fjoin ! $
         owned ! usize (Is usize) (uint-makes 𝓤 H A W w64) p _ (refl, p-fits) $ fjoin ! $ done !
 
-  module _ (C : Calls 𝓤 H) (Λ : Loops 𝓤 H) (fm : FmC 𝓤 H (W .laws) C) (known : Triple 𝓤 (C #pairs·flatten-some) (Flatten 𝓤 H A at-mem run))
+  module _ (C : Calls 𝓤 H) (Λ : Loops 𝓤 H) (fm : FmC 𝓤 H (W .laws) C) (known : Triple 𝓤 (C #flatten·flatten-some) (Flatten 𝓤 H A at-mem run))
       (known₂ : Triple 𝓤 (C #pairs·run-front) (Front 𝓤 H A at-mem run)) where
     walk : Room R (length (x .now)) → Room u32 (length (x₁ .now)) → Room u32 (length (x₂ .now)) → Room u32 (length (x₃ .now)) → Room u32 (length (x₄ .now))
         → ent 𝓤 (onEntry 𝓤 H A this.signature (κ, (κ₁, (κ₂, (κ₃, (κ₄, tt))))) (q, (q₁, (q₂, (q₃, (q₄, tt))))) a at) (WpFn 𝓤 H C Λ code.function args Post)
@@ -295,7 +295,7 @@ module _ {M : Type 1} (𝓤 : URA M) (H : Heap 𝓤) (A : Atoms 𝓤) (W : Given
         len₃ len₄)))))))))))))))))))))))))))))))))))))))))
 
 module _ {M : Type 1} (𝓤 : URA M) (H : Heap 𝓤) (A : Atoms 𝓤) (W : Given 𝓤 H A) (at-mem : Memory → SProp 𝓤) (run : Routine → Fun 𝓤) (𝓣 : Tables 𝓤 H)
-    (known : Triple 𝓤 (𝓣 .C #pairs·flatten-some) (Flatten 𝓤 H A at-mem run)) (known₂ : Triple 𝓤 (𝓣 .C #pairs·run-front) (Front 𝓤 H A at-mem run)) where
+    (known : Triple 𝓤 (𝓣 .C #flatten·flatten-some) (Flatten 𝓤 H A at-mem run)) (known₂ : Triple 𝓤 (𝓣 .C #pairs·run-front) (Front 𝓤 H A at-mem run)) where
   this-walks : Walks 𝓤 H A this.ended stayed (WpFn 𝓤 H (𝓣 .C) (𝓣 .Λ) code.function) (this.clauses 𝓤 H A at-mem run)
   this-walks = walked 𝓤 H A this.ended stayed (this.clauses 𝓤 H A at-mem run) (WpFn 𝓤 H (𝓣 .C) (𝓣 .Λ) code.function)
       (λ κs. (uint-vals w64, (slice-vals, (slice-vals, (uint-vals w32, (slice-vals, (slice-vals, (slice-vals, tt))))))))
@@ -325,7 +325,7 @@ module _ {M : Type 1} (𝓤 : URA M) (H : Heap 𝓤) (A : Atoms 𝓤) (W : Given
       (are .1 .0 .0 .1) (are .1 .1 .0 .0 .1) (are .1 .1 .1 .1 .0 .0 .1) (are .1 .1 .1 .1 .1 .0 .0 .1) (are .1 .1 .1 .1 .1 .1 .0 .0 .1)))
 
 this-meets : {M : Type 1} (𝓤 : URA M) (H : Heap 𝓤) (A : Atoms 𝓤) → Given 𝓤 H A → (at-mem : Memory → SProp 𝓤) (run : Routine → Fun 𝓤) (𝓣 : Tables 𝓤 H)
-    → Triple 𝓤 (𝓣 .C #pairs·flatten-some) (Flatten 𝓤 H A at-mem run) → Triple 𝓤 (𝓣 .C #pairs·run-front) (Front 𝓤 H A at-mem run)
+    → Triple 𝓤 (𝓣 .C #flatten·flatten-some) (Flatten 𝓤 H A at-mem run) → Triple 𝓤 (𝓣 .C #pairs·run-front) (Front 𝓤 H A at-mem run)
     → Meets 𝓤 H A this.signature (WpFn 𝓤 H (𝓣 .C) (𝓣 .Λ) code.function) (this.spec 𝓤 H A at-mem run)
 this-meets 𝓤 H A W at-mem run 𝓣 known known₂ = walk-meets 𝓤 H A this.ended stayed W (
   goes-dropped 𝓤 H A W 5 (plain (λ _. usize)) yes (λ κs x f. refl),
@@ -353,5 +353,5 @@ run-pairs-spec 𝓤 H 𝓜 𝓖 𝓡 =
     (tables 𝓤 H 𝓜 𝓡 code.env .C) (tables 𝓤 H 𝓜 𝓡 code.env .Λ) #pairs·run-pairs code.function (code.unfolded 𝓤 H 𝓜 𝓡)
     (this-meets 𝓤 H (𝓖 .A) (givenOf 𝓤 H 𝓜 𝓖) (𝓜 .mem) (𝓡 .run) (tablesOf 𝓤 H 𝓜 (tables 𝓤 H 𝓜 𝓡 code.env))
     (cited 𝓤 H (Flatten 𝓤 H (𝓖 .A) (𝓜 .mem)
-    (𝓡 .run)) 𝓜 𝓡 code.env #pairs·flatten-some flatten-def.routine code.calls-pairs·flatten-some (flatten-thm.met 𝓤 H 𝓜 𝓖 𝓡))
+    (𝓡 .run)) 𝓜 𝓡 code.env #flatten·flatten-some flatten-def.routine code.calls-flatten·flatten-some (flatten-thm.met 𝓤 H 𝓜 𝓖 𝓡))
     (cited 𝓤 H (Front 𝓤 H (𝓖 .A) (𝓜 .mem) (𝓡 .run)) 𝓜 𝓡 code.env #pairs·run-front front-def.routine code.calls-pairs·run-front (front-thm.met 𝓤 H 𝓜 𝓖 𝓡)))

@@ -50,14 +50,14 @@ use Rattle.answers.specs.Answers.{verifiedOf}
 use Rattle.answers.specs.declared.Verified.{Verified}
 use Rattle.answers.proofs.Verified as E
 use Rattle.answers.proofs.Verified.Laws as E′
-use Rattle.pairs.proofs.Facts.{two-facts, ends-saying}
+use Rattle.flatten.proofs.Facts.{two-facts, ends-saying}
 use Rattle.pairs.proofs.Flattening.{N, zeros, zeros-length, room-at, R, Flatten, to-flatten, asks-flatten, Counted, Filled, in-front, front-steps}
 use Rattle.pairs.proofs.LocalArray.{arraySlice, sliceOf, Elements, lends-array, shares-array, frees-array, big-lit}
 use Rattle.pairs.proofs.TooLong.{verify-answer-long, verify-scratch-long}
-use Rattle.pairs.proofs.flatten_some as flatten
-use Rattle.pairs.proofs.flatten_some.Symbol as flatten-def
-use Rattle.pairs.proofs.flatten_some.Symbol.{name as #pairs·flatten-some}
-use Rattle.pairs.proofs.flatten_some.Met as flatten-thm
+use Rattle.flatten.proofs.flatten_some as flatten
+use Rattle.flatten.proofs.flatten_some.Symbol as flatten-def
+use Rattle.flatten.proofs.flatten_some.Symbol.{name as #flatten·flatten-some}
+use Rattle.flatten.proofs.flatten_some.Met as flatten-thm
 use Rattle.pairs.proofs.verify_front as front
 use Rattle.pairs.proofs.verify_front.Symbol as front-def
 use Rattle.pairs.proofs.verify_front.Symbol.{name as #pairs·verify-front}
@@ -153,7 +153,7 @@ module _ {M : Type 1} (𝓤 : URA M) (H : Heap 𝓤) (A : Atoms 𝓤) (W : Given
         owned ! usize (Is usize) (uint-makes 𝓤 H A W w64) n _ (refl, n-fits) $ move ! (0 ∷ 2 ∷ []) $ fjoin ! $ move ! (1 ∷ 0 ∷ []) $ fjoin ! $
         owned ! usize (Is usize) (uint-makes 𝓤 H A W w64) p _ (refl, p-fits) $ fjoin ! $ done !
 
-  module _ (C : Calls 𝓤 H) (Λ : Loops 𝓤 H) (fm : FmC 𝓤 H (W .laws) C) (known : Triple 𝓤 (C #pairs·flatten-some) (Flatten 𝓤 H A at-mem run))
+  module _ (C : Calls 𝓤 H) (Λ : Loops 𝓤 H) (fm : FmC 𝓤 H (W .laws) C) (known : Triple 𝓤 (C #flatten·flatten-some) (Flatten 𝓤 H A at-mem run))
       (known₂ : Triple 𝓤 (C #pairs·verify-front) (Front 𝓤 H A at-mem run)) where
     walk : Room R (length (x .now)) → Room u32 (length (x₁ .now)) → Room u32 (length (x₂ .now)) → Room u32 (length (x₃ .now))
         → ent 𝓤 (onEntry 𝓤 H A this.signature (κ, (κ₁, (κ₂, (κ₃, tt)))) (q, (q₁, (q₂, (q₃, tt)))) a at) (WpFn 𝓤 H C Λ code.function args Post)
@@ -258,7 +258,7 @@ module _ {M : Type 1} (𝓤 : URA M) (H : Heap 𝓤) (A : Atoms 𝓤) (W : Given
         len₃)))))))))))))))))))))))))))))))))))
 
 module _ {M : Type 1} (𝓤 : URA M) (H : Heap 𝓤) (A : Atoms 𝓤) (W : Given 𝓤 H A) (at-mem : Memory → SProp 𝓤) (run : Routine → Fun 𝓤) (𝓣 : Tables 𝓤 H)
-    (known : Triple 𝓤 (𝓣 .C #pairs·flatten-some) (Flatten 𝓤 H A at-mem run)) (known₂ : Triple 𝓤 (𝓣 .C #pairs·verify-front) (Front 𝓤 H A at-mem run)) where
+    (known : Triple 𝓤 (𝓣 .C #flatten·flatten-some) (Flatten 𝓤 H A at-mem run)) (known₂ : Triple 𝓤 (𝓣 .C #pairs·verify-front) (Front 𝓤 H A at-mem run)) where
   this-walks : Walks 𝓤 H A this.ended stayed (WpFn 𝓤 H (𝓣 .C) (𝓣 .Λ) code.function) (this.clauses 𝓤 H A at-mem run)
   this-walks = walked 𝓤 H A this.ended stayed (this.clauses 𝓤 H A at-mem run) (WpFn 𝓤 H (𝓣 .C) (𝓣 .Λ) code.function)
       (λ κs. (uint-vals w64, (slice-vals, (slice-vals, (slice-vals, (slice-vals, tt))))))
@@ -276,7 +276,7 @@ module _ {M : Type 1} (𝓤 : URA M) (H : Heap 𝓤) (A : Atoms 𝓤) (W : Given
       (are .1 .0 .0 .1) (are .1 .1 .0 .0 .1) (are .1 .1 .1 .0 .0 .1) (are .1 .1 .1 .1 .0 .0 .1)))
 
 this-meets : {M : Type 1} (𝓤 : URA M) (H : Heap 𝓤) (A : Atoms 𝓤) → Given 𝓤 H A → (at-mem : Memory → SProp 𝓤) (run : Routine → Fun 𝓤) (𝓣 : Tables 𝓤 H)
-    → Triple 𝓤 (𝓣 .C #pairs·flatten-some) (Flatten 𝓤 H A at-mem run) → Triple 𝓤 (𝓣 .C #pairs·verify-front) (Front 𝓤 H A at-mem run)
+    → Triple 𝓤 (𝓣 .C #flatten·flatten-some) (Flatten 𝓤 H A at-mem run) → Triple 𝓤 (𝓣 .C #pairs·verify-front) (Front 𝓤 H A at-mem run)
     → Meets 𝓤 H A this.signature (WpFn 𝓤 H (𝓣 .C) (𝓣 .Λ) code.function) (this.spec 𝓤 H A at-mem run)
 this-meets 𝓤 H A W at-mem run 𝓣 known known₂ = walk-meets 𝓤 H A this.ended stayed W (
   goes-dropped 𝓤 H A W 4 (plain (λ _. usize)) yes (λ κs x f. refl),
@@ -296,5 +296,5 @@ verify-pairs-spec 𝓤 H 𝓜 𝓖 𝓡 =
     entered 𝓤 H (tripleOf 𝓤 H (𝓖 .A) this.signature (this.spec 𝓤 H (𝓖 .A) (𝓜 .mem) (𝓡 .run)))
     (tables 𝓤 H 𝓜 𝓡 code.env .C) (tables 𝓤 H 𝓜 𝓡 code.env .Λ) #pairs·verify-pairs code.function (code.unfolded 𝓤 H 𝓜 𝓡)
     (this-meets 𝓤 H (𝓖 .A) (givenOf 𝓤 H 𝓜 𝓖) (𝓜 .mem) (𝓡 .run) (tablesOf 𝓤 H 𝓜 (tables 𝓤 H 𝓜 𝓡 code.env))
-    (cited 𝓤 H (Flatten 𝓤 H (𝓖 .A) (𝓜 .mem) (𝓡 .run)) 𝓜 𝓡 code.env #pairs·flatten-some flatten-def.routine code.calls-pairs·flatten-some (flatten-thm.met 𝓤 H 𝓜 𝓖 𝓡))
+    (cited 𝓤 H (Flatten 𝓤 H (𝓖 .A) (𝓜 .mem) (𝓡 .run)) 𝓜 𝓡 code.env #flatten·flatten-some flatten-def.routine code.calls-flatten·flatten-some (flatten-thm.met 𝓤 H 𝓜 𝓖 𝓡))
     (cited 𝓤 H (Front 𝓤 H (𝓖 .A) (𝓜 .mem) (𝓡 .run)) 𝓜 𝓡 code.env #pairs·verify-front front-def.routine code.calls-pairs·verify-front (front-thm.met 𝓤 H 𝓜 𝓖 𝓡)))

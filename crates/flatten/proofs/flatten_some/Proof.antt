@@ -57,17 +57,17 @@ use Rattle.chain.specs.Written.{over}
 use Rattle.chain.specs.declared.Step.{Step}
 use Rattle.chain.proofs.Step as T
 use Rattle.chain.proofs.Step.Laws as T′
-use Rattle.pairs.proofs.Facts.{two-facts, ends-saying}
-use Rattle.pairs.proofs.Flattened.{flattened, flattened-none, flattened-length, flattened-more, take-fewer}
-use Rattle.pairs.proofs.fitting as fitting
-use Rattle.pairs.proofs.fitting.Symbol as fitting-def
-use Rattle.pairs.proofs.fitting.Symbol.{name as #pairs·fitting}
-use Rattle.pairs.proofs.fitting.Met as fitting-thm
-use Rattle.pairs.proofs.flatten_some.Key.{name as #pairs·flatten-some}
-use Rattle.pairs.proofs.flatten_some as this
-use Rattle.pairs.proofs.flatten_some.Statement as stated
-use Rattle.pairs.proofs.flatten_some.Code as code
-use Rattle.pairs.proofs.flatten_some.Code.Mir as body
+use Rattle.flatten.proofs.Facts.{two-facts, ends-saying}
+use Rattle.flatten.proofs.Flattened.{flattened, flattened-none, flattened-length, flattened-more, take-fewer}
+use Rattle.flatten.proofs.fitting as fitting
+use Rattle.flatten.proofs.fitting.Symbol as fitting-def
+use Rattle.flatten.proofs.fitting.Symbol.{name as #flatten·fitting}
+use Rattle.flatten.proofs.fitting.Met as fitting-thm
+use Rattle.flatten.proofs.flatten_some.Key.{name as #flatten·flatten-some}
+use Rattle.flatten.proofs.flatten_some as this
+use Rattle.flatten.proofs.flatten_some.Statement as stated
+use Rattle.flatten.proofs.flatten_some.Code as code
+use Rattle.flatten.proofs.flatten_some.Code.Mir as body
 
 abbrev R : RattleType
 R = T.the-row
@@ -325,7 +325,7 @@ module _ {M : Type 1} (𝓤 : URA M) (H : Heap 𝓤) (A : Atoms 𝓤) (W : Given
           by-test false e = ends i e
 
   -- the MIR, up to the loop: `fitting` is called, and then each borrow is opened
-  walk : (𝓣 : Tables 𝓤 H) → Triple 𝓤 (𝓣 .C #pairs·fitting) (Fitting 𝓤 H A at-mem run)
+  walk : (𝓣 : Tables 𝓤 H) → Triple 𝓤 (𝓣 .C #flatten·fitting) (Fitting 𝓤 H A at-mem run)
       → ent 𝓤 (onEntry 𝓤 H A this.signature (κ, (κ₂, tt)) (q, (q₂, tt)) x at)
       (WpFn 𝓤 H (𝓣 .C) (𝓣 .Λ) code.function (sliceVal (b, o) (length ys) ∷ sliceVal (b₂, o₂) (length zs) ∷ []) Post)
   walk 𝓣 known =
@@ -367,7 +367,7 @@ module _ {M : Type 1} (𝓤 : URA M) (H : Heap 𝓤) (A : Atoms 𝓤) (W : Given
       (turns k (is .1) count 𝓣 q′ l₀ l₁ l₂ l₃ l₄ l₅ l₆ l₇ l₈ l₉ l₁₀ l₁₁ l₁₂ l₁₃ l₁₄) (0, zero-le)))))))))))))))))))))
 
 module _ {M : Type 1} (𝓤 : URA M) (H : Heap 𝓤) (A : Atoms 𝓤) (W : Given 𝓤 H A) (at-mem : Memory → SProp 𝓤) (run : Routine → Fun 𝓤) (𝓣 : Tables 𝓤 H)
-    (known : Triple 𝓤 (𝓣 .C #pairs·fitting) (Fitting 𝓤 H A at-mem run)) where
+    (known : Triple 𝓤 (𝓣 .C #flatten·fitting) (Fitting 𝓤 H A at-mem run)) where
   this-walks : Walks 𝓤 H A this.ended stayed (WpFn 𝓤 H (𝓣 .C) (𝓣 .Λ) code.function) (this.clauses 𝓤 H A at-mem run)
   this-walks = walked 𝓤 H A this.ended stayed (this.clauses 𝓤 H A at-mem run) (WpFn 𝓤 H (𝓣 .C) (𝓣 .Λ) code.function)
       (λ κs. (slice-vals, (slice-vals, tt))) (λ κs. (shr-slice-tells (named 0) (κs .0) R, (mut-slice-tells (named 1) (κs .1 .0) u32, tt)))
@@ -376,7 +376,7 @@ module _ {M : Type 1} (𝓤 : URA M) (H : Heap 𝓤) (A : Atoms 𝓤) (W : Given
       (a .1 .0 .name) (a .0 .now) (a .1 .0 .now) (are .0 .0 .1) (are .1 .0 .0 .1) 𝓣 known))
 
 this-meets : {M : Type 1} (𝓤 : URA M) (H : Heap 𝓤) (A : Atoms 𝓤) → Given 𝓤 H A → (at-mem : Memory → SProp 𝓤) (run : Routine → Fun 𝓤) (𝓣 : Tables 𝓤 H)
-    → Triple 𝓤 (𝓣 .C #pairs·fitting) (Fitting 𝓤 H A at-mem run)
+    → Triple 𝓤 (𝓣 .C #flatten·fitting) (Fitting 𝓤 H A at-mem run)
     → Meets 𝓤 H A this.signature (WpFn 𝓤 H (𝓣 .C) (𝓣 .Λ) code.function) (this.spec 𝓤 H A at-mem run)
 this-meets 𝓤 H A W at-mem run 𝓣 known = walk-meets 𝓤 H A this.ended stayed W
     (goes-none-slice 𝓤 H A W 2 (0 ∷ []) tt (plain (λ _. R)) yes, (goes-slice 𝓤 H A W 2 1 tt (plain (λ _. u32)), tt)) (this.clauses 𝓤 H A at-mem run)
@@ -386,6 +386,6 @@ pub flatten-some-spec : {M : Type 1} → stated.statement M
 unfolding code.routine tablesOf
 flatten-some-spec 𝓤 H 𝓜 𝓖 𝓡 =
     entered 𝓤 H (tripleOf 𝓤 H (𝓖 .A) this.signature (this.spec 𝓤 H (𝓖 .A) (𝓜 .mem) (𝓡 .run)))
-    (tables 𝓤 H 𝓜 𝓡 code.env .C) (tables 𝓤 H 𝓜 𝓡 code.env .Λ) #pairs·flatten-some code.function (code.unfolded 𝓤 H 𝓜 𝓡)
+    (tables 𝓤 H 𝓜 𝓡 code.env .C) (tables 𝓤 H 𝓜 𝓡 code.env .Λ) #flatten·flatten-some code.function (code.unfolded 𝓤 H 𝓜 𝓡)
     (this-meets 𝓤 H (𝓖 .A) (givenOf 𝓤 H 𝓜 𝓖) (𝓜 .mem) (𝓡 .run) (tablesOf 𝓤 H 𝓜 (tables 𝓤 H 𝓜 𝓡 code.env))
-    (cited 𝓤 H (Fitting 𝓤 H (𝓖 .A) (𝓜 .mem) (𝓡 .run)) 𝓜 𝓡 code.env #pairs·fitting fitting-def.routine code.calls-pairs·fitting (fitting-thm.met 𝓤 H 𝓜 𝓖 𝓡)))
+    (cited 𝓤 H (Fitting 𝓤 H (𝓖 .A) (𝓜 .mem) (𝓡 .run)) 𝓜 𝓡 code.env #flatten·fitting fitting-def.routine code.calls-flatten·fitting (fitting-thm.met 𝓤 H 𝓜 𝓖 𝓡)))

@@ -154,6 +154,7 @@ impl fmt::Display for Refusal {
         write!(f, "refused {}", self.number())?;
         match (self.place, self.reason) {
             (0, _) => {}
+            (place, Reason::Other(_)) => write!(f, " at {place}")?,
             (place, Reason::Output | Reason::Payslip) => write!(f, " at payslip {place}")?,
             (place, _) => write!(f, " at step {place}")?,
         }

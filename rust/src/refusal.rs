@@ -1,64 +1,84 @@
-use std::fmt;
+use crate::Reason;
+use std::{fmt, io};
 
-/// Input turned down, by number and place.
+/// Input turned down, by reason and place.
 ///
-/// The numbers are those of the specification (docs/SPEC.md, 10.1), 1 to 16. A place is a step (for 9, 10, 11 and 13) or a payslip (for 12 and 14), counted from 1, and 0 where
-/// there is none.
+/// A place is a step (for 9, 10, 11 and 13) or a payslip (for 12 and 14), counted from 1, and 0 where there is none. `Debug` says what `Display` says,
+/// so that a `main` that returns a refusal prints it in words.
 ///
 /// ```
-/// use spoutbasket::{Chain, Refusal};
+/// use spoutbasket::{Chain, Reason, Refusal};
 ///
 /// let chain = Chain { columns: 1, steps: vec![[1, 1], [4, 1]], outputs: vec![3] };
 /// let refusal = chain.to_file().unwrap_err();
-/// assert_eq!(refusal, Refusal { number: 10, place: 2 });
-/// assert_eq!(refusal.to_string(), "refused 10 at step 2: operand not below v");
+/// assert_eq!(refusal, Refusal { reason: Reason::OperandHigh, place: 2 });
+/// assert_eq!(refusal.number(), 10);
+/// assert_eq!(refusal.to_string(), "refused 10 at step 2: operand not below its own value");
 /// ```
-#[derive(Clone, Copy, Debug, PartialEq, Eq)]
+#[derive(Clone, Copy, PartialEq, Eq, Hash, PartialOrd, Ord)]
 pub struct Refusal {
-    /// The number of the reason.
-    pub number: u32,
+    /// Why.
+    pub reason: Reason,
     /// The first step or payslip that is refused, from 1; 0 where the reason has no place.
     pub place: usize,
 }
 
 impl Refusal {
-    /// When input is turned down under this number.
+    /// The reason's number.
+    #[must_use]
+    pub fn number(&self) -> u32 {
+        self.reason.number()
+    }
+
+    /// The library's words for the reason.
+    #[must_use]
     pub fn phrase(&self) -> &'static str {
-        match self.number {
-            1 => "p or q out of range",
-            2 => "amounts are not p times q",
-            3 => "method or parameter",
-            4 => "n over 16,000",
-            5 => "a lent slice too short",
-            6 => "file under 4 bytes, or not its stated length",
-            7 => "edition",
-            8 => "a filling bit set",
-            9 => "operand 0",
-            10 => "operand not below v",
-            11 => "first smaller than second",
-            12 => "output above p + n",
-            13 => "exponent too large",
-            14 => "an output's exponents are not its payslip; in the chooser also another p or q",
-            15 => "modulus 0",
-            16 => "bases not p, or one not below the modulus",
-            _ => "no such refusal",
+        self.reason.phrase()
+    }
+
+    /// What the place counts, `step` or `payslip`; nothing where the refusal has no place.
+    #[must_use]
+    pub fn place_name(&self) -> Option<&'static str> {
+        match self.reason {
+            _ if self.place == 0 => None,
+            Reason::OperandZero | Reason::OperandHigh | Reason::OperandOrder | Reason::Exponent => {
+                Some("step")
+            }
+            Reason::Output | Reason::Payslip => Some("payslip"),
+            _ => Some("place"),
         }
+    }
+}
+
+/// A refusal without a place.
+impl From<Reason> for Refusal {
+    fn from(reason: Reason) -> Refusal {
+        Refusal { reason, place: 0 }
     }
 }
 
 impl fmt::Display for Refusal {
     fn fmt(&self, f: &mut fmt::Formatter) -> fmt::Result {
-        write!(f, "refused {}", self.number)?;
-        match (self.place, self.number) {
-            (0, _) => {}
-            (place, 12 | 14) => write!(f, " at payslip {place}")?,
-            (place, _) => write!(f, " at step {place}")?,
+        write!(f, "refused {}", self.number())?;
+        if let Some(name) = self.place_name() {
+            write!(f, " at {name} {}", self.place)?;
         }
         write!(f, ": {}", self.phrase())
     }
 }
 
-impl std::error::Error for Refusal {}
+error_in_words!(Refusal);
+
+/// `InvalidInput` for a method and for room, which the caller gives; `InvalidData` for all that is read.
+impl From<Refusal> for io::Error {
+    fn from(refusal: Refusal) -> io::Error {
+        let kind = match refusal.reason {
+            Reason::Method | Reason::Room => io::ErrorKind::InvalidInput,
+            _ => io::ErrorKind::InvalidData,
+        };
+        io::Error::new(kind, refusal)
+    }
+}
 
 /// Makes a call of the library, which returns a refusal's number or 0 and writes four words, and tells the values that it answers.
 pub(crate) fn answer(call: impl FnOnce(&mut [u64; 4]) -> u32) -> Result<[usize; 4], Refusal> {
@@ -68,7 +88,7 @@ pub(crate) fn answer(call: impl FnOnce(&mut [u64; 4]) -> u32) -> Result<[usize; 
     match number {
         0 => Ok(words),
         _ => Err(Refusal {
-            number,
+            reason: Reason::from(number),
             place: words[0],
         }),
     }

@@ -1,6 +1,7 @@
 //! Tests of the proved library from Rust: its C interface, a plain reference of the specification, and random chains.
 pub mod compiler;
 pub mod ffi;
+pub mod header;
 pub mod random;
 pub mod reference;
 mod tool;

@@ -1,5 +1,6 @@
 //! The library beside plain Rust, on the same input and machine, in one run. A ratio is plain Rust's time over the library's:
 //! 1.0 or more means that the library is at least as fast. Nothing is asserted of times.
+mod code;
 mod methods;
 mod plain;
 mod sheet;
@@ -52,6 +53,7 @@ fn long_chain() -> Chain {
 }
 
 fn main() {
+    code::look();
     let c = long_chain();
     let all = spoutbasket_tests::reference::exponents(
         c.p,

@@ -20,9 +20,34 @@ fn fewest(amounts: &[u32], of: impl Fn(usize) -> bool) -> Job {
         .unwrap()
 }
 
+/// A product modulo m by the machine's division.
+fn by_division(x: u64, y: u64, m: u64, _inverse: u64) -> u64 {
+    x * y % m
+}
+
+/// A product of two numbers below 2^32 modulo m by the inverse of m, as the library has it.
+fn by_inverse(x: u64, y: u64, m: u64, inverse: u64) -> u64 {
+    let product = x * y;
+    let left = product - (u128::from(product) * u128::from(inverse) >> 64) as u64 * m;
+    let less = left.wrapping_sub(m);
+    if less >> 63 == 0 {
+        less
+    } else {
+        left
+    }
+}
+
 /// The figures the plain way, one modular power for each amount, and the multiplications made.
-fn powers(m: u32, bases: &[u32], amounts: &[u32], figures: &mut [u32]) -> usize {
+#[inline(always)]
+fn powers(
+    times: impl Fn(u64, u64, u64, u64) -> u64,
+    m: u32,
+    bases: &[u32],
+    amounts: &[u32],
+    figures: &mut [u32],
+) -> usize {
     let m = m as u64;
+    let inverse = u64::MAX / m;
     let mut made = 0;
     for (slip, figure) in amounts.chunks_exact(P).zip(figures) {
         let mut product = None;
@@ -32,10 +57,10 @@ fn powers(m: u32, bases: &[u32], amounts: &[u32], figures: &mut [u32]) -> usize 
             }
             let mut power = base as u64;
             for bit in (0..amount.ilog2()).rev() {
-                power = power * power % m;
+                power = times(power, power, m, inverse);
                 made += 1;
                 if amount >> bit & 1 == 1 {
-                    power = power * base as u64 % m;
+                    power = times(power, base as u64, m, inverse);
                     made += 1;
                 }
             }
@@ -43,7 +68,7 @@ fn powers(m: u32, bases: &[u32], amounts: &[u32], figures: &mut [u32]) -> usize 
                 None => Some(power),
                 Some(product) => {
                     made += 1;
-                    Some(product * power % m)
+                    Some(times(product, power, m, inverse))
                 }
             };
         }
@@ -125,31 +150,43 @@ pub fn measure() {
     // the compiler must not know the modulus, for which it would do without divisions
     let m = black_box(4_294_967_291);
     let bases: Vec<u32> = (0..P).map(|_| r.below(m as usize) as u32).collect();
-    let (mut ours, mut theirs) = (lent(), lent());
+    let (mut ours, mut theirs, mut inverted) = (lent(), lent(), lent());
 
     let best = fewest(&amounts, |_| true);
     let n = library_compile(&best, &mut ours);
     let (steps, outputs) = (ours.steps[..2 * n].to_vec(), ours.outputs[..Q].to_vec());
-    let plain_way = powers(m, &bases, &amounts, &mut theirs.figures);
+    let plain_way = powers(by_division, m, &bases, &amounts, &mut theirs.figures);
     println!(
         "a sheet of {P} by {Q}: method {} with {}, {n} multiplications; one power for each amount, {plain_way}",
         best.method, best.parameter
     );
-    report(
-        "run of that chain, plain Rust: powers",
-        medians(
-            501,
-            || {
-                let (values, figures) = (&mut ours.values, &mut ours.figures);
-                let run = ffi::run(P, &steps, &outputs, m, black_box(&bases), values, figures);
-                assert!(run.is_ok())
-            },
-            || {
-                powers(m, black_box(&bases), &amounts, &mut theirs.figures);
-            },
-        ),
-    );
+    let mut run = || {
+        let (values, figures) = (&mut ours.values, &mut ours.figures);
+        let run = ffi::run(P, &steps, &outputs, m, black_box(&bases), values, figures);
+        assert!(run.is_ok())
+    };
+    let by_powers = medians(501, &mut run, || {
+        powers(
+            by_division,
+            m,
+            black_box(&bases),
+            &amounts,
+            &mut theirs.figures,
+        );
+    });
+    report("run of that chain, plain Rust: powers", by_powers);
+    let by_inverted = medians(501, &mut run, || {
+        powers(
+            by_inverse,
+            m,
+            black_box(&bases),
+            &amounts,
+            &mut inverted.figures,
+        );
+    });
+    report("the same, powers by the inverse too", by_inverted);
     assert_eq!(ours.figures[..Q], theirs.figures[..Q]);
+    assert_eq!(ours.figures[..Q], inverted.figures[..Q]);
 
     for (method, name) in [(1, "Straus"), (2, "Yao"), (3, "partition")] {
         let job = fewest(&amounts, |m| m == method);

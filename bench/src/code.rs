@@ -1,0 +1,39 @@
+//! A look at the run as compiled: its speed rests on the compiler making one wide multiplication of the upper half of a product, and no division a step.
+use std::path::Path;
+use std::process::Command;
+
+/// The archive that the build linked.
+fn archive() -> String {
+    let folder = std::env::var("SPOUTBASKET_LIB_DIR").unwrap_or_else(|_| {
+        let here = Path::new(env!("CARGO_MANIFEST_DIR"));
+        here.join("../target/staticlib").display().to_string()
+    });
+    format!("{folder}/libspoutbasket.a")
+}
+
+/// Prints how many wide multiplications and divisions the function `run::run` has.
+pub fn look() {
+    let listed = Command::new("objdump")
+        .args(["--disassemble", "--no-show-raw-insn", &archive()])
+        .output();
+    let Ok(listed) = listed else {
+        return println!("the run as compiled: not looked at, objdump is missing");
+    };
+    let text = String::from_utf8_lossy(&listed.stdout);
+    let body = text
+        .split("\n\n")
+        .find(|part| part.lines().any(|line| line.ends_with("<run::run>:")));
+    let Some(body) = body else {
+        return println!("the run as compiled: not looked at, it has no function of its own");
+    };
+    // an instruction stands after its address
+    let count = |name: &str| {
+        let named = |line: &&str| line.split_whitespace().nth(1) == Some(name);
+        body.lines().filter(named).count()
+    };
+    println!(
+        "the run as compiled: wide multiplications {} (1 is wanted), divisions {} (1, for the inverse)",
+        count("mul"),
+        count("div")
+    );
+}

@@ -1,0 +1,181 @@
+//! Sheets, chains and keys out of what is read, each by the library; and in words why one is turned down.
+use crate::input::Source;
+use crate::messages::{size, Failure, Refused};
+use spoutbasket::{choose, list, slices, Chain, Keys, Method, Reason, Refusal, Sheet, TextFault};
+use spoutbasket::{LONGEST_FILE, MOST_COLUMNS, MOST_PAYSLIPS};
+
+/// The sheet of a table, or of the plain numbers p, q and the amounts.
+pub fn sheet(source: &Source, table: bool) -> Result<Sheet, Failure> {
+    let text = source.text()?;
+    let read = if table { by_table } else { by_numbers };
+    read(source, &text).map_err(Failure::Refused)
+}
+
+fn by_table(source: &Source, text: &[u8]) -> Result<Sheet, Refused> {
+    Sheet::from_table(text).map_err(|error| match error {
+        spoutbasket::SheetError::Text(fault) => Refused::in_text(source.name(), &fault),
+        spoutbasket::SheetError::Refusal(refusal) => Refused::new(source.name(), refusal, None),
+        _ => unreachable!("a sheet's error is one of the two"),
+    })
+}
+
+fn by_numbers(source: &Source, text: &[u8]) -> Result<Sheet, Refused> {
+    let judged = numbers(text)
+        .map_err(|fault| Refused::in_text(source.name(), &fault))
+        .and_then(|numbers| {
+            let size = |place: usize| numbers.get(place).map_or(0, |&size| size as usize);
+            let amounts = numbers.get(2..).unwrap_or_default();
+            let (p, q, found) = (size(0), size(1), amounts.len());
+            Sheet::new(p, q, amounts).map_err(|refusal| {
+                let detail = sizes(refusal, p, q, found);
+                Refused::new(source.name(), refusal, detail)
+            })
+        });
+    let like_a_table = |byte: &u8| matches!(byte, b',' | b';') || byte.is_ascii_alphabetic();
+    judged.map_err(|refused| match text.iter().any(like_a_table) {
+        true => refused.and("for a table, one payslip a line, give --table"),
+        false => refused,
+    })
+}
+
+/// The numbers of a text, with room for as many as it can have.
+fn numbers(text: &[u8]) -> Result<Vec<u32>, TextFault> {
+    let (mut numbers, mut words) = (vec![0; text.len().div_ceil(2)], [0; 4]);
+    let number = slices::numbers(text, &mut numbers, &mut words);
+    let [line, column, found, wanted] = words;
+    if number != 0 {
+        return Err(TextFault {
+            line,
+            column,
+            reason: number.into(),
+            found,
+            wanted,
+        });
+    }
+    numbers.truncate(words[0] as usize);
+    Ok(numbers)
+}
+
+/// What is wrong with a plain sheet's numbers.
+fn sizes(refusal: Refusal, p: usize, q: usize, found: usize) -> Option<String> {
+    match refusal.reason {
+        Reason::Sizes => size("p", p, MOST_COLUMNS).or(size("q", q, MOST_PAYSLIPS)),
+        Reason::Amounts => Some(format!("{found} found, {} wanted", p * q)),
+        _ => None,
+    }
+}
+
+/// A receiver's modulus and bases.
+pub fn keys(source: &Source) -> Result<Keys, Failure> {
+    let numbers = numbers(&source.text()?);
+    let numbers =
+        numbers.map_err(|fault| Failure::Refused(Refused::in_text(source.name(), &fault)))?;
+    // a text without numbers has modulus 0, which is refused
+    let (&modulus, bases) = numbers.split_first().unwrap_or((&0, &[]));
+    let bases = bases.to_vec();
+    Ok(Keys { modulus, bases })
+}
+
+/// A run refused: for its keys, or else for what they were run over.
+pub fn refused_run(
+    refusal: Refusal,
+    keys: (&Source, &Keys),
+    columns: usize,
+    other: impl FnOnce(Refusal) -> Refused,
+) -> Failure {
+    let (source, keys) = keys;
+    let detail = match refusal.reason {
+        Reason::Modulus => None,
+        Reason::Bases => misfit(keys, columns),
+        _ => return Failure::Refused(other(refusal)),
+    };
+    Failure::Refused(Refused::new(source.name(), refusal, detail))
+}
+
+/// Why bases do not go with as many columns or with their modulus.
+fn misfit(keys: &Keys, columns: usize) -> Option<String> {
+    let found = keys.bases.len();
+    if found != columns {
+        return Some(match found {
+            1 => format!("1 base, {columns} wanted"),
+            _ => format!("{found} bases, {columns} wanted"),
+        });
+    }
+    let at = keys.bases.iter().position(|&base| base >= keys.modulus)?;
+    let (place, base, modulus) = (at + 1, keys.bases[at], keys.modulus);
+    Some(format!("base {place} is {base}, the modulus {modulus}"))
+}
+
+/// The chain of a file.
+pub fn chain(source: &Source, bytes: &[u8]) -> Result<Chain, Failure> {
+    Chain::from_file(bytes).map_err(|refusal| refused_file(source, bytes, refusal))
+}
+
+/// A file that is no chain's, or whose chain is refused.
+pub fn refused_file(source: &Source, bytes: &[u8], refusal: Refusal) -> Failure {
+    let detail = match refusal.reason {
+        Reason::Length if bytes.len() > LONGEST_FILE => {
+            Some(format!("over {LONGEST_FILE} bytes, the longest file"))
+        }
+        Reason::Length => Some(format!("{} bytes", bytes.len())),
+        Reason::Edition => Some(format!("edition {} found, 1 wanted", bytes[0] >> 4)),
+        _ => None,
+    };
+    Failure::Refused(Refused::new(source.name(), refusal, detail))
+}
+
+/// The chain of a file that makes the sheet. It is judged by the chooser, which compares p and q too and never takes a file of no bytes.
+pub fn checked(sheet: &Sheet, source: &Source, bytes: &[u8]) -> Result<Chain, Failure> {
+    match choose(sheet, bytes, &[]) {
+        Ok(_) => chain(source, bytes),
+        Err(refusal) => Err(unlike(sheet, source, bytes, refusal)),
+    }
+}
+
+/// A file that does not make a sheet.
+pub fn unlike(sheet: &Sheet, source: &Source, bytes: &[u8], refusal: Refusal) -> Failure {
+    if refusal.reason != Reason::Payslip {
+        return refused_file(source, bytes, refusal);
+    }
+    let detail = match list(bytes) {
+        Ok(made) => difference(made.sheet(), sheet, refusal.place),
+        Err(_) => None,
+    };
+    Failure::Refused(Refused::new(source.name(), refusal, detail))
+}
+
+/// Where the sheet that a chain makes is another: its sizes, or a column of the payslip. No amount is told.
+fn difference(made: &Sheet, sheet: &Sheet, payslip: usize) -> Option<String> {
+    let shape = |what, made, wanted| {
+        let differs = made != wanted;
+        differs.then(|| format!("the chain has {made} {what}, the sheet {wanted}"))
+    };
+    shape("columns", made.columns(), sheet.columns())
+        .or_else(|| shape("payslips", made.payslips(), sheet.payslips()))
+        .or_else(|| {
+            let row = |sheet: &Sheet| sheet.rows().nth(payslip.checked_sub(1)?).map(<[u32]>::to_vec);
+            let (made, wanted) = (row(made)?, row(sheet)?);
+            let column = made.iter().zip(&wanted).position(|(a, b)| a != b)?;
+            Some(format!("column {} is another amount", column + 1))
+        })
+}
+
+/// A sheet that a method refuses, or that no method takes.
+pub fn refused_sheet(source: &Source, method: Option<Method>, refusal: Refusal) -> Refused {
+    let detail = match (refusal.reason, method) {
+        (Reason::Method, Some(method)) => Some(range(method).to_string()),
+        (Reason::Steps, Some(method)) => Some(format!("by {method}; --best may find a shorter chain")),
+        (Reason::Steps, None) => Some("by every method".to_string()),
+        _ => None,
+    };
+    Refused::new(source.name(), refusal, detail)
+}
+
+/// The parameters that a method takes.
+fn range(method: Method) -> &'static str {
+    match method {
+        Method::Straus(_) => "method straus takes k from 1 to 5 with p times k at most 10",
+        Method::Yao(_) => "method yao takes k from 1 to 8",
+        Method::Partition(_) => "method partition takes c from 1 to 8",
+    }
+}

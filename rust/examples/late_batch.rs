@@ -1,7 +1,7 @@
 //! The late batch's week on one sheet: the chain with the fewest steps, its file, the check of what is read back, and a receiver's control figures.
 //!
 //! The sheet is a text: a line `p q`, then for each payslip a line of p whole amounts.
-use spoutbasket::{Chain, Method, Refusal, Sheet, MOST_COLUMNS};
+use spoutbasket::{Chain, Method, Sheet, MOST_COLUMNS};
 use std::error::Error;
 use std::process::ExitCode;
 
@@ -25,15 +25,7 @@ fn main() -> ExitCode {
 
 /// The sheet in a file.
 fn sheet(name: &str) -> Result<Sheet, Box<dyn Error>> {
-    let text = std::fs::read_to_string(name)?;
-    let numbers: Result<Vec<u32>, String> = text
-        .split_whitespace()
-        .map(|word| word.parse().map_err(|why| format!("{word}: {why}")))
-        .collect();
-    match &numbers?[..] {
-        [p, q, amounts @ ..] => Ok(Sheet::new(*p as usize, *q as usize, amounts)?),
-        _ => Err("a sheet starts with its two sizes".into()),
-    }
+    Ok(Sheet::from_text(&std::fs::read(name)?)?)
 }
 
 fn batch(sheet: &Sheet) -> Result<(), Box<dyn Error>> {
@@ -41,22 +33,10 @@ fn batch(sheet: &Sheet) -> Result<(), Box<dyn Error>> {
     println!("Sheet: {p} pay elements, {q} payslips.");
 
     // compile by every method and parameter, and keep the chain with the fewest steps
-    let mut chains = vec![];
-    for method in [Method::Straus, Method::Yao, Method::Partition] {
-        for method in (1..=8).map(method) {
-            match sheet.compile(method) {
-                Ok(chain) => chains.push((chain, method)),
-                // not a parameter for as many pay elements, or a chain too long
-                Err(Refusal { number: 3 | 4, .. }) => {}
-                Err(refusal) => return Err(refusal.into()),
-            }
-        }
-    }
-    let tried = chains.len();
-    let (shortest, method) = chains
-        .into_iter()
-        .min_by_key(|(chain, _)| chain.n())
-        .ok_or("every chain is too long")?;
+    let tried = Method::all()
+        .filter(|&method| sheet.compile(method).is_ok())
+        .count();
+    let (method, shortest) = sheet.best()?;
     println!(
         "Compile: of {tried} chains the shortest is by {method}: {} steps.",
         shortest.n()
@@ -87,7 +67,7 @@ fn batch(sheet: &Sheet) -> Result<(), Box<dyn Error>> {
         println!("  control figure of payslip {}: {figure}", i + 1);
     }
 
-    for (i, payslip) in sheet.amounts().chunks_exact(p).enumerate() {
+    for (i, payslip) in sheet.rows().enumerate() {
         if run.figures[i] != plain_figure(bases, payslip) {
             return Err(format!("the power loop has another figure {}", i + 1).into());
         }
@@ -120,6 +100,5 @@ fn plain_multiplications(sheet: &Sheet) -> u32 {
         let powers: u32 = nonzero.iter().map(|a| a.ilog2() + a.count_ones() - 1).sum();
         powers + (nonzero.len() as u32).saturating_sub(1)
     };
-    let slips = sheet.amounts().chunks_exact(sheet.columns());
-    slips.map(payslip).sum()
+    sheet.rows().map(payslip).sum()
 }

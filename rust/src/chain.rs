@@ -1,5 +1,6 @@
 use crate::refusal::answer;
-use crate::{slices, Refusal, Sheet, LONGEST_FILE, MOST_PAYSLIPS, MOST_STEPS, MOST_VALUES};
+use crate::{slices, Reason, Refusal, Sheet};
+use crate::{HEADER_BITS, LONGEST_FILE, MOST_PAYSLIPS, MOST_STEPS, MOST_VALUES};
 
 /// A multiplication chain, whoever made it.
 ///
@@ -14,11 +15,11 @@ use crate::{slices, Refusal, Sheet, LONGEST_FILE, MOST_PAYSLIPS, MOST_STEPS, MOS
 /// let steps = vec![[1, 1], [2, 1], [3, 2], [4, 2], [5, 5], [6, 6], [7, 7], [8, 5]];
 /// let chain = Chain { columns: 1, steps, outputs: vec![9] };
 /// chain.check(&Sheet::new(1, 1, [63])?)?;
-/// assert_eq!(chain.check(&Sheet::new(1, 1, [64])?).unwrap_err().number, 14);
+/// assert_eq!(chain.check(&Sheet::new(1, 1, [64])?).unwrap_err().number(), 14);
 /// # Ok(())
 /// # }
 /// ```
-#[derive(Clone, Debug, PartialEq, Eq)]
+#[derive(Clone, Debug, PartialEq, Eq, Hash)]
 pub struct Chain {
     /// The number of columns, p.
     pub columns: usize,
@@ -29,7 +30,7 @@ pub struct Chain {
 }
 
 /// What a run gives.
-#[derive(Clone, Debug, PartialEq, Eq)]
+#[derive(Clone, Debug, PartialEq, Eq, Hash)]
 pub struct Run {
     /// The control figures, one for each payslip.
     pub figures: Vec<u32>,
@@ -39,11 +40,16 @@ pub struct Run {
 
 impl Chain {
     /// The number of steps.
+    #[must_use]
     pub fn n(&self) -> usize {
         self.steps.len()
     }
 
-    /// The chain's file; refused where the chain is not legal.
+    /// The chain's file.
+    ///
+    /// # Errors
+    ///
+    /// 1, 4 and 9 to 12 where the chain is not legal.
     ///
     /// ```
     /// use spoutbasket::Chain;
@@ -61,7 +67,11 @@ impl Chain {
         Ok(bytes)
     }
 
-    /// The chain of a file; refused where the bytes are no chain's file.
+    /// The chain of a file.
+    ///
+    /// # Errors
+    ///
+    /// 6, 7, 4, 8 and 9 to 12 where the bytes are no chain's file.
     ///
     /// ```
     /// use spoutbasket::Chain;
@@ -71,7 +81,7 @@ impl Chain {
     /// assert_eq!(chain.steps, [[2, 1], [3, 3], [4, 1]]);
     /// // a filling bit is set
     /// let refusal = Chain::from_file(&[0x11, 0x00, 0x00, 0x34, 0x5b, 0x86, 0x81]).unwrap_err();
-    /// assert_eq!(refusal.number, 8);
+    /// assert_eq!(refusal.number(), 8);
     /// # Ok(())
     /// # }
     /// ```
@@ -84,7 +94,12 @@ impl Chain {
         Ok(lent.chain(columns, payslips, n))
     }
 
-    /// Checks that the chain is legal and makes the sheet, with no exponent above the largest amount on the way. A sheet with other columns or payslips that has as many amounts is refused 14, place 0, as the chooser does.
+    /// Checks that the chain is legal and makes the sheet, with no exponent above the largest amount on the way.
+    ///
+    /// # Errors
+    ///
+    /// 1, 4 and 9 to 12 where the chain is not legal, 2 for a sheet with more or fewer amounts, 13 for an exponent too large, 14 for a payslip that is not
+    /// made. A sheet of another shape with as many amounts is refused 14, place 0, as the chooser does.
     ///
     /// ```
     /// use spoutbasket::{Method, Sheet};
@@ -112,15 +127,16 @@ impl Chain {
         })?;
         // the library's check is given the amounts and not the sheet's sizes
         if self.columns != sheet.columns() {
-            return Err(Refusal {
-                number: 14,
-                place: 0,
-            });
+            return Err(Reason::Payslip.into());
         }
         Ok(())
     }
 
     /// The control figures over a receiver's modulus, at least 1, and bases, one below the modulus for each column.
+    ///
+    /// # Errors
+    ///
+    /// 1, 4 and 9 to 12 where the chain is not legal, 15 for modulus 0, 16 for bases that are not one for each column, or not below the modulus.
     ///
     /// ```
     /// use spoutbasket::Chain;
@@ -130,7 +146,7 @@ impl Chain {
     /// let run = chain.run(1_000, &[3, 5])?;
     /// assert_eq!(run.figures, [675, 1]);
     /// assert_eq!(run.multiplications, 3);
-    /// assert_eq!(chain.run(5, &[3, 5]).unwrap_err().number, 16);
+    /// assert_eq!(chain.run(5, &[3, 5]).unwrap_err().number(), 16);
     /// # Ok(())
     /// # }
     /// ```
@@ -160,12 +176,21 @@ impl Chain {
         self.columns.saturating_add(self.n() + 1).min(MOST_VALUES)
     }
 
-    /// The bytes of the file: 28 bits, then each operand and output in as many bits as the last value's number has. A chain with a longer file is
+    /// The bytes of the file: the header, then each operand and output in as many bits as the last value's number has. A chain with a longer file is
     /// refused before its bytes are looked for.
     fn file_length(&self) -> usize {
         let width = (usize::BITS - (self.values() - 1).leading_zeros()) as usize;
-        let bits = 28 + width * (2 * self.n() + self.outputs.len());
+        let bits = HEADER_BITS + width * (2 * self.n() + self.outputs.len());
         bits.div_ceil(8).min(LONGEST_FILE)
+    }
+}
+
+/// As [`Chain::from_file`].
+impl TryFrom<&[u8]> for Chain {
+    type Error = Refusal;
+
+    fn try_from(bytes: &[u8]) -> Result<Chain, Refusal> {
+        Chain::from_file(bytes)
     }
 }
 

@@ -2,7 +2,11 @@ use crate::refusal::answer;
 use crate::{slices, Refusal, Sheet, MOST_PAYSLIPS, MOST_STEPS_EDITION_1, MOST_VALUES_EDITION_1};
 
 /// The better of two files for a sheet: the one with fewer steps, or the first, if both make the sheet, else the one that does. It is one of the two
-/// slices itself. If neither makes it, the first file's refusal.
+/// slices itself.
+///
+/// # Errors
+///
+/// The first file's refusal, if neither makes the sheet.
 ///
 /// ```
 /// use spoutbasket::{choose, Method, Sheet};

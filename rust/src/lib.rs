@@ -1,7 +1,7 @@
 //! Payslip sheets compiled into multiplication chains, their files, their check and their control figures: a safe wrapper over the proved library.
 //!
 //! A [`Sheet`] becomes a [`Chain`] by a [`Method`]; a chain has one file, is checked against a sheet and is run over a receiver's bases and modulus.
-//! What a call turns down it tells as a [`Refusal`], by number and place.
+//! What a call turns down it tells as a [`Refusal`], by reason and place; a text that cannot be read, as a [`TextFault`].
 //!
 //! ```
 //! use spoutbasket::{Chain, Method, Sheet};
@@ -27,8 +27,11 @@
 
 mod chain;
 mod choose;
+mod fault;
+mod keys;
 mod listing;
 mod method;
+mod phrase;
 mod refusal;
 mod sheet;
 #[allow(unsafe_code)]
@@ -36,11 +39,15 @@ pub mod slices;
 
 pub use chain::{Chain, Run};
 pub use choose::choose;
-pub use listing::list;
+pub use fault::{SheetError, TextFault, TextReason};
+pub use keys::Keys;
+pub use listing::{list, list_text, Listing};
 pub use method::Method;
-pub use refusal::Refusal;
+pub use refusal::{Reason, Refusal};
 pub use sheet::Sheet;
 
+/// The version of this package and of the header.
+pub const VERSION: &str = env!("CARGO_PKG_VERSION");
 /// The most columns (pay elements) of a sheet.
 pub const MOST_COLUMNS: usize = 16;
 /// The most payslips of a sheet.
@@ -66,3 +73,5 @@ const LONGEST_SIZES: usize = "16 64 16000\n".len();
 const LONGEST_LINE: usize = "64\n".len() + LONGEST_FIELD * MOST_COLUMNS;
 /// Bytes enough for every listing.
 pub const LONGEST_LISTING: usize = LONGEST_SIZES + LONGEST_LINE * MOST_PAYSLIPS;
+/// Bytes enough for the words of every refusal.
+pub const LONGEST_PHRASE: usize = 64;

@@ -1,6 +1,11 @@
 use crate::chain::Lent;
 use crate::refusal::answer;
-use crate::{slices, Chain, Method, Refusal, Run, LONGEST_FILE, MOST_VALUES};
+use crate::{fault, slices, Chain, Method, Reason, Refusal, Run, SheetError};
+use crate::{LONGEST_FILE, MOST_COLUMNS, MOST_PAYSLIPS, MOST_VALUES};
+use std::slice::ChunksExact;
+
+/// The most amounts of a sheet.
+const MOST_AMOUNTS: usize = MOST_COLUMNS * MOST_PAYSLIPS;
 
 /// The amounts of some payslips, given payslip by payslip.
 ///
@@ -11,12 +16,13 @@ use crate::{slices, Chain, Method, Refusal, Run, LONGEST_FILE, MOST_VALUES};
 /// // two pay elements, three payslips
 /// let sheet = Sheet::new(2, 3, [168_233, 18_750, 0, 0, 212_500, 24_000])?;
 /// assert_eq!((sheet.columns(), sheet.payslips()), (2, 3));
+/// assert_eq!(sheet, Sheet::from_rows([[168_233, 18_750], [0, 0], [212_500, 24_000]])?);
 /// // an amount is missing
-/// assert_eq!(Sheet::new(2, 1, [168_233]).unwrap_err().number, 2);
+/// assert_eq!(Sheet::new(2, 1, [168_233]).unwrap_err().number(), 2);
 /// # Ok(())
 /// # }
 /// ```
-#[derive(Clone, Debug, PartialEq, Eq)]
+#[derive(Clone, Debug, PartialEq, Eq, Hash)]
 pub struct Sheet {
     columns: usize,
     payslips: usize,
@@ -24,7 +30,11 @@ pub struct Sheet {
 }
 
 impl Sheet {
-    /// A sheet of 1 to 16 columns (pay elements) and 1 to 64 payslips; refused 1 or 2 where the numbers do not fit.
+    /// A sheet of 1 to 16 columns (pay elements) and 1 to 64 payslips.
+    ///
+    /// # Errors
+    ///
+    /// 1 for sizes out of range, 2 for amounts that are not columns times payslips.
     pub fn new(
         columns: usize,
         payslips: usize,
@@ -39,7 +49,7 @@ impl Sheet {
             )
         });
         match judged {
-            Err(refusal) if refusal.number != 5 => Err(refusal),
+            Err(refusal) if refusal.reason != Reason::Room => Err(refusal),
             _ => Ok(Sheet {
                 columns,
                 payslips,
@@ -48,22 +58,106 @@ impl Sheet {
         }
     }
 
+    /// A sheet of payslips, each a row of as many amounts.
+    ///
+    /// # Errors
+    ///
+    /// 1 for no rows or more than 64, or a first row of no amounts or more than 16; 2 where the rows have not all the same length.
+    ///
+    /// ```
+    /// use spoutbasket::{Reason, Sheet};
+    ///
+    /// let sheet = Sheet::from_rows([[3, 0, 2], [1, 2, 0]]).unwrap();
+    /// assert_eq!((sheet.columns(), sheet.payslips()), (3, 2));
+    /// let uneven: [&[u32]; 3] = [&[1, 2], &[3], &[4, 5, 6]];
+    /// assert_eq!(Sheet::from_rows(uneven).unwrap_err().reason, Reason::Amounts);
+    /// ```
+    pub fn from_rows<R: AsRef<[u32]>>(rows: impl IntoIterator<Item = R>) -> Result<Sheet, Refusal> {
+        let (mut amounts, mut lengths) = (vec![], vec![]);
+        for row in rows {
+            amounts.extend_from_slice(row.as_ref());
+            lengths.push(row.as_ref().len());
+        }
+        let columns = lengths.first().copied().unwrap_or(0);
+        let sheet = Sheet::new(columns, lengths.len(), amounts)?;
+        // rows of other lengths may add up to the right number
+        if lengths.iter().any(|&length| length != columns) {
+            return Err(Reason::Amounts.into());
+        }
+        Ok(sheet)
+    }
+
+    /// The sheet of a plain text: numbers parted by blanks, tabs and ends of lines, of which the first two are the columns and the payslips, and the
+    /// others the amounts, payslip by payslip.
+    ///
+    /// # Errors
+    ///
+    /// The place and kind of a fault in the text; 1 or 2 where the numbers do not fit. A size that is missing counts as 0.
+    ///
+    /// ```
+    /// use spoutbasket::Sheet;
+    ///
+    /// let sheet = Sheet::from_text(b"2 1\n3 2\n").unwrap();
+    /// assert_eq!(sheet, Sheet::new(2, 1, [3, 2]).unwrap());
+    /// let error = Sheet::from_text(b"2 1\n3 -2\n").unwrap_err();
+    /// assert_eq!(error.to_string(), "line 2, column 3: sign '-'");
+    /// ```
+    pub fn from_text(text: &[u8]) -> Result<Sheet, SheetError> {
+        let ([count, ..], numbers) = fault::read(text, 2 + MOST_AMOUNTS, slices::numbers)?;
+        let (sizes, amounts) = numbers[..count].split_at(count.min(2));
+        let size = |i: usize| sizes.get(i).map_or(0, |&size| size as usize);
+        Ok(Sheet::new(size(0), size(1), amounts)?)
+    }
+
+    /// The sheet of a table, one payslip a line, its amounts parted by tabs, semicolons, commas or blanks: what the first line has, in that order. A
+    /// first line without a digit is a line of names.
+    ///
+    /// # Errors
+    ///
+    /// The place and kind of a fault in the text.
+    ///
+    /// ```
+    /// use spoutbasket::Sheet;
+    ///
+    /// let sheet = Sheet::from_table(b"basic;overtime\r\n168233;18750\r\n0;0\r\n").unwrap();
+    /// assert_eq!(sheet, Sheet::new(2, 2, [168_233, 18_750, 0, 0]).unwrap());
+    /// let error = Sheet::from_table(b"3 0 2\n1 2\n").unwrap_err();
+    /// assert_eq!(error.to_string(), "line 2, column 4: 2 amounts, 3 wanted");
+    /// ```
+    pub fn from_table(text: &[u8]) -> Result<Sheet, SheetError> {
+        let ([p, q, ..], mut amounts) = fault::read(text, MOST_AMOUNTS, slices::table)?;
+        amounts.truncate(p * q);
+        Ok(Sheet::new(p, q, amounts)?)
+    }
+
     /// The number of columns, p.
+    #[must_use]
     pub fn columns(&self) -> usize {
         self.columns
     }
 
     /// The number of payslips, q.
+    #[must_use]
     pub fn payslips(&self) -> usize {
         self.payslips
     }
 
     /// The amounts, p for each payslip.
+    #[must_use]
     pub fn amounts(&self) -> &[u32] {
         &self.amounts
     }
 
-    /// The chain that a method makes of the sheet; refused 3 for a parameter out of range, 4 for a chain that is too long.
+    /// The amounts of each payslip in turn.
+    pub fn rows(&self) -> ChunksExact<'_, u32> {
+        self.amounts.chunks_exact(self.columns)
+    }
+
+    /// The chain that a method makes of the sheet.
+    ///
+    /// # Errors
+    ///
+    /// 3 for a parameter out of range, 4 for a chain that is too long.
     ///
     /// ```
     /// use spoutbasket::{Method, Sheet};
@@ -93,7 +187,48 @@ impl Sheet {
         Ok(lent.chain(self.columns, self.payslips, n))
     }
 
+    /// The chain with the fewest steps over every method and parameter, and the method that makes it: of several the first, in the order of
+    /// [`Method::all`].
+    ///
+    /// # Errors
+    ///
+    /// 4 where every chain is too long.
+    ///
+    /// ```
+    /// use spoutbasket::{Method, Sheet};
+    ///
+    /// # fn main() -> Result<(), spoutbasket::Refusal> {
+    /// let sheet = Sheet::from_rows([[3, 0, 2], [1, 2, 0], [0, 0, 2], [3, 2, 1]])?;
+    /// let (method, chain) = sheet.best()?;
+    /// assert_eq!((method, chain.n()), (Method::Yao(1), 9));
+    /// # Ok(())
+    /// # }
+    /// ```
+    pub fn best(&self) -> Result<(Method, Chain), Refusal> {
+        let mut best: Option<(Method, Chain)> = None;
+        for method in Method::all() {
+            match self.compile(method) {
+                Ok(chain) => {
+                    if best
+                        .as_ref()
+                        .map_or(true, |(_, shortest)| chain.n() < shortest.n())
+                    {
+                        best = Some((method, chain));
+                    }
+                }
+                // not a parameter for as many columns, or a chain that is too long
+                Err(refusal) if matches!(refusal.reason, Reason::Method | Reason::Steps) => {}
+                Err(refusal) => return Err(refusal),
+            }
+        }
+        best.ok_or(Reason::Steps.into())
+    }
+
     /// The whole path in one call: compile, write, read, check what was read, and run it over a receiver's modulus and bases.
+    ///
+    /// # Errors
+    ///
+    /// Those of [`compile`](Sheet::compile), and 15 and 16 for a modulus and bases that are not fit.
     ///
     /// ```
     /// use spoutbasket::{Method, Sheet};

@@ -1,9 +1,11 @@
 //! The small example of each refusal, through the wrapper's types.
-use spoutbasket::{choose, slices, Chain, Method, Refusal, Sheet};
+use spoutbasket::{choose, slices, Chain, Method, Reason, Refusal, Sheet};
 use spoutbasket::{MOST_COLUMNS, MOST_PAYSLIPS, MOST_STEPS};
 
 fn refused<T: std::fmt::Debug>(number: u32, place: usize, call: Result<T, Refusal>) {
-    assert_eq!(call.unwrap_err(), Refusal { number, place });
+    let refusal = call.unwrap_err();
+    assert_eq!((refusal.number(), refusal.place), (number, place));
+    assert_eq!(refusal.reason, Reason::from(number));
 }
 
 fn chain(columns: usize, steps: &[[u32; 2]], outputs: &[u32]) -> Chain {
@@ -137,16 +139,79 @@ fn moduli_and_bases() {
     refused(16, 0, case_a(5).run(7, &[3, 5, 2]));
 }
 
+/// Every reason stands at its number, and no number is lost.
+#[test]
+fn numbers() {
+    use Reason::*;
+    let reasons = [
+        Sizes,
+        Amounts,
+        Method,
+        Steps,
+        Room,
+        Length,
+        Edition,
+        Filling,
+        OperandZero,
+        OperandHigh,
+        OperandOrder,
+        Output,
+        Exponent,
+        Payslip,
+        Modulus,
+        Bases,
+    ];
+    for (number, reason) in (1..).zip(reasons) {
+        assert_eq!((Reason::from(number), reason.number()), (reason, number));
+    }
+    assert!(reasons.is_sorted());
+    for number in [0, 17, 101, u32::MAX] {
+        assert_eq!(Reason::from(number), Other(number));
+        assert_eq!(Reason::from(number).number(), number);
+    }
+}
+
 #[test]
 fn in_words() {
-    let words = |number, place| Refusal { number, place }.to_string();
+    let words = |number: u32, place| {
+        let reason = Reason::from(number);
+        let refusal = Refusal { reason, place };
+        // what a `main` prints that returns it
+        assert_eq!(format!("{refusal:?}"), refusal.to_string());
+        refusal.to_string()
+    };
     assert_eq!(words(1, 0), "refused 1: p or q out of range");
+    assert_eq!(words(4, 0), "refused 4: more than 16,000 steps");
     assert_eq!(words(9, 3), "refused 9 at step 3: operand 0");
-    assert_eq!(words(12, 2), "refused 12 at payslip 2: output above p + n");
+    assert_eq!(
+        words(10, 2),
+        "refused 10 at step 2: operand not below its own value"
+    );
+    assert_eq!(
+        words(12, 2),
+        "refused 12 at payslip 2: output above the last value"
+    );
     assert_eq!(words(13, 32), "refused 13 at step 32: exponent too large");
-    let error: Box<dyn std::error::Error> = Box::new(Refusal {
-        number: 15,
-        place: 0,
-    });
+    assert_eq!(
+        words(14, 1),
+        "refused 14 at payslip 1: an output's exponents are not its payslip"
+    );
+    assert_eq!(words(17, 0), "refused 17: no such refusal");
+    assert_eq!(words(u32::MAX, 0), "refused 4294967295: no such refusal");
+    let error: Box<dyn std::error::Error> = Box::new(Refusal::from(Reason::Modulus));
     assert_eq!(error.to_string(), "refused 15: modulus 0");
+}
+
+#[test]
+fn as_errors_of_input_and_output() {
+    use std::io::{Error, ErrorKind};
+    for (reason, kind) in [
+        (Reason::Length, ErrorKind::InvalidData),
+        (Reason::Method, ErrorKind::InvalidInput),
+        (Reason::Room, ErrorKind::InvalidInput),
+    ] {
+        let error = Error::from(Refusal::from(reason));
+        assert_eq!(error.kind(), kind);
+        assert_eq!(error.to_string(), Refusal::from(reason).to_string());
+    }
 }

@@ -4,13 +4,6 @@ use spoutbasket::{MOST_COLUMNS, MOST_PAYSLIPS, MOST_STEPS, MOST_VALUES};
 
 const FILE_A: [u8; 7] = [0x11, 0x00, 0x00, 0x34, 0x5b, 0x86, 0x80];
 
-/// Every method with every parameter; a sheet's compile refuses those that are not for it.
-fn methods() -> impl Iterator<Item = Method> {
-    [Method::Straus, Method::Yao, Method::Partition]
-        .into_iter()
-        .flat_map(|method| (1..=8).map(method))
-}
-
 /// The figures by compile, write, read, check and run, each on what the one before it gave.
 fn figures(
     sheet: &Sheet,
@@ -54,13 +47,13 @@ fn trial_a() -> Result<(), Refusal> {
 fn trial_j() -> Result<(), Refusal> {
     let sheet = Sheet::new(3, 4, [3, 0, 2, 1, 2, 0, 0, 0, 2, 3, 2, 1])?;
     let mut accepted = 0;
-    for method in methods() {
+    for method in Method::all() {
         match figures(&sheet, method, 10_000, &[3, 5, 7]) {
             Ok(figures) => {
                 assert_eq!(figures, [1323, 75, 49, 4725], "{method}");
                 accepted += 1;
             }
-            Err(refusal) => assert_eq!(refusal.number, 3, "{method}"),
+            Err(refusal) => assert_eq!(refusal.number(), 3, "{method}"),
         }
     }
     // Straus with k up to 3 for three columns, Yao and partition with every parameter
@@ -98,7 +91,7 @@ fn largest() -> Result<(), Refusal> {
         chain.run(2, &[1; MOST_COLUMNS])?.figures,
         [1; MOST_PAYSLIPS]
     );
-    assert_eq!(chain.check(&sheet).unwrap_err().number, 14);
+    assert_eq!(chain.check(&sheet).unwrap_err().number(), 14);
     Ok(())
 }
 

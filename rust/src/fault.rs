@@ -1,0 +1,271 @@
+use crate::phrase::phrase;
+use crate::{Refusal, MOST_COLUMNS, MOST_PAYSLIPS};
+use std::{error, fmt, io};
+
+/// Why a text is turned down.
+///
+/// ```
+/// use spoutbasket::TextReason;
+///
+/// assert_eq!(TextReason::from(106), TextReason::Sign);
+/// assert_eq!(TextReason::Sign.number(), 106);
+/// assert_eq!(TextReason::CutOff.to_string(), "cut off: the last line has no newline");
+/// ```
+#[derive(Clone, Copy, Debug, PartialEq, Eq, Hash, PartialOrd, Ord)]
+#[non_exhaustive]
+pub enum TextReason {
+    /// 1: a table has no columns or more than 16, or no payslips or more than 64.
+    Sizes,
+    /// 5: there are more numbers than there is room for.
+    Room,
+    /// 101: a byte that is neither a digit nor a separator.
+    Byte,
+    /// 102: a number above 4,294,967,295.
+    Large,
+    /// 103: the last line has no newline, so the text may have been cut off.
+    CutOff,
+    /// 104: a line of a table has more or fewer amounts than the first.
+    Fields,
+    /// 105: a decimal point or a grouping mark.
+    Mark,
+    /// 106: a sign.
+    Sign,
+    /// 107: no amount between two separators of a table.
+    Empty,
+    /// Any other number.
+    Other(u32),
+}
+
+/// The reasons and their numbers.
+const REASONS: [(u32, TextReason); 9] = [
+    (1, TextReason::Sizes),
+    (5, TextReason::Room),
+    (101, TextReason::Byte),
+    (102, TextReason::Large),
+    (103, TextReason::CutOff),
+    (104, TextReason::Fields),
+    (105, TextReason::Mark),
+    (106, TextReason::Sign),
+    (107, TextReason::Empty),
+];
+
+impl TextReason {
+    /// The reason's number.
+    #[must_use]
+    pub fn number(self) -> u32 {
+        match self {
+            TextReason::Other(number) => number,
+            _ => REASONS
+                .iter()
+                .find(|(_, r)| *r == self)
+                .map_or(0, |&(number, _)| number),
+        }
+    }
+
+    /// The library's words for the reason.
+    #[must_use]
+    pub fn phrase(self) -> &'static str {
+        phrase(self.number())
+    }
+}
+
+/// The reason of a number; no number is lost.
+impl From<u32> for TextReason {
+    fn from(number: u32) -> TextReason {
+        let known = REASONS.iter().find(|(n, _)| *n == number);
+        known.map_or(TextReason::Other(number), |&(_, reason)| reason)
+    }
+}
+
+/// The library's words.
+impl fmt::Display for TextReason {
+    fn fmt(&self, f: &mut fmt::Formatter) -> fmt::Result {
+        f.pad(self.phrase())
+    }
+}
+
+/// A text turned down: where, why, and what was found there.
+///
+/// `Debug` says what `Display` says, so that a `main` that returns a fault prints it in words.
+///
+/// ```
+/// use spoutbasket::{Sheet, SheetError, TextFault, TextReason};
+///
+/// let Err(SheetError::Text(fault)) = Sheet::from_table(b"168233;187.50\n") else { panic!() };
+/// assert_eq!((fault.reason, fault.line, fault.column), (TextReason::Mark, 1, 11));
+/// assert_eq!(fault.to_string(), "line 1, column 11: decimal point or grouping mark '.'");
+/// ```
+#[derive(Clone, Copy, PartialEq, Eq, Hash, PartialOrd, Ord)]
+pub struct TextFault {
+    /// The line, from 1.
+    pub line: u64,
+    /// The column, in bytes, from 1.
+    pub column: u64,
+    /// Why.
+    pub reason: TextReason,
+    /// What was found: a byte, or how many there are.
+    pub found: u64,
+    /// How many were wanted, where that is the question.
+    pub wanted: u64,
+}
+
+impl TextFault {
+    /// The reason's number.
+    #[must_use]
+    pub fn number(&self) -> u32 {
+        self.reason.number()
+    }
+
+    /// The library's words for the reason.
+    #[must_use]
+    pub fn phrase(&self) -> &'static str {
+        self.reason.phrase()
+    }
+}
+
+impl fmt::Display for TextFault {
+    fn fmt(&self, f: &mut fmt::Formatter) -> fmt::Result {
+        write!(f, "line {}, column {}: ", self.line, self.column)?;
+        let (phrase, found, wanted) = (self.phrase(), self.found, self.wanted);
+        match (self.reason, found, wanted) {
+            (TextReason::Sizes, 0, 1) => write!(f, "q is 0, at least 1"),
+            (TextReason::Sizes, 0, _) => write!(f, "p is 0, at least 1"),
+            (TextReason::Sizes, _, _) if wanted == MOST_COLUMNS as u64 => {
+                write!(f, "p is {found}, at most {wanted}")
+            }
+            (TextReason::Sizes, _, _) if wanted == MOST_PAYSLIPS as u64 => {
+                write!(f, "q is {found}, at most {wanted}")
+            }
+            (TextReason::Room, _, _) => write!(f, "more than {found} numbers"),
+            (TextReason::Fields, 1, _) => write!(f, "1 amount, {wanted} wanted"),
+            (TextReason::Fields, _, _) => write!(f, "{found} amounts, {wanted} wanted"),
+            // a blank has no byte of its own to show: the digit after it is found
+            (TextReason::Mark, 0x30..=0x39, _) => {
+                write!(f, "{phrase}: a blank before {}", Byte(found))
+            }
+            (TextReason::Byte | TextReason::Mark | TextReason::Sign, _, _) => {
+                write!(f, "{phrase} {}", Byte(found))
+            }
+            _ => f.write_str(phrase),
+        }
+    }
+}
+
+/// As `Display`.
+impl fmt::Debug for TextFault {
+    fn fmt(&self, f: &mut fmt::Formatter) -> fmt::Result {
+        fmt::Display::fmt(self, f)
+    }
+}
+
+/// A byte in quotes, or by its number where it has no shape of its own.
+struct Byte(u64);
+
+impl fmt::Display for Byte {
+    fn fmt(&self, f: &mut fmt::Formatter) -> fmt::Result {
+        match u8::try_from(self.0) {
+            Ok(byte @ 0x20..=0x7e) => write!(f, "'{}'", char::from(byte)),
+            _ => write!(f, "(byte {:#04x})", self.0),
+        }
+    }
+}
+
+impl error::Error for TextFault {}
+
+impl From<TextFault> for io::Error {
+    fn from(fault: TextFault) -> io::Error {
+        io::Error::new(io::ErrorKind::InvalidData, fault)
+    }
+}
+
+/// Why a text makes no sheet: it cannot be read, or what it says is refused.
+///
+/// `Debug` says what `Display` says.
+///
+/// ```
+/// use spoutbasket::{Reason, Sheet, SheetError};
+///
+/// // an amount too many
+/// let Err(SheetError::Refusal(refusal)) = Sheet::from_text(b"2 1\n3 2 5\n") else { panic!() };
+/// assert_eq!(refusal.reason, Reason::Amounts);
+/// ```
+#[derive(Clone, Copy, PartialEq, Eq, Hash, PartialOrd, Ord)]
+#[non_exhaustive]
+pub enum SheetError {
+    /// The text cannot be read.
+    Text(TextFault),
+    /// The numbers in it are refused.
+    Refusal(Refusal),
+}
+
+impl SheetError {
+    /// The number of the fault or the refusal.
+    #[must_use]
+    pub fn number(&self) -> u32 {
+        match self {
+            SheetError::Text(fault) => fault.number(),
+            SheetError::Refusal(refusal) => refusal.number(),
+        }
+    }
+}
+
+impl fmt::Display for SheetError {
+    fn fmt(&self, f: &mut fmt::Formatter) -> fmt::Result {
+        match self {
+            SheetError::Text(fault) => fmt::Display::fmt(fault, f),
+            SheetError::Refusal(refusal) => fmt::Display::fmt(refusal, f),
+        }
+    }
+}
+
+/// As `Display`.
+impl fmt::Debug for SheetError {
+    fn fmt(&self, f: &mut fmt::Formatter) -> fmt::Result {
+        fmt::Display::fmt(self, f)
+    }
+}
+
+impl error::Error for SheetError {}
+
+impl From<TextFault> for SheetError {
+    fn from(fault: TextFault) -> SheetError {
+        SheetError::Text(fault)
+    }
+}
+
+impl From<Refusal> for SheetError {
+    fn from(refusal: Refusal) -> SheetError {
+        SheetError::Refusal(refusal)
+    }
+}
+
+impl From<SheetError> for io::Error {
+    fn from(error: SheetError) -> io::Error {
+        match error {
+            SheetError::Text(fault) => fault.into(),
+            SheetError::Refusal(refusal) => refusal.into(),
+        }
+    }
+}
+
+/// Reads a text into as many numbers as there is room for, by a call of the library that returns a fault's number or 0 and writes four words. The
+/// values that it answers, and the numbers.
+pub(crate) fn read(
+    text: &[u8],
+    room: usize,
+    call: impl FnOnce(&[u8], &mut [u32], &mut [u64; 4]) -> u32,
+) -> Result<([usize; 4], Vec<u32>), TextFault> {
+    let (mut numbers, mut words) = (vec![0; room], [0; 4]);
+    let number = call(text, &mut numbers, &mut words);
+    let [line, column, found, wanted] = words;
+    match number {
+        0 => Ok((words.map(|word| word as usize), numbers)),
+        _ => Err(TextFault {
+            line,
+            column,
+            reason: TextReason::from(number),
+            found,
+            wanted,
+        }),
+    }
+}

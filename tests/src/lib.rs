@@ -3,6 +3,7 @@ pub mod compiler;
 pub mod ffi;
 pub mod random;
 pub mod reference;
+pub mod texts;
 mod tool;
 
 pub use tool::tool;

@@ -106,10 +106,10 @@ pub fn table(text: &[u8], cells: &mut [u32]) -> Outcome {
     })
 }
 
-/// What both texts share: the text must not be cut off, a byte order mark is left out, and a fault is told by line and column.
+/// What both texts share: a byte order mark is left out, what stands behind it must not be cut off, and a fault is told by line and column.
 fn outcome(text: &[u8], read: impl FnOnce(&[u8]) -> Result<[u64; 4], Fault>) -> Outcome {
     let behind = text.strip_prefix(&MARK).unwrap_or(text);
-    let whole = text.is_empty() || text.ends_with(b"\n");
+    let whole = behind.is_empty() || behind.ends_with(b"\n");
     let answer = if whole {
         read(behind)
     } else {
@@ -120,7 +120,12 @@ fn outcome(text: &[u8], read: impl FnOnce(&[u8]) -> Result<[u64; 4], Fault>) -> 
         Err((number, at, found, wanted)) => {
             let before = &behind[..at];
             let line = before.iter().filter(|&&byte| byte == b'\n').count() + 1;
-            let column = before.iter().rev().take_while(|&&byte| byte != b'\n').count() + 1;
+            let column = before
+                .iter()
+                .rev()
+                .take_while(|&&byte| byte != b'\n')
+                .count()
+                + 1;
             (number, [line as u64, column as u64, found, wanted])
         }
     }

@@ -76,7 +76,11 @@ impl Form {
         joined: Option<&OsStr>,
         next: impl FnOnce() -> Option<OsString>,
     ) -> Result<(), Failure> {
-        let name = if name == "-v" { "--verbose".as_ref() } else { name };
+        let name = if name == "-v" {
+            "--verbose".as_ref()
+        } else {
+            name
+        };
         let known = |options: &'static [&str]| options.iter().copied().find(|known| name == *known);
         if let Some(flag) = known(self.flags) {
             if joined.is_some() {

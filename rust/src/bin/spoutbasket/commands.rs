@@ -3,9 +3,9 @@ use crate::args::{Form, Given};
 use crate::documents::{self, refused_run, refused_sheet};
 use crate::input::Source;
 use crate::json;
-use crate::messages::Failure;
+use crate::messages::{say, Failure, Refused};
 use crate::output::{self, Target};
-use spoutbasket::{choose as choose_file, list as list_file, Method, Run};
+use spoutbasket::{choose as choose_file, Method, Run};
 use std::ffi::OsString;
 
 /// A command: what it takes and what it does.
@@ -101,7 +101,7 @@ fn compile(form: &Form, given: &Given) -> Result<(), Failure> {
     let (method, chain) = made.map_err(refused)?;
     target.write(&chain.to_file().map_err(refused)?)?;
     if given.has("--verbose") {
-        eprintln!("spoutbasket: {}: {method}, {} steps", source.name(), chain.n());
+        say(&format!("{}: {method}, {} steps", source.name(), chain.n()));
     }
     Ok(())
 }
@@ -129,19 +129,20 @@ fn choose(form: &Form, given: &Given) -> Result<(), Failure> {
         .map_err(|refusal| documents::unlike(&wanted, &first, &a, refusal))?;
     target.write(taken)?;
     if given.has("--verbose") {
-        let name = if std::ptr::eq(taken, &a[..]) { first } else { second }.name();
-        eprintln!("spoutbasket: {name}: taken");
+        let name = if std::ptr::eq(taken, &a[..]) {
+            first
+        } else {
+            second
+        }
+        .name();
+        say(&format!("{name}: taken"));
     }
     Ok(())
 }
 
 fn list(_: &Form, given: &Given) -> Result<(), Failure> {
     let source = Source::new(given.file(0));
-    let bytes = source.chain()?;
-    // reading tells the place of a refusal, which a listing does not have
-    documents::chain(&source, &bytes)?;
-    let listing =
-        list_file(&bytes).map_err(|refusal| documents::refused_file(&source, &bytes, refusal))?;
+    let listing = documents::listing(&source, &source.chain()?)?;
     if !given.has("--json") {
         return output::print(listing.text().as_bytes());
     }
@@ -156,11 +157,13 @@ fn run(form: &Form, given: &Given) -> Result<(), Failure> {
     let secret = documents::keys(&keys)?;
     let bytes = source.chain()?;
     let chain = documents::chain(&source, &bytes)?;
-    let run = chain.run(secret.modulus, &secret.bases).map_err(|refusal| {
-        refused_run(refusal, (&keys, &secret), chain.columns, |refusal| {
-            documents::refused(&source, refusal)
-        })
-    })?;
+    let run = chain
+        .run(secret.modulus, &secret.bases)
+        .map_err(|refusal| {
+            refused_run(refusal, (&keys, &secret), chain.columns, |refusal| {
+                Refused::new(source.name(), refusal, None)
+            })
+        })?;
     print_run(given, vec![], &run)
 }
 
@@ -175,12 +178,13 @@ fn figures(form: &Form, given: &Given) -> Result<(), Failure> {
         Some(method) => method,
         None => {
             let best = sheet.best();
-            best.map_err(|refusal| Failure::Refused(refused(refusal)))?.0
+            best.map_err(|refusal| Failure::Refused(refused(refusal)))?
+                .0
         }
     };
     let run = sheet.figures(by, secret.modulus, &secret.bases);
-    let run = run
-        .map_err(|refusal| refused_run(refusal, (&keys, &secret), sheet.columns(), refused))?;
+    let run =
+        run.map_err(|refusal| refused_run(refusal, (&keys, &secret), sheet.columns(), refused))?;
     print_run(given, vec![("method", json::string(&by.to_string()))], &run)
 }
 
@@ -204,7 +208,9 @@ fn sources<const N: usize>(form: &Form, given: &Given) -> Result<[Source; N], Fa
 
 /// Standard input can be read once.
 fn one_standard(form: &Form, sources: &[&Source]) -> Result<(), Failure> {
-    let standard = sources.iter().filter(|source| ***source == Source::Standard);
+    let standard = sources
+        .iter()
+        .filter(|source| ***source == Source::Standard);
     match standard.count() {
         0 | 1 => Ok(()),
         _ => Err(form.wrong("standard input for two files")),
@@ -241,11 +247,7 @@ fn shape(p: usize, q: usize, n: usize) -> Vec<(&'static str, String)> {
 }
 
 /// A run's figures, a line each, and its multiplications; or all of it as an object.
-fn print_run(
-    given: &Given,
-    mut fields: Vec<(&str, String)>,
-    run: &Run,
-) -> Result<(), Failure> {
+fn print_run(given: &Given, mut fields: Vec<(&str, String)>, run: &Run) -> Result<(), Failure> {
     let made = run.multiplications;
     if given.has("--json") {
         fields.push(("figures", json::numbers(&run.figures)));

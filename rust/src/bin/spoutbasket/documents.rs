@@ -1,8 +1,8 @@
 //! Sheets, chains and keys out of what is read, each by the library; and in words why one is turned down.
 use crate::input::Source;
 use crate::messages::{size, Failure, Refused};
-use spoutbasket::{choose, list, slices, Chain, Keys, Method, Reason, Refusal, Sheet, TextFault};
-use spoutbasket::{LONGEST_FILE, MOST_COLUMNS, MOST_PAYSLIPS};
+use spoutbasket::{choose, list, slices, Chain, Keys, Listing, Method, Reason, Refusal};
+use spoutbasket::{Sheet, SheetError, TextFault, LONGEST_FILE, MOST_COLUMNS, MOST_PAYSLIPS};
 
 /// The sheet of a table, or of the plain numbers p, q and the amounts.
 pub fn sheet(source: &Source, table: bool) -> Result<Sheet, Failure> {
@@ -13,8 +13,8 @@ pub fn sheet(source: &Source, table: bool) -> Result<Sheet, Failure> {
 
 fn by_table(source: &Source, text: &[u8]) -> Result<Sheet, Refused> {
     Sheet::from_table(text).map_err(|error| match error {
-        spoutbasket::SheetError::Text(fault) => Refused::in_text(source.name(), &fault),
-        spoutbasket::SheetError::Refusal(refusal) => Refused::new(source.name(), refusal, None),
+        SheetError::Text(fault) => Refused::in_text(source.name(), &fault),
+        SheetError::Refusal(refusal) => Refused::new(source.name(), refusal, None),
         _ => unreachable!("a sheet's error is one of the two"),
     })
 }
@@ -111,6 +111,19 @@ pub fn chain(source: &Source, bytes: &[u8]) -> Result<Chain, Failure> {
     Chain::from_file(bytes).map_err(|refusal| refused_file(source, bytes, refusal))
 }
 
+/// What a chain makes.
+pub fn listing(source: &Source, bytes: &[u8]) -> Result<Listing, Failure> {
+    let chain = chain(source, bytes)?;
+    list(bytes).map_err(|refusal| {
+        // a listing tells no place; the check does, and of 13 it does so whatever the amounts are
+        let (p, q) = (chain.columns, chain.outputs.len());
+        let zeros = Sheet::new(p, q, vec![0; p * q]);
+        let placed = zeros.and_then(|sheet| chain.check(&sheet)).err();
+        let placed = placed.filter(|placed| placed.reason == refusal.reason);
+        refused_file(source, bytes, placed.unwrap_or(refusal))
+    })
+}
+
 /// A file that is no chain's, or whose chain is refused.
 pub fn refused_file(source: &Source, bytes: &[u8], refusal: Refusal) -> Failure {
     let detail = match refusal.reason {
@@ -153,7 +166,12 @@ fn difference(made: &Sheet, sheet: &Sheet, payslip: usize) -> Option<String> {
     shape("columns", made.columns(), sheet.columns())
         .or_else(|| shape("payslips", made.payslips(), sheet.payslips()))
         .or_else(|| {
-            let row = |sheet: &Sheet| sheet.rows().nth(payslip.checked_sub(1)?).map(<[u32]>::to_vec);
+            let row = |sheet: &Sheet| {
+                sheet
+                    .rows()
+                    .nth(payslip.checked_sub(1)?)
+                    .map(<[u32]>::to_vec)
+            };
             let (made, wanted) = (row(made)?, row(sheet)?);
             let column = made.iter().zip(&wanted).position(|(a, b)| a != b)?;
             Some(format!("column {} is another amount", column + 1))
@@ -164,7 +182,9 @@ fn difference(made: &Sheet, sheet: &Sheet, payslip: usize) -> Option<String> {
 pub fn refused_sheet(source: &Source, method: Option<Method>, refusal: Refusal) -> Refused {
     let detail = match (refusal.reason, method) {
         (Reason::Method, Some(method)) => Some(range(method).to_string()),
-        (Reason::Steps, Some(method)) => Some(format!("by {method}; --best may find a shorter chain")),
+        (Reason::Steps, Some(method)) => {
+            Some(format!("by {method}; --best may find a shorter chain"))
+        }
         (Reason::Steps, None) => Some("by every method".to_string()),
         _ => None,
     };

@@ -3,6 +3,7 @@
 
 mod args;
 mod commands;
+mod documents;
 mod help;
 mod input;
 mod json;
@@ -17,7 +18,7 @@ fn main() -> ExitCode {
     match dispatch(std::env::args_os().skip(1).collect()) {
         Ok(()) => ExitCode::SUCCESS,
         Err(failure) => {
-            eprintln!("spoutbasket: {}", failure.line());
+            messages::say(&failure.line());
             ExitCode::from(failure.status())
         }
     }
@@ -31,11 +32,15 @@ fn dispatch(mut words: Vec<OsString>) -> Result<(), Failure> {
     let rest = words.split_off(1);
     match words[0].to_str() {
         Some("--help" | "-h") => alone(&rest, help::OVERVIEW),
-        Some("--version" | "-V") => {
-            alone(&rest, concat!("spoutbasket ", env!("CARGO_PKG_VERSION"), "\n"))
-        }
+        Some("--version" | "-V") => alone(
+            &rest,
+            concat!("spoutbasket ", env!("CARGO_PKG_VERSION"), "\n"),
+        ),
         Some("help") => show_help(&rest),
-        Some(name) => match commands::ALL.iter().find(|command| command.form.name == name) {
+        Some(name) => match commands::ALL
+            .iter()
+            .find(|command| command.form.name == name)
+        {
             Some(command) if asks_for_help(&rest) => show(command.form.name),
             Some(command) => command.run(rest),
             None if name.starts_with('-') => Err(wrong(&args::unknown(&words[0]))),

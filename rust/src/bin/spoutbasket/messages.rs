@@ -1,7 +1,8 @@
 //! What is said where there is no result: one line on standard error, and the exit status.
 use crate::json;
-use spoutbasket::{Refusal, TextFault};
+use spoutbasket::{Refusal, TextFault, TextReason, MOST_COLUMNS, MOST_PAYSLIPS};
 use std::ffi::OsStr;
+use std::io::{self, Write};
 
 /// Why a command ends without its result.
 pub enum Failure {
@@ -18,7 +19,7 @@ pub struct Refused {
     pub name: String,
     pub number: u32,
     pub phrase: String,
-    pub place: Vec<(&'static str, usize)>,
+    pub place: Vec<(&'static str, u64)>,
     /// What was found, and what was wanted, where that can be told.
     pub detail: Option<String>,
 }
@@ -48,8 +49,8 @@ impl Refused {
         let number = refusal.number();
         let place = match (refusal.place, number) {
             (0, _) => vec![],
-            (payslip, 12 | 14) => vec![("payslip", payslip)],
-            (step, _) => vec![("step", step)],
+            (payslip, 12 | 14) => vec![("payslip", payslip as u64)],
+            (step, _) => vec![("step", step as u64)],
         };
         Refused {
             name,
@@ -110,14 +111,17 @@ impl Refused {
 
 /// What stands at the place of a fault, and what should.
 fn found(fault: &TextFault) -> Option<String> {
-    let (found, wanted) = (fault.found, fault.wanted);
-    match fault.number() {
+    let (found, wanted) = (fault.found as usize, fault.wanted as usize);
+    match fault.reason {
         // a table's first line has p fields, at most 16; its lines of amounts are q, from 1 to 64
-        1 if wanted == spoutbasket::MOST_COLUMNS => size("p", found, wanted),
-        1 => size("q", found, spoutbasket::MOST_PAYSLIPS),
-        5 => Some(format!("more than {found} numbers")),
-        104 => Some(format!("{found} found, {wanted} wanted")),
-        101 | 105 | 106 => Some(format!("found {}", byte(found as u8))),
+        TextReason::Sizes if wanted == MOST_COLUMNS => size("p", found, wanted),
+        TextReason::Sizes => size("q", found, MOST_PAYSLIPS),
+        TextReason::Fields => Some(format!("{found} found, {wanted} wanted")),
+        // digits are a mark only behind a blank that parts them from others
+        TextReason::Mark if (48..58).contains(&found) => {
+            Some("a blank within a number".to_string())
+        }
+        TextReason::Byte | TextReason::Mark | TextReason::Sign => Some(byte(fault.found as u8)),
         _ => None,
     }
 }
@@ -139,6 +143,11 @@ fn byte(byte: u8) -> String {
         b'!'..=b'~' => format!("`{}`", char::from(byte)),
         _ => format!("byte {byte:02X} (hexadecimal)"),
     }
+}
+
+/// Says a line on standard error. Nobody can be told where that fails.
+pub fn say(line: &str) {
+    let _ = io::stderr().write_all(format!("spoutbasket: {line}\n").as_bytes());
 }
 
 /// A file's name on one line, whatever it is made of.

@@ -98,7 +98,7 @@ fn was_closed(file: &File) -> io::Result<bool> {
 /// Writes to a device, a pipe or a socket as it is; else puts a new file in place.
 fn write_file(path: &Path, bytes: &[u8]) -> io::Result<()> {
     match fs::metadata(path) {
-        Ok(found) if found.is_dir() => Err(ErrorKind::IsADirectory.into()),
+        Ok(found) if found.is_dir() => Err(io::Error::other("is a directory")),
         Ok(found) if !found.is_file() => {
             OpenOptions::new().write(true).open(path)?.write_all(bytes)
         }
@@ -111,9 +111,6 @@ fn write_file(path: &Path, bytes: &[u8]) -> io::Result<()> {
 
 /// A new file under the name, whole: written beside it, brought to the device, and only then renamed.
 fn replace(path: &Path, bytes: &[u8]) -> io::Result<()> {
-    if path.file_name().is_none() {
-        return Err(ErrorKind::IsADirectory.into());
-    }
     let folder = match path.parent() {
         Some(folder) if folder != Path::new("") => folder,
         _ => Path::new("."),
@@ -147,7 +144,9 @@ fn fill(mut file: File, bytes: &[u8]) -> io::Result<()> {
 /// Brings the new name to the device, where the file system can do that.
 fn sync_folder(folder: &Path) -> io::Result<()> {
     match File::open(folder)?.sync_all() {
-        Err(why) if matches!(why.kind(), ErrorKind::InvalidInput | ErrorKind::Unsupported) => Ok(()),
+        Err(why) if matches!(why.kind(), ErrorKind::InvalidInput | ErrorKind::Unsupported) => {
+            Ok(())
+        }
         synced => synced,
     }
 }

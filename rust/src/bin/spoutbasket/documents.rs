@@ -25,11 +25,8 @@ fn by_numbers(source: &Source, text: &[u8]) -> Result<Sheet, Refused> {
         .and_then(|numbers| {
             let size = |place: usize| numbers.get(place).map_or(0, |&size| size as usize);
             let amounts = numbers.get(2..).unwrap_or_default();
-            let (p, q, found) = (size(0), size(1), amounts.len());
-            Sheet::new(p, q, amounts).map_err(|refusal| {
-                let detail = sizes(refusal, p, q, found);
-                Refused::new(source.name(), refusal, detail)
-            })
+            Sheet::new(size(0), size(1), amounts)
+                .map_err(|refusal| Refused::new(source.name(), refusal, misshapen(&numbers)))
         });
     let like_a_table = |byte: &u8| matches!(byte, b',' | b';') || byte.is_ascii_alphabetic();
     judged.map_err(|refused| match text.iter().any(like_a_table) {
@@ -56,13 +53,16 @@ fn numbers(text: &[u8]) -> Result<Vec<u32>, TextFault> {
     Ok(numbers)
 }
 
-/// What is wrong with a plain sheet's numbers.
-fn sizes(refusal: Refusal, p: usize, q: usize, found: usize) -> Option<String> {
-    match refusal.reason {
-        Reason::Sizes => size("p", p, MOST_COLUMNS).or(size("q", q, MOST_PAYSLIPS)),
-        Reason::Amounts => Some(format!("{found} found, {} wanted", p * q)),
-        _ => None,
-    }
+/// Why a plain sheet's numbers are no sheet.
+fn misshapen(numbers: &[u32]) -> Option<String> {
+    let [p, q, amounts @ ..] = numbers else {
+        let missing = if numbers.is_empty() { "p" } else { "q" };
+        return Some(format!("{missing} is missing"));
+    };
+    let (p, q) = (*p as usize, *q as usize);
+    size("p", p, MOST_COLUMNS)
+        .or_else(|| size("q", q, MOST_PAYSLIPS))
+        .or_else(|| Some(format!("{} found, {} wanted", amounts.len(), p * q)))
 }
 
 /// A receiver's modulus and bases.

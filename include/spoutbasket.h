@@ -1,6 +1,7 @@
 /* Spoutbasket: payslip sheets compiled into multiplication chains, their files, their check and their control figures.
  *
- * Link libspoutbasket.a, which `rt staticlib spoutbasket` writes. It allocates nothing and keeps nothing between calls.
+ * Link libspoutbasket.a, which `rt staticlib spoutbasket` writes, or the shared object that `make` makes of it. The library allocates nothing and keeps
+ * nothing between calls; any number of threads may call it at once, each with its own slices.
  *
  * A slice is a pointer and the number of its cells. Steps lie flat, first and second operand in turn, so n steps are 2n cells; an odd last cell
  * belongs to no step. Each pointer is aligned, not null even where the length is 0, and good for as many cells as its length says. A slice that the
@@ -8,7 +9,11 @@
  *
  * Each function looks at all its input itself. It returns 0, or the number of a refusal, and writes four words to `answer`: the values that the call
  * answers, or the refusal's place, then zeros. A place is a step (9, 10, 11, 13) or a payslip (12, 14), counted from 1, and 0 where there is none.
- * After a refusal every slice is as it was, unless the function's comment says otherwise. Cells past those that are needed never change. */
+ * What the two functions that read texts write on a refusal stands at them. After a refusal every slice is as it was, unless the function's comment says
+ * otherwise. Cells past those that are needed never change.
+ *
+ * A call needs no more stack than SPOUTBASKET_STACK, those with `_pairs` in their names SPOUTBASKET_STACK_PAIRS, and spoutbasket_list
+ * SPOUTBASKET_STACK_LIST: a thread with a stack of that many bytes will do. */
 #ifndef SPOUTBASKET_H
 #define SPOUTBASKET_H
 
@@ -18,6 +23,17 @@
 #ifdef __cplusplus
 extern "C" {
 #endif
+
+/* The version of this header and of the library. */
+#define SPOUTBASKET_VERSION_MAJOR 0
+#define SPOUTBASKET_VERSION_MINOR 2
+#define SPOUTBASKET_VERSION_PATCH 0
+#define SPOUTBASKET_VERSION "0.2.0"
+
+/* The bytes of stack that are enough for a call, whatever it is given. */
+#define SPOUTBASKET_STACK (64 * 1024)
+#define SPOUTBASKET_STACK_PAIRS (192 * 1024)
+#define SPOUTBASKET_STACK_LIST (256 * 1024)
 
 /* The limits. */
 #define SPOUTBASKET_MOST_COLUMNS 16
@@ -37,6 +53,9 @@ extern "C" {
 
 /* Bytes enough for every listing: the line "16 64 16000" and, for each payslip, its number, a blank and ten digits for each column, and a newline. */
 #define SPOUTBASKET_LONGEST_LISTING (12 + (2 + 11 * SPOUTBASKET_MOST_COLUMNS + 1) * SPOUTBASKET_MOST_PAYSLIPS)
+
+/* Bytes enough for the words of every refusal. */
+#define SPOUTBASKET_LONGEST_PHRASE 64
 
 /* The values of a chain with p columns and n steps: what the check's scratch and the run's values need. */
 #define SPOUTBASKET_VALUES(p, n) ((size_t)(p) + (size_t)(n) + 1)
@@ -60,25 +79,36 @@ enum spoutbasket_method {
     SPOUTBASKET_PARTITION = 3 /* 1 to 8 */
 };
 
-/* The refusals, by number. */
+/* The refusals, by number, each with the words that spoutbasket_phrase has for it. */
 enum spoutbasket_refusal {
     SPOUTBASKET_DONE = 0,
     SPOUTBASKET_REFUSED_SIZES = 1,          /* p or q out of range */
     SPOUTBASKET_REFUSED_AMOUNTS = 2,        /* amounts are not p times q */
     SPOUTBASKET_REFUSED_METHOD = 3,         /* method or parameter */
-    SPOUTBASKET_REFUSED_STEPS = 4,          /* n over 16,000 */
+    SPOUTBASKET_REFUSED_STEPS = 4,          /* more than 16,000 steps */
     SPOUTBASKET_REFUSED_ROOM = 5,           /* a lent slice too short */
     SPOUTBASKET_REFUSED_LENGTH = 6,         /* file under 4 bytes, or not its stated length */
     SPOUTBASKET_REFUSED_EDITION = 7,        /* edition */
     SPOUTBASKET_REFUSED_FILLING = 8,        /* a filling bit set */
-    SPOUTBASKET_REFUSED_ZERO_OPERAND = 9,   /* operand 0 */
-    SPOUTBASKET_REFUSED_LATE_OPERAND = 10,  /* operand not below v */
-    SPOUTBASKET_REFUSED_OPERAND_ORDER = 11, /* first smaller than second */
-    SPOUTBASKET_REFUSED_OUTPUT = 12,        /* output above p + n */
+    SPOUTBASKET_REFUSED_OPERAND_ZERO = 9,   /* operand 0 */
+    SPOUTBASKET_REFUSED_OPERAND_HIGH = 10,  /* operand not below its own value */
+    SPOUTBASKET_REFUSED_OPERAND_ORDER = 11, /* first operand smaller than second */
+    SPOUTBASKET_REFUSED_OUTPUT = 12,        /* output above the last value */
     SPOUTBASKET_REFUSED_EXPONENT = 13,      /* exponent too large */
-    SPOUTBASKET_REFUSED_PAYSLIP = 14,       /* an output's exponents are not its payslip; in the chooser also another p or q */
+    SPOUTBASKET_REFUSED_PAYSLIP = 14,       /* an output's exponents are not its payslip */
     SPOUTBASKET_REFUSED_MODULUS = 15,       /* modulus 0 */
     SPOUTBASKET_REFUSED_BASES = 16          /* bases not p, or one not below the modulus */
+};
+
+/* The faults of a text, by number, each with its words. A text may also be refused 1 and 5. */
+enum spoutbasket_fault {
+    SPOUTBASKET_FAULT_BYTE = 101,    /* neither a digit nor a separator */
+    SPOUTBASKET_FAULT_LARGE = 102,   /* number above 4,294,967,295 */
+    SPOUTBASKET_FAULT_CUT_OFF = 103, /* cut off: the last line has no newline */
+    SPOUTBASKET_FAULT_FIELDS = 104,  /* a line with more or fewer amounts than the first */
+    SPOUTBASKET_FAULT_MARK = 105,    /* decimal point or grouping mark */
+    SPOUTBASKET_FAULT_SIGN = 106,    /* sign */
+    SPOUTBASKET_FAULT_EMPTY = 107    /* no amount between two separators */
 };
 
 /* Compiles a sheet of p columns and q payslips, given payslip by payslip, by a method and its parameter.
@@ -95,8 +125,10 @@ uint32_t spoutbasket_write(size_t p, const uint32_t *steps, size_t steps_len, co
 uint32_t spoutbasket_read(const uint8_t *bytes, size_t bytes_len,
                           uint32_t *steps, size_t steps_len, uint32_t *outputs, size_t outputs_len, uint64_t answer[4]);
 
-/* Checks a chain, whoever made it, against the amounts of a sheet: q is the number of outputs. Needs SPOUTBASKET_VALUES(p, n) cells of scratch, which
- * are 0 afterwards where the chain passes or is refused 13 or 14. Answers nothing: the chain passed. */
+/* Checks a chain, whoever made it, against the amounts of a sheet. It is told how many amounts there are and not how they lie: q is the number of
+ * outputs, and a sheet of another shape with as many amounts is no different to it, so compare p and q with the sheet's own. (The chooser is told the
+ * sheet's p and q, and refuses a file with others under 14, place 0.) Needs SPOUTBASKET_VALUES(p, n) cells of scratch, which are 0 afterwards where the
+ * chain passes or is refused 13 or 14. Answers nothing: the chain passed. */
 uint32_t spoutbasket_verify(size_t p, const uint32_t *steps, size_t steps_len, const uint32_t *outputs, size_t outputs_len,
                             const uint32_t *amounts, size_t amounts_len, uint32_t *scratch, size_t scratch_len, uint64_t answer[4]);
 
@@ -140,6 +172,27 @@ uint32_t spoutbasket_path(size_t p, size_t q, const uint32_t *amounts, size_t am
 /* Lists a file as text: a line `p q n`, then for each payslip its number and its amounts; or one line `refused` with the number. The text goes to the
  * front of `text`, without a closing 0. Always returns 0; answers the length of the text. */
 uint32_t spoutbasket_list(const uint8_t *bytes, size_t bytes_len, uint8_t text[SPOUTBASKET_LONGEST_LISTING], uint64_t answer[4]);
+
+/* Reads a text of numbers: an optional byte order mark (EF BB BF), then decimal numbers up to 4,294,967,295 parted by blanks, tabs, newlines and carriage
+ * returns, the last byte being a newline. It serves for a plain sheet (p, q, then the amounts) and for a receiver's modulus and bases. The numbers go to
+ * the front of `numbers`. Answers how many there are.
+ * Refused 5, 101, 102, 103, 105 or 106. The four words are then the line and the column, in bytes, both counted from 1 after the byte order mark, what was
+ * found there (for 101, 105 and 106 the byte; for 5 the cells that there are) and what was wanted (for 5 one more), or 0. The numbers that stand whole
+ * before the fault have been stored; on 103 nothing has. */
+uint32_t spoutbasket_numbers(const uint8_t *text, size_t text_len, uint32_t *numbers, size_t numbers_len, uint64_t answer[4]);
+
+/* Reads a table, a sheet with one payslip a line: an optional byte order mark, then lines that end with a newline or a carriage return and a newline.
+ * Amounts are parted by tabs if the first line has one, else by semicolons if it has one, else by commas if it has one, else by blanks; but for the last
+ * case blanks around an amount are padding. A first line without a digit is a line of names, which are counted and not looked at. The amounts, payslip by
+ * payslip, go to the front of `amounts`; SPOUTBASKET_MOST_COLUMNS * SPOUTBASKET_MOST_PAYSLIPS cells are always enough. Answers p and q.
+ * Refused 103 first of all; then line by line 1 (p or q out of range), 104, 5, and byte by byte 101, 102, 105, 106, 107; at the end 1 if there is no line
+ * of amounts. The four words are then as for numbers; for 1 what is found is p and what is wanted 16, or 65 and 64 payslips, or 0 payslips and 1; for
+ * 104 the amounts of the line and p; for 5 the cells that there are and those needed so far. */
+uint32_t spoutbasket_table(const uint8_t *text, size_t text_len, uint32_t *amounts, size_t amounts_len, uint64_t answer[4]);
+
+/* The words for the number of a refusal or a fault, in ASCII, over the front of `text`, without a closing 0; for any other number "no such refusal".
+ * Needs as many bytes as they have; SPOUTBASKET_LONGEST_PHRASE are always enough. Answers how many bytes they have. */
+uint32_t spoutbasket_phrase(uint32_t number, uint8_t *text, size_t text_len, uint64_t answer[4]);
 
 #ifdef __cplusplus
 }

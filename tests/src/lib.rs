@@ -2,6 +2,7 @@
 pub mod command;
 pub mod compiler;
 pub mod ffi;
+pub mod header;
 pub mod random;
 pub mod reference;
 pub mod texts;

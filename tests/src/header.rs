@@ -1,0 +1,73 @@
+//! The C header's macros, as a C compiler has them.
+use std::collections::BTreeMap;
+use std::path::{Path, PathBuf};
+use std::process::Command;
+use std::sync::OnceLock;
+
+/// A path from the project's root.
+pub fn project(path: &str) -> PathBuf {
+    Path::new(env!("CARGO_MANIFEST_DIR")).join("..").join(path)
+}
+
+/// The header's text.
+pub fn text() -> String {
+    std::fs::read_to_string(project("include/spoutbasket.h")).expect("the header is there")
+}
+
+/// The number behind each macro of the header that stands for one, without the prefix.
+pub fn numbers() -> &'static BTreeMap<String, usize> {
+    static NUMBERS: OnceLock<BTreeMap<String, usize>> = OnceLock::new();
+    NUMBERS.get_or_init(|| {
+        let said = run_c(&printing(&text()));
+        let number = |line: &str| {
+            let (name, number) = line.split_once(' ').unwrap();
+            (name.to_string(), number.parse().unwrap())
+        };
+        said.lines().map(number).collect()
+    })
+}
+
+/// A C program that prints each such macro and its number.
+fn printing(header: &str) -> String {
+    let mut program =
+        String::from("#include \"spoutbasket.h\"\n#include <stdio.h>\nint main(void) {\n");
+    for line in header.lines() {
+        let Some(name) = line.strip_prefix("#define SPOUTBASKET_") else {
+            continue;
+        };
+        let name = name.split_whitespace().next().unwrap();
+        // not the guard, the one that is a string, and the one with arguments
+        if !["H", "VERSION"].contains(&name) && !name.contains('(') {
+            program += &format!("    printf(\"{name} %zu\\n\", (size_t)(SPOUTBASKET_{name}));\n");
+        }
+    }
+    program + "    return 0;\n}\n"
+}
+
+/// What a C program prints.
+fn run_c(program: &str) -> String {
+    let binary = std::env::temp_dir().join(format!("spoutbasket-{}", std::process::id()));
+    let source = binary.with_extension("c");
+    std::fs::write(&source, program).unwrap();
+    let compiled = Command::new("cc")
+        .args([
+            "-std=c99",
+            "-Wall",
+            "-Wextra",
+            "-Wpedantic",
+            "-Werror",
+            "-I",
+        ])
+        .arg(project("include"))
+        .arg(&source)
+        .arg("-o")
+        .arg(&binary)
+        .status()
+        .expect("a C compiler");
+    assert!(compiled.success(), "{program}");
+    let output = Command::new(&binary).output().unwrap();
+    std::fs::remove_file(&source).unwrap();
+    std::fs::remove_file(&binary).unwrap();
+    assert!(output.status.success(), "{program}");
+    String::from_utf8(output.stdout).unwrap()
+}

@@ -83,6 +83,13 @@ fn lines(job: &Job, m: u32, bases: &[u32]) -> String {
     figures.collect::<String>() + &format!("{} multiplications\n", job.count())
 }
 
+fn count(number: usize, thing: &str) -> String {
+    match number {
+        1 => format!("1 {thing}"),
+        _ => format!("{number} {thing}s"),
+    }
+}
+
 #[test]
 fn from_sheets_to_figures() {
     let mut r = Random(64);
@@ -128,7 +135,13 @@ fn from_sheets_to_figures() {
         let (p, q, n) = (job.p, job.q, job.count());
         assert_eq!(
             spoutbasket(&["check", &sheet, &chain], b"").done(),
-            format!("passed: {p} columns, {q} payslips, {n} steps\n")
+            format!(
+                "passed: {}, {}, {}
+",
+                count(p, "column"),
+                count(q, "payslip"),
+                count(n, "step")
+            )
         );
         let mut other = Job::new(p, q, &job.amounts, 2, 1);
         let i = r.below(other.amounts.len());

@@ -1,7 +1,7 @@
 //! What the command turns down: number, place in words, phrase, what was found and what was wanted, and under which file's name.
 use spoutbasket_tests::command::{spoutbasket, Folder};
 use spoutbasket_tests::reference::{LONGEST_FILE, MOST_COLUMNS, MOST_PAYSLIPS};
-use spoutbasket_tests::texts::{phrase, PHRASES};
+use spoutbasket_tests::texts::phrase;
 
 /// A refusal as it is told: `14 at payslip 3` or `14`, and what is found, if that is told.
 fn told(name: &str, refused: &str, found: &str) -> String {
@@ -360,15 +360,4 @@ fn keys() {
     let said = String::from_utf8(object.said).unwrap();
     assert!(!said.contains("59") && !said.contains("61"), "{said}");
     assert!(object.told.ends_with(": base 2 is 61, the modulus 59\n"));
-}
-
-/// The manual's table has each number that there is, with its words.
-#[test]
-fn pages() {
-    let manual = concat!(env!("CARGO_MANIFEST_DIR"), "/../docs/MANUAL.md");
-    let manual = std::fs::read_to_string(manual).unwrap();
-    for (number, phrase) in PHRASES {
-        let row = format!("\n| {number} | {phrase} |");
-        assert!(manual.contains(&row), "{row}");
-    }
 }

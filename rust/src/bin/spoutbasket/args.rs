@@ -1,5 +1,5 @@
 //! The words of the command line: options, each at most once and in any place before `--`, and the names of files.
-use crate::messages::Failure;
+use crate::messages::{counted, Failure};
 use std::ffi::{OsStr, OsString};
 use std::os::unix::ffi::OsStrExt;
 
@@ -61,10 +61,10 @@ impl Form {
         }
         let (fewest, most) = self.files;
         if given.files.len() < fewest {
-            return Err(self.wrong(&format!("{} wanted", files(fewest))));
+            return Err(self.wrong(&format!("{} wanted", counted(fewest, "file"))));
         }
         if given.files.len() > most {
-            return Err(self.wrong(&format!("more than {}", files(most))));
+            return Err(self.wrong(&format!("more than {}", counted(most, "file"))));
         }
         Ok(given)
     }
@@ -135,12 +135,5 @@ pub fn unknown(name: &OsStr) -> String {
             format!("unknown option {name}")
         }
         _ => "unknown option".to_string(),
-    }
-}
-
-fn files(number: usize) -> String {
-    match number {
-        1 => "1 file".to_string(),
-        _ => format!("{number} files"),
     }
 }

@@ -3,7 +3,7 @@ use crate::args::{Form, Given};
 use crate::documents::{self, refused_run, refused_sheet};
 use crate::input::Source;
 use crate::json;
-use crate::messages::{say, Failure, Refused};
+use crate::messages::{counted, say, Failure, Refused};
 use crate::output::{self, Target};
 use spoutbasket::{choose as choose_file, Method, Run};
 use std::ffi::OsString;
@@ -101,7 +101,8 @@ fn compile(form: &Form, given: &Given) -> Result<(), Failure> {
     let (method, chain) = made.map_err(refused)?;
     target.write(&chain.to_file().map_err(refused)?)?;
     if given.has("--verbose") {
-        say(&format!("{}: {method}, {} steps", source.name(), chain.n()));
+        let steps = counted(chain.n(), "step");
+        say(&format!("{}: {method}, {steps}", source.name()));
     }
     Ok(())
 }
@@ -117,7 +118,11 @@ fn check(form: &Form, given: &Given) -> Result<(), Failure> {
         return print(json::object(&fields));
     }
     // the exit status says it too
-    output::tell(format!("passed: {p} columns, {q} payslips, {n} steps\n").as_bytes())
+    let sizes = [(p, "column"), (q, "payslip"), (n, "step")];
+    let sizes = sizes
+        .map(|(number, thing)| counted(number, thing))
+        .join(", ");
+    output::tell(format!("passed: {sizes}\n").as_bytes())
 }
 
 fn choose(form: &Form, given: &Given) -> Result<(), Failure> {

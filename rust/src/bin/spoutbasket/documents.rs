@@ -1,6 +1,6 @@
 //! Sheets, chains and keys out of what is read, each by the library; and in words why one is turned down.
 use crate::input::Source;
-use crate::messages::{size, Failure, Refused};
+use crate::messages::{counted, size, Failure, Refused};
 use spoutbasket::{choose, list, slices, Chain, Keys, Listing, Method, Reason, Refusal};
 use spoutbasket::{Sheet, SheetError, TextFault, LONGEST_FILE, MOST_COLUMNS, MOST_PAYSLIPS};
 
@@ -96,10 +96,7 @@ pub fn refused_run(
 fn misfit(keys: &Keys, columns: usize) -> Option<String> {
     let found = keys.bases.len();
     if found != columns {
-        return Some(match found {
-            1 => format!("1 base, {columns} wanted"),
-            _ => format!("{found} bases, {columns} wanted"),
-        });
+        return Some(format!("{}, {columns} wanted", counted(found, "base")));
     }
     let at = keys.bases.iter().position(|&base| base >= keys.modulus)?;
     let (place, base, modulus) = (at + 1, keys.bases[at], keys.modulus);
@@ -130,7 +127,7 @@ pub fn refused_file(source: &Source, bytes: &[u8], refusal: Refusal) -> Failure 
         Reason::Length if bytes.len() > LONGEST_FILE => {
             Some(format!("over {LONGEST_FILE} bytes, the longest file"))
         }
-        Reason::Length => Some(format!("{} bytes", bytes.len())),
+        Reason::Length => Some(counted(bytes.len(), "byte")),
         Reason::Edition => Some(format!("edition {} found, 1 wanted", bytes[0] >> 4)),
         _ => None,
     };
@@ -161,10 +158,10 @@ pub fn unlike(sheet: &Sheet, source: &Source, bytes: &[u8], refusal: Refusal) ->
 fn difference(made: &Sheet, sheet: &Sheet, payslip: usize) -> Option<String> {
     let shape = |what, made, wanted| {
         let differs = made != wanted;
-        differs.then(|| format!("the chain has {made} {what}, the sheet {wanted}"))
+        differs.then(|| format!("the chain has {}, the sheet {wanted}", counted(made, what)))
     };
-    shape("columns", made.columns(), sheet.columns())
-        .or_else(|| shape("payslips", made.payslips(), sheet.payslips()))
+    shape("column", made.columns(), sheet.columns())
+        .or_else(|| shape("payslip", made.payslips(), sheet.payslips()))
         .or_else(|| {
             let row = |sheet: &Sheet| {
                 sheet

@@ -126,6 +126,12 @@ fn found(fault: &TextFault) -> Option<String> {
     }
 }
 
+/// A number of things, as `1 step` or `2 steps`.
+pub fn counted(number: usize, thing: &str) -> String {
+    let ending = if number == 1 { "" } else { "s" };
+    format!("{number} {thing}{ending}")
+}
+
 /// A size that is out of range, if it is.
 pub fn size(name: &str, found: usize, most: usize) -> Option<String> {
     match found {

@@ -1,5 +1,5 @@
 use crate::phrase::phrase;
-use crate::{Refusal, MOST_COLUMNS, MOST_PAYSLIPS};
+use crate::{Refusal, MOST_COLUMNS};
 use std::{error, fmt, io};
 
 /// Why a text is turned down.
@@ -121,32 +121,64 @@ impl TextFault {
     pub fn phrase(&self) -> &'static str {
         self.reason.phrase()
     }
+
+    /// What was found, and what was wanted, in words, if the fault has any.
+    ///
+    /// ```
+    /// use spoutbasket::{Sheet, SheetError};
+    ///
+    /// let Err(SheetError::Text(fault)) = Sheet::from_table(b"3;0;2\n1;2\n") else { panic!() };
+    /// assert_eq!(fault.detail().as_deref(), Some("2 amounts, 3 wanted"));
+    /// ```
+    #[must_use]
+    pub fn detail(&self) -> Option<String> {
+        let (found, wanted) = (self.found, self.wanted);
+        Some(match self.reason {
+            // of a table's first line the columns are told, with 16 wanted; else its payslips
+            TextReason::Sizes => {
+                let name = if wanted == MOST_COLUMNS as u64 {
+                    "p"
+                } else {
+                    "q"
+                };
+                match found {
+                    0 => format!("{name} is 0, at least 1"),
+                    _ => format!("{name} is {found}, at most {wanted}"),
+                }
+            }
+            TextReason::Room => format!("more than {found} numbers"),
+            TextReason::Fields => {
+                let ending = if found == 1 { "" } else { "s" };
+                format!("{found} amount{ending}, {wanted} wanted")
+            }
+            // digits are marked only by a blank before them
+            TextReason::Mark if (0x30..=0x39).contains(&found) => {
+                format!("(a blank before {})", byte(found))
+            }
+            TextReason::Byte | TextReason::Mark | TextReason::Sign => byte(found),
+            _ => return None,
+        })
+    }
 }
 
+/// A byte in quotes, or by its number where it has no shape of its own.
+fn byte(byte: u64) -> String {
+    match u8::try_from(byte) {
+        Ok(shown @ b'!'..=b'~') => format!("'{}'", char::from(shown)),
+        _ => format!("(byte {byte:#04x})"),
+    }
+}
+
+/// Place, phrase and what was found; where the question is how many, that alone tells it.
 impl fmt::Display for TextFault {
     fn fmt(&self, f: &mut fmt::Formatter) -> fmt::Result {
         write!(f, "line {}, column {}: ", self.line, self.column)?;
-        let (phrase, found, wanted) = (self.phrase(), self.found, self.wanted);
-        match (self.reason, found, wanted) {
-            (TextReason::Sizes, 0, 1) => write!(f, "q is 0, at least 1"),
-            (TextReason::Sizes, 0, _) => write!(f, "p is 0, at least 1"),
-            (TextReason::Sizes, _, _) if wanted == MOST_COLUMNS as u64 => {
-                write!(f, "p is {found}, at most {wanted}")
+        match (self.reason, self.detail()) {
+            (TextReason::Sizes | TextReason::Room | TextReason::Fields, Some(detail)) => {
+                f.write_str(&detail)
             }
-            (TextReason::Sizes, _, _) if wanted == MOST_PAYSLIPS as u64 => {
-                write!(f, "q is {found}, at most {wanted}")
-            }
-            (TextReason::Room, _, _) => write!(f, "more than {found} numbers"),
-            (TextReason::Fields, 1, _) => write!(f, "1 amount, {wanted} wanted"),
-            (TextReason::Fields, _, _) => write!(f, "{found} amounts, {wanted} wanted"),
-            // a blank has no byte of its own to show: the digit after it is found
-            (TextReason::Mark, 0x30..=0x39, _) => {
-                write!(f, "{phrase}: a blank before {}", Byte(found))
-            }
-            (TextReason::Byte | TextReason::Mark | TextReason::Sign, _, _) => {
-                write!(f, "{phrase} {}", Byte(found))
-            }
-            _ => f.write_str(phrase),
+            (_, Some(detail)) => write!(f, "{} {detail}", self.phrase()),
+            (_, None) => f.write_str(self.phrase()),
         }
     }
 }
@@ -155,18 +187,6 @@ impl fmt::Display for TextFault {
 impl fmt::Debug for TextFault {
     fn fmt(&self, f: &mut fmt::Formatter) -> fmt::Result {
         fmt::Display::fmt(self, f)
-    }
-}
-
-/// A byte in quotes, or by its number where it has no shape of its own.
-struct Byte(u64);
-
-impl fmt::Display for Byte {
-    fn fmt(&self, f: &mut fmt::Formatter) -> fmt::Result {
-        match u8::try_from(self.0) {
-            Ok(byte @ 0x20..=0x7e) => write!(f, "'{}'", char::from(byte)),
-            _ => write!(f, "(byte {:#04x})", self.0),
-        }
     }
 }
 

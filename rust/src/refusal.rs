@@ -140,6 +140,19 @@ impl Refusal {
     pub fn phrase(&self) -> &'static str {
         self.reason.phrase()
     }
+
+    /// What the place counts, `step` or `payslip`; nothing where the refusal has no place.
+    #[must_use]
+    pub fn place_name(&self) -> Option<&'static str> {
+        match self.reason {
+            _ if self.place == 0 => None,
+            Reason::OperandZero | Reason::OperandHigh | Reason::OperandOrder | Reason::Exponent => {
+                Some("step")
+            }
+            Reason::Output | Reason::Payslip => Some("payslip"),
+            _ => Some("place"),
+        }
+    }
 }
 
 /// A refusal without a place.
@@ -152,10 +165,8 @@ impl From<Reason> for Refusal {
 impl fmt::Display for Refusal {
     fn fmt(&self, f: &mut fmt::Formatter) -> fmt::Result {
         write!(f, "refused {}", self.number())?;
-        match (self.place, self.reason) {
-            (0, _) => {}
-            (place, Reason::Output | Reason::Payslip) => write!(f, " at payslip {place}")?,
-            (place, _) => write!(f, " at step {place}")?,
+        if let Some(name) = self.place_name() {
+            write!(f, " at {name} {}", self.place)?;
         }
         write!(f, ": {}", self.phrase())
     }

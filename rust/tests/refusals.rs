@@ -164,7 +164,7 @@ fn numbers() {
     for (number, reason) in (1..).zip(reasons) {
         assert_eq!((Reason::from(number), reason.number()), (reason, number));
     }
-    assert!(reasons.is_sorted());
+    assert!(reasons.windows(2).all(|pair| pair[0] < pair[1]));
     for number in [0, 17, 101, u32::MAX] {
         assert_eq!(Reason::from(number), Other(number));
         assert_eq!(Reason::from(number).number(), number);
@@ -197,6 +197,7 @@ fn in_words() {
         "refused 14 at payslip 1: an output's exponents are not its payslip"
     );
     assert_eq!(words(17, 0), "refused 17: no such refusal");
+    assert_eq!(words(17, 3), "refused 17 at place 3: no such refusal");
     assert_eq!(words(u32::MAX, 0), "refused 4294967295: no such refusal");
     let error: Box<dyn std::error::Error> = Box::new(Refusal::from(Reason::Modulus));
     assert_eq!(error.to_string(), "refused 15: modulus 0");

@@ -143,7 +143,7 @@ fn faults_in_words() {
         (
             "1 875;20\n",
             TextReason::Mark,
-            "line 1, column 3: decimal point or grouping mark: a blank before '8'",
+            "line 1, column 3: decimal point or grouping mark (a blank before '8')",
         ),
         ("3 -1\n", TextReason::Sign, "line 1, column 3: sign '-'"),
         (

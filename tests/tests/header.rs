@@ -66,15 +66,21 @@ fn phrases_of_the_header() {
     assert_eq!(seen, wanted);
 }
 
-/// In the manual each number has a row of a table, whose second cell starts with the library's phrase.
+/// The manual's table of phrases has a row for each number, whose second cell starts with the library's phrase.
 #[test]
 fn phrases_of_the_manual() {
     let manual = std::fs::read_to_string(header::project("docs/MANUAL.md")).unwrap();
-    for (number, phrase) in phrases() {
-        let row = manual
-            .lines()
-            .find_map(|line| line.strip_prefix(&format!("| {number} | ")));
-        let row = row.unwrap_or_else(|| panic!("no row for {number}"));
+    let mut rows = BTreeMap::new();
+    let lines = manual.lines();
+    let table = lines.skip_while(|line| !line.starts_with("| number | phrase"));
+    for row in table.skip(2).take_while(|line| line.starts_with('|')) {
+        let cells: Vec<&str> = row.split('|').map(str::trim).collect();
+        rows.insert(cells[1].parse().unwrap(), cells[2]);
+    }
+    let phrases = phrases();
+    assert!(rows.keys().eq(phrases.keys()), "{:?}", rows.keys());
+    for (number, phrase) in phrases {
+        let row = rows[&number];
         assert!(row.starts_with(phrase), "{number}: {row}, not {phrase}");
     }
 }

@@ -86,6 +86,10 @@ fn closed_output() {
             ""
         );
     }
+    // a result that goes elsewhere is not lost
+    let ended =
+        folder.script("spoutbasket compile week.txt -o new.chain >&-; cmp new.chain week.chain");
+    assert_eq!(ended.done(), "");
     let ended = folder.script("spoutbasket list nothing >&- 2>&-");
     assert_eq!((ended.status, ended.told.as_str()), (3, ""));
 }

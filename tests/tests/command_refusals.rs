@@ -48,47 +48,35 @@ fn plain_sheets() {
         ("2 1 3 2 1\n", "2", "3 found, 2 wanted"),
         ("2 2\n1 2\n", "2", "2 found, 4 wanted"),
         (&many, "2", "1025 found, 1024 wanted"),
-        ("2 1 3 /\n", "101 at line 1, column 7", "`/`"),
+        ("2 1 3 /\n", "101 at line 1, column 7", "'/'"),
         (
             "2 1\n3 x\n",
             "101 at line 2, column 3",
-            &format!("`x`; {table}"),
+            &format!("'x'; {table}"),
         ),
-        (
-            "2 1\n3\u{a0}2\n",
-            "101 at line 2, column 2",
-            "byte C2 (hexadecimal)",
-        ),
-        (
-            "1 1\n\u{feff}3\n",
-            "101 at line 2, column 1",
-            "byte EF (hexadecimal)",
-        ),
-        (
-            "1 1\n\0\n",
-            "101 at line 2, column 1",
-            "byte 00 (hexadecimal)",
-        ),
+        ("2 1\n3\u{a0}2\n", "101 at line 2, column 2", "(byte 0xc2)"),
+        ("1 1\n\u{feff}3\n", "101 at line 2, column 1", "(byte 0xef)"),
+        ("1 1\n\0\n", "101 at line 2, column 1", "(byte 0x00)"),
         (
             "basic;tax\n3;2\n",
             "101 at line 1, column 1",
-            &format!("`b`; {table}"),
+            &format!("'b'; {table}"),
         ),
         (
             "3;2\n1;0\n",
             "101 at line 1, column 2",
-            &format!("`;`; {table}"),
+            &format!("';'; {table}"),
         ),
         ("1 1\n\n 4294967296\n", "102 at line 3, column 11", ""),
         ("1 1 99999999999\n", "102 at line 1, column 14", ""),
         ("2 1\n3 2", "103 at line 2, column 4", ""),
         ("2 1\n3 2\r", "103 at line 2, column 5", ""),
-        ("3,2\n", "105 at line 1, column 2", &format!("`,`; {table}")),
-        ("1 1\n187.50\n", "105 at line 2, column 4", "`.`"),
-        ("1 1\n1'875\n", "105 at line 2, column 2", "`'`"),
-        ("1 1\n1_875\n", "105 at line 2, column 2", "`_`"),
-        ("2 1\n3 -2\n", "106 at line 2, column 3", "`-`"),
-        ("2 1\n+3 2\n", "106 at line 2, column 1", "`+`"),
+        ("3,2\n", "105 at line 1, column 2", &format!("','; {table}")),
+        ("1 1\n187.50\n", "105 at line 2, column 4", "'.'"),
+        ("1 1\n1'875\n", "105 at line 2, column 2", "'''"),
+        ("1 1\n1_875\n", "105 at line 2, column 2", "'_'"),
+        ("2 1\n3 -2\n", "106 at line 2, column 3", "'-'"),
+        ("2 1\n+3 2\n", "106 at line 2, column 1", "'+'"),
     ] {
         let line = spoutbasket(&["compile"], text.as_bytes()).ended(1);
         assert_eq!(line, told("standard input", refused, found), "{text:?}");
@@ -113,38 +101,38 @@ fn tables() {
             "1 at line 65, column 1",
             "q is 65, at most 64",
         ),
-        ("3;2\n1;x\n", "101 at line 2, column 3", "`x`"),
-        ("3,2\n1;0\n", "104 at line 2, column 4", "1 found, 2 wanted"),
-        ("3 2\n1;4 0\n", "101 at line 2, column 2", "`;`"),
-        ("3,2\n1\t,0\n", "101 at line 2, column 2", "a tab"),
+        ("3;2\n1;x\n", "101 at line 2, column 3", "'x'"),
         (
-            "3 2\n1\r 0\n",
-            "101 at line 2, column 2",
-            "a carriage return",
+            "3,2\n1;0\n",
+            "104 at line 2, column 4",
+            "1 amount, 2 wanted",
         ),
+        ("3 2\n1;4 0\n", "101 at line 2, column 2", "';'"),
+        ("3,2\n1\t,0\n", "101 at line 2, column 2", "(byte 0x09)"),
+        ("3 2\n1\r 0\n", "101 at line 2, column 2", "(byte 0x0d)"),
         ("3;4294967296\n", "102 at line 1, column 12", ""),
         ("3;2\n1;0", "103 at line 2, column 4", ""),
         (
             "a b\n1 2\n3\n",
             "104 at line 3, column 2",
-            "1 found, 2 wanted",
+            "1 amount, 2 wanted",
         ),
         (
             "1\t2\n3\t4\t5\r\n",
             "104 at line 2, column 6",
-            "3 found, 2 wanted",
+            "3 amounts, 2 wanted",
         ),
-        ("1,2\n\n", "104 at line 2, column 1", "1 found, 2 wanted"),
-        ("187,50;20,00\n", "105 at line 1, column 4", "`,`"),
-        ("187.50;20\n", "105 at line 1, column 4", "`.`"),
+        ("1,2\n\n", "104 at line 2, column 1", "1 amount, 2 wanted"),
+        ("187,50;20,00\n", "105 at line 1, column 4", "','"),
+        ("187.50;20\n", "105 at line 1, column 4", "'.'"),
         (
             "1 875;20\n",
             "105 at line 1, column 3",
-            "a blank within a number",
+            "(a blank before '8')",
         ),
-        ("1'875\t20\n", "105 at line 1, column 2", "`'`"),
-        ("-3;2\n", "106 at line 1, column 1", "`-`"),
-        ("3;+2\n", "106 at line 1, column 3", "`+`"),
+        ("1'875\t20\n", "105 at line 1, column 2", "'''"),
+        ("-3;2\n", "106 at line 1, column 1", "'-'"),
+        ("3;+2\n", "106 at line 1, column 3", "'+'"),
         ("3;;2\n", "107 at line 1, column 3", ""),
         ("3;2\n3; \r\n", "107 at line 2, column 4", ""),
     ] {
@@ -315,6 +303,9 @@ fn other_sheets() {
     let line = spoutbasket(&["check", "-", &large], b"1 1 1\n").ended(1);
     assert_eq!(line, expected);
     assert_eq!(spoutbasket(&["list", &large], b"").ended(1), expected);
+    let line = spoutbasket(&["check", "-", &large], b"2 1 1 1\n").ended(1);
+    let shape = "the chain has 1 column, the sheet 2";
+    assert_eq!(line, told(&large, "14", shape));
 }
 
 /// 15 and 16, and texts that are no keys, by the run and by the whole path.
@@ -336,10 +327,10 @@ fn keys() {
         ("11 3 12 7\n", "16", "base 2 is 12, the modulus 11"),
         ("11 3 5 11\n", "16", "base 3 is 11, the modulus 11"),
         ("11 3 5 7", "103 at line 1, column 9", ""),
-        ("11 3,5,7\n", "105 at line 1, column 5", "`,`"),
-        ("11 3 5 -7\n", "106 at line 1, column 8", "`-`"),
+        ("11 3,5,7\n", "105 at line 1, column 5", "','"),
+        ("11 3 5 -7\n", "106 at line 1, column 8", "'-'"),
         ("4294967296 3 5 7\n", "102 at line 1, column 10", ""),
-        ("11 3 5 seven\n", "101 at line 1, column 8", "`s`"),
+        ("11 3 5 seven\n", "101 at line 1, column 8", "'s'"),
     ] {
         for file in [["run", &chain], ["figures", &sheet]] {
             let named = folder.file("bank.keys", keys);

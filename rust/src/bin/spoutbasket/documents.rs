@@ -1,6 +1,6 @@
 //! Sheets, chains and keys out of what is read, each by the library; and in words why one is turned down.
 use crate::input::Source;
-use crate::messages::{counted, size, Failure, Refused};
+use crate::messages::{counted, Failure, Refused};
 use spoutbasket::{choose, list, slices, Chain, Keys, Listing, Method, Reason, Refusal};
 use spoutbasket::{Sheet, SheetError, TextFault, LONGEST_FILE, MOST_COLUMNS, MOST_PAYSLIPS};
 
@@ -63,6 +63,15 @@ fn misshapen(numbers: &[u32]) -> Option<String> {
     size("p", p, MOST_COLUMNS)
         .or_else(|| size("q", q, MOST_PAYSLIPS))
         .or_else(|| Some(format!("{} found, {} wanted", amounts.len(), p * q)))
+}
+
+/// A size that is out of range, if it is.
+fn size(name: &str, found: usize, most: usize) -> Option<String> {
+    match found {
+        0 => Some(format!("{name} is 0, at least 1")),
+        _ if found > most => Some(format!("{name} is {found}, at most {most}")),
+        _ => None,
+    }
 }
 
 /// A receiver's modulus and bases.
@@ -147,32 +156,24 @@ pub fn unlike(sheet: &Sheet, source: &Source, bytes: &[u8], refusal: Refusal) ->
     if refusal.reason != Reason::Payslip {
         return refused_file(source, bytes, refusal);
     }
-    let detail = match list(bytes) {
-        Ok(made) => difference(made.sheet(), sheet, refusal.place),
-        Err(_) => None,
-    };
+    let detail = Chain::from_file(bytes).ok().and_then(|chain| {
+        let shape = |what, made, wanted| {
+            let differs = made != wanted;
+            differs.then(|| format!("the chain has {}, the sheet {wanted}", counted(made, what)))
+        };
+        shape("column", chain.columns, sheet.columns())
+            .or_else(|| shape("payslip", chain.outputs.len(), sheet.payslips()))
+            .or_else(|| other_column(&list(bytes).ok()?, sheet, refusal.place))
+    });
     Failure::Refused(Refused::new(source.name(), refusal, detail))
 }
 
-/// Where the sheet that a chain makes is another: its sizes, or a column of the payslip. No amount is told.
-fn difference(made: &Sheet, sheet: &Sheet, payslip: usize) -> Option<String> {
-    let shape = |what, made, wanted| {
-        let differs = made != wanted;
-        differs.then(|| format!("the chain has {}, the sheet {wanted}", counted(made, what)))
-    };
-    shape("column", made.columns(), sheet.columns())
-        .or_else(|| shape("payslip", made.payslips(), sheet.payslips()))
-        .or_else(|| {
-            let row = |sheet: &Sheet| {
-                sheet
-                    .rows()
-                    .nth(payslip.checked_sub(1)?)
-                    .map(<[u32]>::to_vec)
-            };
-            let (made, wanted) = (row(made)?, row(sheet)?);
-            let column = made.iter().zip(&wanted).position(|(a, b)| a != b)?;
-            Some(format!("column {} is another amount", column + 1))
-        })
+/// The first column of a payslip in which a chain makes another amount. The amounts are not told.
+fn other_column(made: &Listing, sheet: &Sheet, payslip: usize) -> Option<String> {
+    let at = payslip.checked_sub(1)?;
+    let mut amounts = made.rows().nth(at)?.iter().zip(sheet.rows().nth(at)?);
+    let column = amounts.position(|(made, wanted)| made != wanted)?;
+    Some(format!("column {} is another amount", column + 1))
 }
 
 /// A sheet that a method refuses, or that no method takes.

@@ -1,6 +1,6 @@
 //! What is said where there is no result: one line on standard error, and the exit status.
 use crate::json;
-use spoutbasket::{Refusal, TextFault, TextReason, MOST_COLUMNS, MOST_PAYSLIPS};
+use spoutbasket::{Refusal, TextFault};
 use std::ffi::OsStr;
 use std::io::{self, Write};
 
@@ -18,7 +18,7 @@ pub enum Failure {
 pub struct Refused {
     pub name: String,
     pub number: u32,
-    pub phrase: String,
+    pub phrase: &'static str,
     pub place: Vec<(&'static str, u64)>,
     /// What was found, and what was wanted, where that can be told.
     pub detail: Option<String>,
@@ -46,17 +46,15 @@ impl Failure {
 impl Refused {
     /// A file refused by number and place.
     pub fn new(name: String, refusal: Refusal, detail: Option<String>) -> Refused {
-        let number = refusal.number();
-        let place = match (refusal.place, number) {
-            (0, _) => vec![],
-            (payslip, 12 | 14) => vec![("payslip", payslip as u64)],
-            (step, _) => vec![("step", step as u64)],
-        };
+        let place = refusal.place_name();
         Refused {
             name,
-            number,
-            phrase: refusal.phrase().to_string(),
-            place,
+            number: refusal.number(),
+            phrase: refusal.phrase(),
+            place: place
+                .map(|what| (what, refusal.place as u64))
+                .into_iter()
+                .collect(),
             detail,
         }
     }
@@ -66,9 +64,9 @@ impl Refused {
         Refused {
             name,
             number: fault.number(),
-            phrase: fault.phrase().to_string(),
+            phrase: fault.phrase(),
             place: vec![("line", fault.line), ("column", fault.column)],
-            detail: found(fault),
+            detail: fault.detail(),
         }
     }
 
@@ -104,25 +102,8 @@ impl Refused {
         for (what, number) in &self.place {
             fields.push((what, number.to_string()));
         }
-        fields.push(("phrase", json::string(&self.phrase)));
+        fields.push(("phrase", json::string(self.phrase)));
         json::object(&[("refused", json::object(&fields))])
-    }
-}
-
-/// What stands at the place of a fault, and what should.
-fn found(fault: &TextFault) -> Option<String> {
-    let (found, wanted) = (fault.found as usize, fault.wanted as usize);
-    match fault.reason {
-        // a table's first line has p fields, at most 16; its lines of amounts are q, from 1 to 64
-        TextReason::Sizes if wanted == MOST_COLUMNS => size("p", found, wanted),
-        TextReason::Sizes => size("q", found, MOST_PAYSLIPS),
-        TextReason::Fields => Some(format!("{found} found, {wanted} wanted")),
-        // digits are a mark only behind a blank that parts them from others
-        TextReason::Mark if (48..58).contains(&found) => {
-            Some("a blank within a number".to_string())
-        }
-        TextReason::Byte | TextReason::Mark | TextReason::Sign => Some(byte(fault.found as u8)),
-        _ => None,
     }
 }
 
@@ -130,25 +111,6 @@ fn found(fault: &TextFault) -> Option<String> {
 pub fn counted(number: usize, thing: &str) -> String {
     let ending = if number == 1 { "" } else { "s" };
     format!("{number} {thing}{ending}")
-}
-
-/// A size that is out of range, if it is.
-pub fn size(name: &str, found: usize, most: usize) -> Option<String> {
-    match found {
-        0 => Some(format!("{name} is 0, at least 1")),
-        _ if found > most => Some(format!("{name} is {found}, at most {most}")),
-        _ => None,
-    }
-}
-
-/// A byte as a person would name it.
-fn byte(byte: u8) -> String {
-    match byte {
-        b'\t' => "a tab".to_string(),
-        b'\r' => "a carriage return".to_string(),
-        b'!'..=b'~' => format!("`{}`", char::from(byte)),
-        _ => format!("byte {byte:02X} (hexadecimal)"),
-    }
 }
 
 /// Says a line on standard error. Nobody can be told where that fails.

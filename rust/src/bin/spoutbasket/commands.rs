@@ -1,9 +1,9 @@
 //! What each command does.
 use crate::args::{Form, Given};
-use crate::documents::{self, refused_run, refused_sheet};
+use crate::documents::{self, refused_file, refused_keys, refused_sheet};
 use crate::input::Source;
 use crate::json;
-use crate::messages::{counted, say, Failure, Refused};
+use crate::messages::{counted, say, Failure};
 use crate::output::{self, Target};
 use spoutbasket::{choose as choose_file, Method, Run};
 use std::ffi::OsString;
@@ -97,7 +97,7 @@ fn compile(form: &Form, given: &Given) -> Result<(), Failure> {
         Some(method) => sheet.compile(method).map(|chain| (method, chain)),
         None => sheet.best(),
     };
-    let refused = |refusal| Failure::Refused(refused_sheet(&source, method, refusal));
+    let refused = |refusal| refused_sheet(&source, method, refusal);
     let (method, chain) = made.map_err(refused)?;
     target.write(&chain.to_file().map_err(refused)?)?;
     if given.has("--verbose") {
@@ -134,12 +134,8 @@ fn choose(form: &Form, given: &Given) -> Result<(), Failure> {
         .map_err(|refusal| documents::unlike(&wanted, &first, &a, refusal))?;
     target.write(taken)?;
     if given.has("--verbose") {
-        let name = if std::ptr::eq(taken, &a[..]) {
-            first
-        } else {
-            second
-        }
-        .name();
+        let is_first = std::ptr::eq(taken, &a[..]);
+        let name = if is_first { first } else { second }.name();
         say(&format!("{name}: taken"));
     }
     Ok(())
@@ -162,13 +158,11 @@ fn run(form: &Form, given: &Given) -> Result<(), Failure> {
     let secret = documents::keys(&keys)?;
     let bytes = source.chain()?;
     let chain = documents::chain(&source, &bytes)?;
-    let run = chain
-        .run(secret.modulus, &secret.bases)
-        .map_err(|refusal| {
-            refused_run(refusal, (&keys, &secret), chain.columns, |refusal| {
-                Refused::new(source.name(), refusal, None)
-            })
-        })?;
+    let run = chain.run(secret.modulus, &secret.bases);
+    let run = run.map_err(|refusal| {
+        refused_keys(&keys, &secret, chain.columns, refusal)
+            .unwrap_or_else(|| refused_file(&source, &bytes, refusal))
+    })?;
     print_run(given, vec![], &run)
 }
 
@@ -181,15 +175,12 @@ fn figures(form: &Form, given: &Given) -> Result<(), Failure> {
     let refused = |refusal| refused_sheet(&source, method, refusal);
     let by = match method {
         Some(method) => method,
-        None => {
-            let best = sheet.best();
-            best.map_err(|refusal| Failure::Refused(refused(refusal)))?
-                .0
-        }
+        None => sheet.best().map_err(refused)?.0,
     };
     let run = sheet.figures(by, secret.modulus, &secret.bases);
-    let run =
-        run.map_err(|refusal| refused_run(refusal, (&keys, &secret), sheet.columns(), refused))?;
+    let run = run.map_err(|refusal| {
+        refused_keys(&keys, &secret, sheet.columns(), refusal).unwrap_or_else(|| refused(refusal))
+    })?;
     print_run(given, vec![("method", json::string(&by.to_string()))], &run)
 }
 

@@ -8,7 +8,7 @@ use spoutbasket::{Sheet, SheetError, TextFault, LONGEST_FILE, MOST_COLUMNS, MOST
 pub fn sheet(source: &Source, table: bool) -> Result<Sheet, Failure> {
     let text = source.text()?;
     let read = if table { by_table } else { by_numbers };
-    read(source, &text).map_err(Failure::Refused)
+    Ok(read(source, &text)?)
 }
 
 fn by_table(source: &Source, text: &[u8]) -> Result<Sheet, Refused> {
@@ -77,28 +77,26 @@ fn size(name: &str, found: usize, most: usize) -> Option<String> {
 /// A receiver's modulus and bases.
 pub fn keys(source: &Source) -> Result<Keys, Failure> {
     let numbers = numbers(&source.text()?);
-    let numbers =
-        numbers.map_err(|fault| Failure::Refused(Refused::in_text(source.name(), &fault)))?;
+    let numbers = numbers.map_err(|fault| Refused::in_text(source.name(), &fault))?;
     // a text without numbers has modulus 0, which is refused
     let (&modulus, bases) = numbers.split_first().unwrap_or((&0, &[]));
     let bases = bases.to_vec();
     Ok(Keys { modulus, bases })
 }
 
-/// A run refused: for its keys, or else for what they were run over.
-pub fn refused_run(
-    refusal: Refusal,
-    keys: (&Source, &Keys),
+/// A run refused for its keys, if it is that.
+pub fn refused_keys(
+    source: &Source,
+    keys: &Keys,
     columns: usize,
-    other: impl FnOnce(Refusal) -> Refused,
-) -> Failure {
-    let (source, keys) = keys;
+    refusal: Refusal,
+) -> Option<Refused> {
     let detail = match refusal.reason {
         Reason::Modulus => None,
         Reason::Bases => misfit(keys, columns),
-        _ => return Failure::Refused(other(refusal)),
+        _ => return None,
     };
-    Failure::Refused(Refused::new(source.name(), refusal, detail))
+    Some(Refused::new(source.name(), refusal, detail))
 }
 
 /// Why bases do not go with as many columns or with their modulus.
@@ -113,12 +111,12 @@ fn misfit(keys: &Keys, columns: usize) -> Option<String> {
 }
 
 /// The chain of a file.
-pub fn chain(source: &Source, bytes: &[u8]) -> Result<Chain, Failure> {
+pub fn chain(source: &Source, bytes: &[u8]) -> Result<Chain, Refused> {
     Chain::from_file(bytes).map_err(|refusal| refused_file(source, bytes, refusal))
 }
 
 /// What a chain makes.
-pub fn listing(source: &Source, bytes: &[u8]) -> Result<Listing, Failure> {
+pub fn listing(source: &Source, bytes: &[u8]) -> Result<Listing, Refused> {
     let chain = chain(source, bytes)?;
     list(bytes).map_err(|refusal| {
         // a listing tells no place; the check does, and of 13 it does so whatever the amounts are
@@ -131,20 +129,22 @@ pub fn listing(source: &Source, bytes: &[u8]) -> Result<Listing, Failure> {
 }
 
 /// A file that is no chain's, or whose chain is refused.
-pub fn refused_file(source: &Source, bytes: &[u8], refusal: Refusal) -> Failure {
+pub fn refused_file(source: &Source, bytes: &[u8], refusal: Refusal) -> Refused {
     let detail = match refusal.reason {
         Reason::Length if bytes.len() > LONGEST_FILE => {
             Some(format!("over {LONGEST_FILE} bytes, the longest file"))
         }
         Reason::Length => Some(counted(bytes.len(), "byte")),
-        Reason::Edition => Some(format!("edition {} found, 1 wanted", bytes[0] >> 4)),
+        Reason::Edition => bytes
+            .first()
+            .map(|byte| format!("edition {} found, 1 wanted", byte >> 4)),
         _ => None,
     };
-    Failure::Refused(Refused::new(source.name(), refusal, detail))
+    Refused::new(source.name(), refusal, detail)
 }
 
 /// The chain of a file that makes the sheet. It is judged by the chooser, which compares p and q too and never takes a file of no bytes.
-pub fn checked(sheet: &Sheet, source: &Source, bytes: &[u8]) -> Result<Chain, Failure> {
+pub fn checked(sheet: &Sheet, source: &Source, bytes: &[u8]) -> Result<Chain, Refused> {
     match choose(sheet, bytes, &[]) {
         Ok(_) => chain(source, bytes),
         Err(refusal) => Err(unlike(sheet, source, bytes, refusal)),
@@ -152,7 +152,7 @@ pub fn checked(sheet: &Sheet, source: &Source, bytes: &[u8]) -> Result<Chain, Fa
 }
 
 /// A file that does not make a sheet.
-pub fn unlike(sheet: &Sheet, source: &Source, bytes: &[u8], refusal: Refusal) -> Failure {
+pub fn unlike(sheet: &Sheet, source: &Source, bytes: &[u8], refusal: Refusal) -> Refused {
     if refusal.reason != Reason::Payslip {
         return refused_file(source, bytes, refusal);
     }
@@ -165,7 +165,7 @@ pub fn unlike(sheet: &Sheet, source: &Source, bytes: &[u8], refusal: Refusal) ->
             .or_else(|| shape("payslip", chain.outputs.len(), sheet.payslips()))
             .or_else(|| other_column(&list(bytes).ok()?, sheet, refusal.place))
     });
-    Failure::Refused(Refused::new(source.name(), refusal, detail))
+    Refused::new(source.name(), refusal, detail)
 }
 
 /// The first column of a payslip in which a chain makes another amount. The amounts are not told.

@@ -24,6 +24,12 @@ pub struct Refused {
     pub detail: Option<String>,
 }
 
+impl From<Refused> for Failure {
+    fn from(refused: Refused) -> Failure {
+        Failure::Refused(refused)
+    }
+}
+
 impl Failure {
     pub fn status(&self) -> u8 {
         match self {
@@ -47,14 +53,12 @@ impl Refused {
     /// A file refused by number and place.
     pub fn new(name: String, refusal: Refusal, detail: Option<String>) -> Refused {
         let place = refusal.place_name();
+        let place = place.map(|what| (what, refusal.place as u64));
         Refused {
             name,
             number: refusal.number(),
             phrase: refusal.phrase(),
-            place: place
-                .map(|what| (what, refusal.place as u64))
-                .into_iter()
-                .collect(),
+            place: Vec::from_iter(place),
             detail,
         }
     }

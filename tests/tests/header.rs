@@ -70,7 +70,7 @@ fn phrases_of_the_header() {
 #[test]
 fn phrases_of_the_manual() {
     let manual = std::fs::read_to_string(header::project("docs/MANUAL.md")).unwrap();
-    let mut rows = BTreeMap::new();
+    let mut rows: BTreeMap<u32, &str> = BTreeMap::new();
     let lines = manual.lines();
     let table = lines.skip_while(|line| !line.starts_with("| number | phrase"));
     for row in table.skip(2).take_while(|line| line.starts_with('|')) {

@@ -1,6 +1,5 @@
-//! What the pages say of the command is what it does: synopses, messages, the example, the night's script, the sample.
+//! What the pages say of the command is what it does: synopses, the example, the night's script, the sample.
 use spoutbasket_tests::command::{spoutbasket, Folder};
-use spoutbasket_tests::texts::PHRASES;
 
 fn page(name: &str) -> String {
     let path = format!("{}/../{name}", env!("CARGO_MANIFEST_DIR"));
@@ -30,15 +29,6 @@ fn week(name: &str) -> Folder {
     folder.file("week.csv", shown(&manual, "**A table**"));
     folder.file("bank.keys", shown(&manual, "## Keys"));
     folder
-}
-
-#[test]
-fn every_message_in_the_manual() {
-    let manual = page("docs/MANUAL.md");
-    for (number, phrase) in PHRASES {
-        let row = format!("\n| {number} | {phrase} |");
-        assert!(manual.contains(&row), "{row}");
-    }
 }
 
 #[test]

@@ -3,6 +3,12 @@ use std::io::Write;
 use std::path::{Path, PathBuf};
 use std::process::{Child, Command, Stdio};
 
+/// The manual's week: four payslips of three pay elements, and a receiver's keys.
+pub const WEEK: &str = "3 4\n3 0 2\n1 2 0\n0 0 2\n3 2 1\n";
+pub const KEYS: &str = "10000\n3 5 7\n";
+/// What the check says of the week's shortest chain.
+pub const PASSED: &str = "passed: 3 columns, 4 payslips, 9 steps\n";
+
 /// How a run ended.
 #[derive(Debug)]
 pub struct Ended {
@@ -83,6 +89,16 @@ impl Folder {
         let folder = std::env::temp_dir().join(name);
         std::fs::create_dir_all(&folder).unwrap();
         Folder(folder)
+    }
+
+    /// A folder with the week's sheet, keys and shortest chain.
+    pub fn week(name: &str) -> Folder {
+        let folder = Folder::new(name);
+        let sheet = folder.file("week.txt", WEEK);
+        folder.file("bank.keys", KEYS);
+        let chain = folder.path("week.chain");
+        spoutbasket(&["compile", &sheet, "-o", &chain], b"").done();
+        folder
     }
 
     /// The path of a name in it.

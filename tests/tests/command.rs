@@ -1,15 +1,12 @@
 //! The command against the reference: every subcommand, what it writes, and its exit status.
-use spoutbasket_tests::command::{spoutbasket, Folder};
+use spoutbasket_tests::command::{spoutbasket, Folder, PASSED, WEEK};
 use spoutbasket_tests::compiler::methods;
 use spoutbasket_tests::random::{bases, job, modulus, Random};
-use spoutbasket_tests::reference::{self, figure, Job, EDITION_STEPS, LONGEST_FILE, MOST_PAYSLIPS};
+use spoutbasket_tests::reference::{self, figure, Job, LONGEST_FILE, MOST_PAYSLIPS};
+use spoutbasket_tests::reference::{EDITION_STEPS, EDITION_VALUES};
 use spoutbasket_tests::texts::phrase;
 
 const COMMANDS: [&str; 6] = ["compile", "check", "choose", "list", "run", "figures"];
-
-/// The week of the manual.
-const WEEK: &str = "3 4\n3 0 2\n1 2 0\n0 0 2\n3 2 1\n";
-const KEYS: &str = "10000\n3 5 7\n";
 
 fn method_name(job: &Job) -> String {
     let name = ["straus", "yao", "partition"][job.method - 1];
@@ -181,34 +178,67 @@ fn from_sheets_to_figures() {
     assert!(refused > 3);
 }
 
-/// The manual's example, every command once.
+/// Whatever the bytes are, the end is a result or one line.
 #[test]
-fn the_week() {
-    let folder = Folder::new("week");
-    folder.file("week.txt", WEEK);
-    folder.file("bank.keys", KEYS);
-    let said = folder.script(
-        "set -euo pipefail
-        spoutbasket compile --method straus:1 week.txt -o straus.chain
-        spoutbasket compile --method yao:1 week.txt -o yao.chain
-        spoutbasket compile week.txt -o week.chain
-        spoutbasket choose week.txt straus.chain yao.chain -o best.chain
-        cmp best.chain yao.chain
-        cmp best.chain week.chain
-        spoutbasket check week.txt best.chain
-        spoutbasket list best.chain
-        spoutbasket run --keys bank.keys best.chain
-        spoutbasket figures --keys bank.keys --method straus:1 week.txt",
-    );
-    let figures = "1323\n75\n49\n4725\n";
-    assert_eq!(
-        said.done(),
-        format!(
-            "passed: 3 columns, 4 payslips, 9 steps\n\
-             3 4 9\n1 3 0 2\n2 1 2 0\n3 0 0 2\n4 3 2 1\n\
-             {figures}9 multiplications\n{figures}11 multiplications\n"
-        )
-    );
+fn any_bytes() {
+    let mut r = Random(7);
+    let folder = Folder::new("bytes");
+    let sheet = folder.file("sheet", WEEK);
+    let mut ends = [0; 2];
+    for _ in 0..60 {
+        let length = r.pick(&[0, 3, 4, 7, 20, 300]);
+        let telling = r.one_in(2);
+        let byte = |r: &mut Random| match telling {
+            true => r.pick(b"0123 \n\t\r;,.-x"),
+            false => r.word() as u8,
+        };
+        let mut bytes: Vec<u8> = (0..length).map(|_| byte(&mut r)).collect();
+        bytes.push(b'\n');
+        let other = folder.file("other", &bytes);
+        for arguments in [
+            vec!["compile", "-"],
+            vec!["compile", "--table", "-"],
+            vec!["check", &sheet, "-"],
+            vec!["check", "--table", "-", &other],
+            vec!["choose", "-", &other, &other],
+            vec!["list", "-"],
+            vec!["run", "--keys", "-", &other],
+            vec!["figures", "--keys", "-", &sheet],
+            vec!["figures", "--keys", &other, "--table", "-"],
+        ] {
+            let ended = spoutbasket(&arguments, &bytes);
+            let refused = ended.status != 0;
+            match refused {
+                false => assert_eq!(ended.told, "", "{bytes:?}"),
+                true => assert!(ended.ended(1).contains(": refused "), "{bytes:?}"),
+            }
+            ends[refused as usize] += 1;
+        }
+    }
+    assert!(ends.iter().all(|&seen| seen > 0), "{ends:?}");
+}
+
+/// Every bit of a chain's file turned: it passes where the reference says so.
+#[test]
+fn every_bit() {
+    let folder = Folder::new("bits");
+    let sheet = folder.file("sheet", WEEK);
+    let amounts = [3, 0, 2, 1, 2, 0, 0, 0, 2, 3, 2, 1];
+    let file = file_of(&best(&Job::new(3, 4, &amounts, 1, 1))).unwrap();
+    let scratch = (EDITION_STEPS, MOST_PAYSLIPS, EDITION_VALUES);
+    for bit in 0..8 * file.len() {
+        let mut turned = file.clone();
+        turned[bit / 8] ^= 0x80 >> (bit % 8);
+        let judged = reference::choose(3, 4, &amounts, &turned, &[], scratch);
+        let checked = spoutbasket(&["check", &sheet, "-"], &turned);
+        match judged {
+            Ok(_) => assert_eq!(checked.status, 0, "{bit}"),
+            Err((number, _)) => {
+                let why = format!("standard input: refused {number}");
+                assert!(checked.ended(1).starts_with(&why), "{bit}");
+            }
+        }
+    }
 }
 
 /// The sample of the read-me.
@@ -226,13 +256,10 @@ fn sheet_31() {
 
 #[test]
 fn one_object_on_one_line() {
-    let folder = Folder::new("json");
-    folder.file("week.txt", WEEK);
-    folder.file("bank.keys", KEYS);
+    let folder = Folder::week("json");
     folder.file("few.keys", "10000 3 5\n");
     let said = folder.script(
-        "spoutbasket compile week.txt -o week.chain
-        spoutbasket check --json week.txt week.chain
+        "spoutbasket check --json week.txt week.chain
         spoutbasket list --json week.chain
         spoutbasket run --json --keys bank.keys week.chain
         spoutbasket figures --json --keys bank.keys week.txt
@@ -318,9 +345,7 @@ fn choices() {
 /// Names that are standard streams, names that look like options, and options in any place.
 #[test]
 fn names() {
-    let folder = Folder::new("names");
-    folder.file("week.txt", WEEK);
-    folder.file("bank.keys", KEYS);
+    let folder = Folder::week("names");
     let said = folder.script(
         "set -euo pipefail
         spoutbasket compile < week.txt | cat > 1.chain
@@ -332,7 +357,8 @@ fn names() {
         cp week.txt ./-week; cp week.txt ./--table
         spoutbasket compile -o 6.chain -- -week
         spoutbasket compile -o 7.chain -- --table
-        for n in 2 3 4 5 6 7; do cmp 1.chain $n.chain; done
+        for n in 1 2 3 4 5 6 7; do cmp week.chain $n.chain; done
+        cp week.txt $'\\xff.txt'; spoutbasket check $'\\xff.txt' 1.chain > odd; rm $'\\xff.txt'
         spoutbasket check - 1.chain < week.txt
         spoutbasket check week.txt - < 1.chain
         spoutbasket check /dev/stdin 1.chain --json < week.txt
@@ -342,10 +368,9 @@ fn names() {
         spoutbasket figures week.txt --keys - < bank.keys | tail -n 1
         { cat bank.keys; } | spoutbasket figures --keys - -- week.txt | tail -n 1",
     );
-    let passed = "passed: 3 columns, 4 payslips, 9 steps\n";
     let object = "{\"passed\":true,\"columns\":3,\"payslips\":4,\"steps\":9}\n";
     let run = "1323\n1323\n9 multiplications\n9 multiplications\n";
-    assert_eq!(said.done(), format!("{passed}{passed}{object}3 4 9\n{run}"));
+    assert_eq!(said.done(), format!("{PASSED}{PASSED}{object}3 4 9\n{run}"));
     // a name that would break the line
     let odd = folder.path("two\nlines\u{1b}");
     let line = spoutbasket(&["list", &odd], b"").ended(3);

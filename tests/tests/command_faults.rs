@@ -1,23 +1,11 @@
 //! The command where input or output fails: the status and the line, and a chain file that is whole or not there.
-use spoutbasket_tests::command::{end, spoutbasket, start, Ended, Folder};
+use spoutbasket_tests::command::{end, spoutbasket, start, Ended, Folder, PASSED};
 use spoutbasket_tests::texts::phrase;
 use std::io::Write;
 use std::os::unix::fs::{symlink, MetadataExt, PermissionsExt};
 use std::time::Duration;
 
-const WEEK: &str = "3 4\n3 0 2\n1 2 0\n0 0 2\n3 2 1\n";
-const PASSED: &str = "passed: 3 columns, 4 payslips, 9 steps\n";
 const FULL: &str = "No space left on device (os error 28)";
-
-/// A folder with the manual's week: sheet, keys and chain.
-fn week(name: &str) -> Folder {
-    let folder = Folder::new(name);
-    let sheet = folder.file("week.txt", WEEK);
-    folder.file("bank.keys", "10000\n3 5 7\n");
-    let chain = folder.path("week.chain");
-    spoutbasket(&["compile", &sheet, "-o", &chain], b"").done();
-    folder
-}
 
 /// The commands that write to standard output.
 const WRITING: [&str; 10] = [
@@ -35,7 +23,7 @@ const WRITING: [&str; 10] = [
 
 #[test]
 fn a_full_device() {
-    let folder = week("full");
+    let folder = Folder::week("full");
     for command in WRITING {
         let ended = folder.script(&format!("spoutbasket {command} > /dev/full"));
         assert_eq!(
@@ -64,7 +52,7 @@ fn a_full_device() {
 
 #[test]
 fn closed_output() {
-    let folder = week("closed");
+    let folder = Folder::week("closed");
     for command in WRITING {
         // the reader is gone before the command starts
         let ended = folder.script(&format!(
@@ -118,7 +106,7 @@ fn a_producer_that_pauses_or_dies() {
     assert_eq!(cut.ended(1), format!("standard input: {why}"));
 
     // a chain and keys in parts
-    let folder = week("parts");
+    let folder = Folder::week("parts");
     let chain = std::fs::read(folder.path("week.chain")).unwrap();
     let ended = folder.script(
         "{ head -c 5 week.chain; sleep 0.2; tail -c +6 week.chain; } | spoutbasket check week.txt -",
@@ -136,7 +124,7 @@ fn a_producer_that_pauses_or_dies() {
 
 #[test]
 fn input_that_cannot_be_read() {
-    let folder = week("unread");
+    let folder = Folder::week("unread");
     folder.script("mkdir folder").done();
     for (name, why) in [
         ("folder", "Is a directory (os error 21)"),
@@ -194,7 +182,7 @@ fn input_that_cannot_be_read() {
 
 #[test]
 fn output_that_cannot_be_written() {
-    let folder = week("unwritten");
+    let folder = Folder::week("unwritten");
     folder
         .script("mkdir folder; echo old > old.chain; ln week.txt same.txt")
         .done();
@@ -264,7 +252,7 @@ fn no_half_of_a_chain() {
 /// Whoever reads the name while it is written has one whole chain or the other.
 #[test]
 fn readers_of_a_chain_that_is_replaced() {
-    let folder = week("replaced");
+    let folder = Folder::week("replaced");
     let (sheet, chain) = (folder.path("week.txt"), folder.path("week.chain"));
     let compile = |method: &str| {
         spoutbasket(&["compile", "--method", method, &sheet, "-o", &chain], b"").done();
@@ -289,7 +277,7 @@ fn readers_of_a_chain_that_is_replaced() {
 /// A new file with a new file's mode; other names of the old one keep it; a link stays a link; devices and pipes are written as they are.
 #[test]
 fn where_a_chain_goes() {
-    let folder = week("target");
+    let folder = Folder::week("target");
     folder
         .script("echo old > old.chain; ln old.chain other.chain; mkdir far")
         .done();
@@ -321,7 +309,7 @@ fn where_a_chain_goes() {
 /// A person's terminal gets no chain's bytes unless that is asked for.
 #[test]
 fn a_terminal() {
-    let folder = week("terminal");
+    let folder = Folder::week("terminal");
     let on_terminal = |command: &str| {
         let said = folder.script(&format!("script -qec 'spoutbasket {command}' /dev/null"));
         (
@@ -349,7 +337,7 @@ fn a_terminal() {
 /// A night's script releases what passed and nothing else.
 #[test]
 fn a_night() {
-    let folder = week("night");
+    let folder = Folder::week("night");
     folder
         .script("{ printf '\\21'; tail -c +2 week.chain; } > flipped.chain")
         .done();

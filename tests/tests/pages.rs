@@ -1,5 +1,5 @@
 //! What the pages say of the command is what it does: synopses, the example, the night's script, the sample.
-use spoutbasket_tests::command::{spoutbasket, Folder};
+use spoutbasket_tests::command::{spoutbasket, Folder, KEYS, WEEK};
 
 fn page(name: &str) -> String {
     let path = format!("{}/../{name}", env!("CARGO_MANIFEST_DIR"));
@@ -25,9 +25,11 @@ fn shown(page: &str, words: &str) -> String {
 fn week(name: &str) -> Folder {
     let manual = page("docs/MANUAL.md");
     let folder = Folder::new(name);
-    folder.file("week.txt", shown(&manual, "**Plain**"));
+    assert_eq!(shown(&manual, "**Plain**"), WEEK);
+    folder.file("week.txt", WEEK);
     folder.file("week.csv", shown(&manual, "**A table**"));
-    folder.file("bank.keys", shown(&manual, "## Keys"));
+    assert_eq!(shown(&manual, "## Keys"), KEYS);
+    folder.file("bank.keys", KEYS);
     folder
 }
 

@@ -7,6 +7,7 @@ fn main() -> ExitCode {
     println!("cargo:rerun-if-env-changed=SPOUTBASKET_LIB_DIR");
     let named = std::env::var_os("SPOUTBASKET_LIB_DIR").map(PathBuf::from);
     let folder = named.unwrap_or(Path::new(env!("CARGO_MANIFEST_DIR")).join("../target/staticlib"));
+    let folder = std::path::absolute(&folder).unwrap_or(folder);
     let archive = folder.join("libspoutbasket.a");
     println!("cargo:rerun-if-changed={}", archive.display());
     if !archive.is_file() {

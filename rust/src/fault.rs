@@ -1,88 +1,5 @@
-use crate::phrase::phrase;
-use crate::{Refusal, MOST_COLUMNS};
-use std::{error, fmt, io};
-
-/// Why a text is turned down.
-///
-/// ```
-/// use spoutbasket::TextReason;
-///
-/// assert_eq!(TextReason::from(106), TextReason::Sign);
-/// assert_eq!(TextReason::Sign.number(), 106);
-/// assert_eq!(TextReason::CutOff.to_string(), "cut off: the last line has no newline");
-/// ```
-#[derive(Clone, Copy, Debug, PartialEq, Eq, Hash, PartialOrd, Ord)]
-#[non_exhaustive]
-pub enum TextReason {
-    /// 1: a table has no columns or more than 16, or no payslips or more than 64.
-    Sizes,
-    /// 5: there are more numbers than there is room for.
-    Room,
-    /// 101: a byte that is neither a digit nor a separator.
-    Byte,
-    /// 102: a number above 4,294,967,295.
-    Large,
-    /// 103: the last line has no newline, so the text may have been cut off.
-    CutOff,
-    /// 104: a line of a table has more or fewer amounts than the first.
-    Fields,
-    /// 105: a decimal point or a grouping mark.
-    Mark,
-    /// 106: a sign.
-    Sign,
-    /// 107: no amount between two separators of a table.
-    Empty,
-    /// Any other number.
-    Other(u32),
-}
-
-/// The reasons and their numbers.
-const REASONS: [(u32, TextReason); 9] = [
-    (1, TextReason::Sizes),
-    (5, TextReason::Room),
-    (101, TextReason::Byte),
-    (102, TextReason::Large),
-    (103, TextReason::CutOff),
-    (104, TextReason::Fields),
-    (105, TextReason::Mark),
-    (106, TextReason::Sign),
-    (107, TextReason::Empty),
-];
-
-impl TextReason {
-    /// The reason's number.
-    #[must_use]
-    pub fn number(self) -> u32 {
-        match self {
-            TextReason::Other(number) => number,
-            _ => REASONS
-                .iter()
-                .find(|(_, r)| *r == self)
-                .map_or(0, |&(number, _)| number),
-        }
-    }
-
-    /// The library's words for the reason.
-    #[must_use]
-    pub fn phrase(self) -> &'static str {
-        phrase(self.number())
-    }
-}
-
-/// The reason of a number; no number is lost.
-impl From<u32> for TextReason {
-    fn from(number: u32) -> TextReason {
-        let known = REASONS.iter().find(|(n, _)| *n == number);
-        known.map_or(TextReason::Other(number), |&(_, reason)| reason)
-    }
-}
-
-/// The library's words.
-impl fmt::Display for TextReason {
-    fn fmt(&self, f: &mut fmt::Formatter) -> fmt::Result {
-        f.pad(self.phrase())
-    }
-}
+use crate::{Refusal, TextReason, MOST_COLUMNS};
+use std::{fmt, io};
 
 /// A text turned down: where, why, and what was found there.
 ///
@@ -183,14 +100,7 @@ impl fmt::Display for TextFault {
     }
 }
 
-/// As `Display`.
-impl fmt::Debug for TextFault {
-    fn fmt(&self, f: &mut fmt::Formatter) -> fmt::Result {
-        fmt::Display::fmt(self, f)
-    }
-}
-
-impl error::Error for TextFault {}
+error_in_words!(TextFault);
 
 impl From<TextFault> for io::Error {
     fn from(fault: TextFault) -> io::Error {
@@ -238,14 +148,7 @@ impl fmt::Display for SheetError {
     }
 }
 
-/// As `Display`.
-impl fmt::Debug for SheetError {
-    fn fmt(&self, f: &mut fmt::Formatter) -> fmt::Result {
-        fmt::Display::fmt(self, f)
-    }
-}
-
-impl error::Error for SheetError {}
+error_in_words!(SheetError);
 
 impl From<TextFault> for SheetError {
     fn from(fault: TextFault) -> SheetError {

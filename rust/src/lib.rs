@@ -25,13 +25,27 @@
 #![deny(unsafe_code)]
 #![warn(missing_docs)]
 
+/// Makes a type an error whose `Debug` says what its `Display` says.
+macro_rules! error_in_words {
+    ($error:ident) => {
+        /// As `Display`.
+        impl std::fmt::Debug for $error {
+            fn fmt(&self, f: &mut std::fmt::Formatter) -> std::fmt::Result {
+                std::fmt::Display::fmt(self, f)
+            }
+        }
+
+        impl std::error::Error for $error {}
+    };
+}
+
 mod chain;
 mod choose;
 mod fault;
 mod keys;
 mod listing;
 mod method;
-mod phrase;
+mod reason;
 mod refusal;
 mod sheet;
 #[allow(unsafe_code)]
@@ -39,11 +53,12 @@ pub mod slices;
 
 pub use chain::{Chain, Run};
 pub use choose::choose;
-pub use fault::{SheetError, TextFault, TextReason};
+pub use fault::{SheetError, TextFault};
 pub use keys::Keys;
 pub use listing::{list, list_text, Listing};
 pub use method::Method;
-pub use refusal::{Reason, Refusal};
+pub use reason::{Reason, TextReason};
+pub use refusal::Refusal;
 pub use sheet::Sheet;
 
 /// The version of this package and of the header.

@@ -1,110 +1,5 @@
-use crate::phrase::phrase;
-use std::{error, fmt, io};
-
-/// Why input is turned down: the refusals of the specification (docs/SPEC.md, 10.1), in the order of their numbers.
-///
-/// ```
-/// use spoutbasket::Reason;
-///
-/// assert_eq!(Reason::from(10), Reason::OperandHigh);
-/// assert_eq!(Reason::OperandHigh.number(), 10);
-/// assert_eq!(Reason::OperandHigh.to_string(), "operand not below its own value");
-/// ```
-#[derive(Clone, Copy, Debug, PartialEq, Eq, Hash, PartialOrd, Ord)]
-#[non_exhaustive]
-pub enum Reason {
-    /// 1: the columns are not 1 to 16, or the payslips not 1 to 64.
-    Sizes,
-    /// 2: the amounts are not as many as columns times payslips.
-    Amounts,
-    /// 3: there is no such method, or its parameter is out of range.
-    Method,
-    /// 4: the chain has too many steps.
-    Steps,
-    /// 5: a lent slice is too short.
-    Room,
-    /// 6: a file is under 4 bytes, or not as long as it states.
-    Length,
-    /// 7: a file is of another edition.
-    Edition,
-    /// 8: a filling bit of a file is set.
-    Filling,
-    /// 9: an operand is value 0.
-    OperandZero,
-    /// 10: an operand is not below the value that its step makes.
-    OperandHigh,
-    /// 11: a first operand is smaller than the second.
-    OperandOrder,
-    /// 12: an output is above the last value.
-    Output,
-    /// 13: an exponent is too large.
-    Exponent,
-    /// 14: an output's exponents are not its payslip, or the chain is for a sheet of another shape.
-    Payslip,
-    /// 15: the modulus is 0.
-    Modulus,
-    /// 16: the bases are not one for each column, or one is not below the modulus.
-    Bases,
-    /// Any other number.
-    Other(u32),
-}
-
-/// The reasons by number, from 1.
-const REASONS: [Reason; 16] = [
-    Reason::Sizes,
-    Reason::Amounts,
-    Reason::Method,
-    Reason::Steps,
-    Reason::Room,
-    Reason::Length,
-    Reason::Edition,
-    Reason::Filling,
-    Reason::OperandZero,
-    Reason::OperandHigh,
-    Reason::OperandOrder,
-    Reason::Output,
-    Reason::Exponent,
-    Reason::Payslip,
-    Reason::Modulus,
-    Reason::Bases,
-];
-
-impl Reason {
-    /// The reason's number.
-    #[must_use]
-    pub fn number(self) -> u32 {
-        match self {
-            Reason::Other(number) => number,
-            _ => REASONS
-                .iter()
-                .position(|&r| r == self)
-                .map_or(0, |i| i as u32 + 1),
-        }
-    }
-
-    /// The library's words for the reason.
-    #[must_use]
-    pub fn phrase(self) -> &'static str {
-        phrase(self.number())
-    }
-}
-
-/// The reason of a number; no number is lost.
-impl From<u32> for Reason {
-    fn from(number: u32) -> Reason {
-        let known = (number as usize)
-            .checked_sub(1)
-            .and_then(|i| REASONS.get(i));
-        known.copied().unwrap_or(Reason::Other(number))
-    }
-}
-
-/// The library's words.
-impl fmt::Display for Reason {
-    fn fmt(&self, f: &mut fmt::Formatter) -> fmt::Result {
-        f.pad(self.phrase())
-    }
-}
+use crate::Reason;
+use std::{fmt, io};
 
 /// Input turned down, by reason and place.
 ///
@@ -172,14 +67,7 @@ impl fmt::Display for Refusal {
     }
 }
 
-/// As `Display`.
-impl fmt::Debug for Refusal {
-    fn fmt(&self, f: &mut fmt::Formatter) -> fmt::Result {
-        fmt::Display::fmt(self, f)
-    }
-}
-
-impl error::Error for Refusal {}
+error_in_words!(Refusal);
 
 /// `InvalidInput` for a method and for room, which the caller gives; `InvalidData` for all that is read.
 impl From<Refusal> for io::Error {

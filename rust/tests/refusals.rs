@@ -29,6 +29,16 @@ fn sheets_and_methods() -> Result<(), Refusal> {
     }
     refused(2, 0, Sheet::new(2, 1, [1, 2, 3]));
     refused(2, 0, Sheet::new(2, 1, []));
+    let none: [[u32; 2]; 0] = [];
+    refused(1, 0, Sheet::from_rows(none));
+    refused(1, 0, Sheet::from_rows([[]]));
+    refused(1, 0, Sheet::from_rows([[0; 17]]));
+    refused(1, 0, Sheet::from_rows([[0; 2]; 65]));
+    let uneven: [&[u32]; 2] = [&[1, 2], &[3]];
+    refused(2, 0, Sheet::from_rows(uneven));
+    // as many amounts as two columns times three payslips
+    let uneven: [&[u32]; 3] = [&[1, 2], &[3], &[4, 5, 6]];
+    refused(2, 0, Sheet::from_rows(uneven));
     refused(3, 0, Sheet::new(11, 1, [1; 11])?.compile(Method::Straus(1)));
     refused(
         3,

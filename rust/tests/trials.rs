@@ -39,6 +39,7 @@ fn trial_a() -> Result<(), Refusal> {
     );
     assert_eq!(chain.to_file()?, FILE_A);
     assert_eq!(Chain::from_file(&FILE_A)?, chain);
+    assert_eq!(Chain::try_from(&FILE_A[..])?, chain);
     assert_eq!(figures(&sheet, Method::Straus(1), 1_000, &[3, 5])?, [675]);
     Ok(())
 }

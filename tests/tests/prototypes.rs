@@ -102,6 +102,12 @@ fn differences() {
         ),
         (
             SLICES,
+            "functions! {\n",
+            "function! {\n",
+            "spoutbasket_compile is missing",
+        ),
+        (
+            SLICES,
             "        modulus: u32,",
             "        modulus: usize,",
             "spoutbasket_run: argument 4 is 'modulus: usize', and the library's 'modulus: u32'",

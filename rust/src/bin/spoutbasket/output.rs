@@ -72,7 +72,7 @@ fn standard(bytes: &[u8], wanted: bool) -> Result<(), Failure> {
         file.write_all(bytes)?;
         // a device that is full may be known only when the bytes reach it
         if file.metadata()?.is_file() {
-            file.sync_data()?;
+            synced(file.sync_data())?;
         }
         Ok(())
     };
@@ -85,8 +85,9 @@ fn standard(bytes: &[u8], wanted: bool) -> Result<(), Failure> {
 /// Whether standard output was closed at the start: the Rust runtime then has /dev/null in its place, open for reading and writing, which
 /// `> /dev/null` is not.
 fn was_closed(file: &File) -> io::Result<bool> {
-    let (ours, null) = (file.metadata()?, fs::metadata("/dev/null")?);
-    if !ours.file_type().is_char_device() || ours.rdev() != null.rdev() {
+    let ours = file.metadata()?;
+    let is_null = |null: fs::Metadata| null.rdev() == ours.rdev();
+    if !ours.file_type().is_char_device() || !fs::metadata("/dev/null").is_ok_and(is_null) {
         return Ok(false);
     }
     let info = fs::read_to_string("/proc/self/fdinfo/1").unwrap_or_default();
@@ -138,15 +139,23 @@ fn beside(folder: &Path) -> io::Result<(PathBuf, File)> {
 
 fn fill(mut file: File, bytes: &[u8]) -> io::Result<()> {
     file.write_all(bytes)?;
-    file.sync_all()
+    synced(file.sync_all())
 }
 
-/// Brings the new name to the device, where the file system can do that.
+/// Brings the new name to the device. A folder that may be written and not read cannot be synced.
 fn sync_folder(folder: &Path) -> io::Result<()> {
-    match File::open(folder)?.sync_all() {
+    match File::open(folder) {
+        Err(why) if why.kind() == ErrorKind::PermissionDenied => Ok(()),
+        opened => synced(opened?.sync_all()),
+    }
+}
+
+/// A file system that has no such sync has not failed.
+fn synced(sync: io::Result<()>) -> io::Result<()> {
+    match sync {
         Err(why) if matches!(why.kind(), ErrorKind::InvalidInput | ErrorKind::Unsupported) => {
             Ok(())
         }
-        synced => synced,
+        sync => sync,
     }
 }

@@ -1,0 +1,199 @@
+//! Sheets, chains and keys out of what is read, each by the library; and in words why one is turned down.
+use crate::input::Source;
+use crate::messages::{counted, Failure, Refused};
+use spoutbasket::{choose, list, slices, Chain, Keys, Listing, Method, Reason, Refusal};
+use spoutbasket::{Sheet, SheetError, TextFault, LONGEST_FILE, MOST_COLUMNS, MOST_PAYSLIPS};
+
+/// The sheet of a table, or of the plain numbers p, q and the amounts.
+pub fn sheet(source: &Source, table: bool) -> Result<Sheet, Failure> {
+    let text = source.text()?;
+    let read = if table { by_table } else { by_numbers };
+    Ok(read(source, &text)?)
+}
+
+fn by_table(source: &Source, text: &[u8]) -> Result<Sheet, Refused> {
+    Sheet::from_table(text).map_err(|error| match error {
+        SheetError::Text(fault) => Refused::in_text(source.name(), &fault),
+        SheetError::Refusal(refusal) => Refused::new(source.name(), refusal, None),
+        _ => unreachable!("a sheet's error is one of the two"),
+    })
+}
+
+fn by_numbers(source: &Source, text: &[u8]) -> Result<Sheet, Refused> {
+    let judged = numbers(text)
+        .map_err(|fault| Refused::in_text(source.name(), &fault))
+        .and_then(|numbers| {
+            let size = |place: usize| numbers.get(place).map_or(0, |&size| size as usize);
+            let amounts = numbers.get(2..).unwrap_or_default();
+            Sheet::new(size(0), size(1), amounts)
+                .map_err(|refusal| Refused::new(source.name(), refusal, misshapen(&numbers)))
+        });
+    let like_a_table = |byte: &u8| matches!(byte, b',' | b';') || byte.is_ascii_alphabetic();
+    judged.map_err(|refused| match text.iter().any(like_a_table) {
+        true => refused.and("for a table, one payslip a line, give --table"),
+        false => refused,
+    })
+}
+
+/// The numbers of a text, with room for as many as it can have.
+fn numbers(text: &[u8]) -> Result<Vec<u32>, TextFault> {
+    let (mut numbers, mut words) = (vec![0; text.len().div_ceil(2)], [0; 4]);
+    let number = slices::numbers(text, &mut numbers, &mut words);
+    let [line, column, found, wanted] = words;
+    if number != 0 {
+        return Err(TextFault {
+            line,
+            column,
+            reason: number.into(),
+            found,
+            wanted,
+        });
+    }
+    numbers.truncate(words[0] as usize);
+    Ok(numbers)
+}
+
+/// Why a plain sheet's numbers are no sheet.
+fn misshapen(numbers: &[u32]) -> Option<String> {
+    let [p, q, amounts @ ..] = numbers else {
+        let missing = if numbers.is_empty() { "p" } else { "q" };
+        return Some(format!("{missing} is missing"));
+    };
+    let (p, q) = (*p as usize, *q as usize);
+    size("p", p, MOST_COLUMNS)
+        .or_else(|| size("q", q, MOST_PAYSLIPS))
+        .or_else(|| Some(format!("{} found, {} wanted", amounts.len(), p * q)))
+}
+
+/// A size that is out of range, if it is.
+fn size(name: &str, found: usize, most: usize) -> Option<String> {
+    match found {
+        0 => Some(format!("{name} is 0, at least 1")),
+        _ if found > most => Some(format!("{name} is {found}, at most {most}")),
+        _ => None,
+    }
+}
+
+/// A receiver's modulus and bases.
+pub fn keys(source: &Source) -> Result<Keys, Failure> {
+    let numbers = numbers(&source.text()?);
+    let numbers = numbers.map_err(|fault| Refused::in_text(source.name(), &fault))?;
+    // a text without numbers has modulus 0, which is refused
+    let (&modulus, bases) = numbers.split_first().unwrap_or((&0, &[]));
+    let bases = bases.to_vec();
+    Ok(Keys { modulus, bases })
+}
+
+/// A run refused for its keys, if it is that.
+pub fn refused_keys(
+    source: &Source,
+    keys: &Keys,
+    columns: usize,
+    refusal: Refusal,
+) -> Option<Refused> {
+    let detail = match refusal.reason {
+        Reason::Modulus => None,
+        Reason::Bases => misfit(keys, columns),
+        _ => return None,
+    };
+    Some(Refused::new(source.name(), refusal, detail))
+}
+
+/// Why bases do not go with as many columns or with their modulus.
+fn misfit(keys: &Keys, columns: usize) -> Option<String> {
+    let found = keys.bases.len();
+    if found != columns {
+        return Some(format!("{}, {columns} wanted", counted(found, "base")));
+    }
+    let at = keys.bases.iter().position(|&base| base >= keys.modulus)?;
+    let (place, base, modulus) = (at + 1, keys.bases[at], keys.modulus);
+    Some(format!("base {place} is {base}, the modulus {modulus}"))
+}
+
+/// The chain of a file.
+pub fn chain(source: &Source, bytes: &[u8]) -> Result<Chain, Refused> {
+    Chain::from_file(bytes).map_err(|refusal| refused_file(source, bytes, refusal))
+}
+
+/// What a chain makes.
+pub fn listing(source: &Source, bytes: &[u8]) -> Result<Listing, Refused> {
+    let chain = chain(source, bytes)?;
+    list(bytes).map_err(|refusal| {
+        // a listing tells no place; the check does, and of 13 it does so whatever the amounts are
+        let (p, q) = (chain.columns, chain.outputs.len());
+        let zeros = Sheet::new(p, q, vec![0; p * q]);
+        let placed = zeros.and_then(|sheet| chain.check(&sheet)).err();
+        let placed = placed.filter(|placed| placed.reason == refusal.reason);
+        refused_file(source, bytes, placed.unwrap_or(refusal))
+    })
+}
+
+/// A file that is no chain's, or whose chain is refused.
+pub fn refused_file(source: &Source, bytes: &[u8], refusal: Refusal) -> Refused {
+    let detail = match refusal.reason {
+        Reason::Length if bytes.len() > LONGEST_FILE => {
+            Some(format!("over {LONGEST_FILE} bytes, the longest file"))
+        }
+        Reason::Length => Some(counted(bytes.len(), "byte")),
+        Reason::Edition => bytes
+            .first()
+            .map(|byte| format!("edition {} found, 1 wanted", byte >> 4)),
+        _ => None,
+    };
+    Refused::new(source.name(), refusal, detail)
+}
+
+/// The chain of a file that makes the sheet. It is judged by the chooser, which compares p and q too and never takes a file of no bytes.
+pub fn checked(sheet: &Sheet, source: &Source, bytes: &[u8]) -> Result<Chain, Refused> {
+    match choose(sheet, bytes, &[]) {
+        Ok(_) => chain(source, bytes),
+        Err(refusal) => Err(unlike(sheet, source, bytes, refusal)),
+    }
+}
+
+/// A file that does not make a sheet.
+pub fn unlike(sheet: &Sheet, source: &Source, bytes: &[u8], refusal: Refusal) -> Refused {
+    if refusal.reason != Reason::Payslip {
+        return refused_file(source, bytes, refusal);
+    }
+    let detail = Chain::from_file(bytes).ok().and_then(|chain| {
+        let shape = |what, made, wanted| {
+            let differs = made != wanted;
+            differs.then(|| format!("the chain has {}, the sheet {wanted}", counted(made, what)))
+        };
+        shape("column", chain.columns, sheet.columns())
+            .or_else(|| shape("payslip", chain.outputs.len(), sheet.payslips()))
+            .or_else(|| other_column(&list(bytes).ok()?, sheet, refusal.place))
+    });
+    Refused::new(source.name(), refusal, detail)
+}
+
+/// The first column of a payslip in which a chain makes another amount. The amounts are not told.
+fn other_column(made: &Listing, sheet: &Sheet, payslip: usize) -> Option<String> {
+    let at = payslip.checked_sub(1)?;
+    let mut amounts = made.rows().nth(at)?.iter().zip(sheet.rows().nth(at)?);
+    let column = amounts.position(|(made, wanted)| made != wanted)?;
+    Some(format!("column {} is another amount", column + 1))
+}
+
+/// A sheet that a method refuses, or that no method takes.
+pub fn refused_sheet(source: &Source, method: Option<Method>, refusal: Refusal) -> Refused {
+    let detail = match (refusal.reason, method) {
+        (Reason::Method, Some(method)) => Some(range(method).to_string()),
+        (Reason::Steps, Some(method)) => {
+            Some(format!("by {method}; --best may find a shorter chain"))
+        }
+        (Reason::Steps, None) => Some("by every method".to_string()),
+        _ => None,
+    };
+    Refused::new(source.name(), refusal, detail)
+}
+
+/// The parameters that a method takes.
+fn range(method: Method) -> &'static str {
+    match method {
+        Method::Straus(_) => "method straus takes k from 1 to 5 with p times k at most 10",
+        Method::Yao(_) => "method yao takes k from 1 to 8",
+        Method::Partition(_) => "method partition takes c from 1 to 8",
+    }
+}

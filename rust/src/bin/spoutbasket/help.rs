@@ -1,0 +1,111 @@
+//! The help texts.
+
+/// The text of `--help`.
+pub const OVERVIEW: &str = "\
+Usage: spoutbasket COMMAND ..
+       spoutbasket help COMMAND
+       spoutbasket --help | --version
+
+Commands:
+  compile  make a sheet's chain, the shortest unless a method is named
+  check    hold a chain against a sheet
+  choose   take the better of two chains for a sheet
+  list     read the amounts back out of a chain
+  run      make the control figures of a chain
+  figures  make the control figures of a sheet: compile, write, read, check, run
+
+A missing name, or -, is standard input or output. -- ends the options.
+Exit status: 0 done, 1 refused, 2 wrong use, 3 input or output failed.
+";
+
+/// The commands' texts by name.
+pub const COMMANDS: [(&str, &str); 6] = [
+    (
+        "compile",
+        "\
+Usage: spoutbasket compile [--best | --method METHOD] [--table] [-o CHAIN] [-v] [SHEET]
+
+Makes a sheet's chain and writes its file.
+
+  --best           the fewest steps over every method and parameter (the default)
+  --method METHOD  straus:K, K from 1 to 5 with p times K at most 10;
+                   yao:K, K from 1 to 8; partition:C, C from 1 to 8
+  --table          the sheet is a table, one payslip a line
+  -o CHAIN         the file to write, whole or not at all; else standard output
+  -v, --verbose    say the method and the steps on standard error
+
+Example: spoutbasket compile week.txt -o week.chain
+",
+    ),
+    (
+        "check",
+        "\
+Usage: spoutbasket check [--table] [--json] SHEET CHAIN
+
+Holds a chain against a sheet, whoever made it: passed, or refused with status 1.
+
+  --table  the sheet is a table, one payslip a line
+  --json   the result as one JSON object
+
+Example: if spoutbasket check week.txt week.chain; then send week.chain; fi
+",
+    ),
+    (
+        "choose",
+        "\
+Usage: spoutbasket choose [--table] [-o CHAIN] [-v] SHEET FIRST SECOND
+
+Takes, of two chains, the one that makes the sheet; if both do, the one with fewer
+steps, the first where they have as many. Writes that file byte for byte.
+
+  --table        the sheet is a table, one payslip a line
+  -o CHAIN       the file to write, whole or not at all; else standard output
+  -v, --verbose  say which was taken on standard error
+
+Example: spoutbasket choose week.txt ours.chain theirs.chain -o best.chain
+",
+    ),
+    (
+        "list",
+        "\
+Usage: spoutbasket list [--json] [CHAIN]
+
+Reads the amounts back out of a chain: a line with its columns, payslips and steps, then
+for each payslip a line with its number and its amounts.
+
+  --json  the result as one JSON object
+
+Example: spoutbasket list week.chain
+",
+    ),
+    (
+        "run",
+        "\
+Usage: spoutbasket run --keys FILE [--json] [CHAIN]
+
+Makes the control figures of a chain, one a line, and says how many multiplications
+that took.
+
+  --keys FILE  the receiver's modulus, then its bases, one for each column
+  --json       the result as one JSON object
+
+Example: spoutbasket run --keys bank.keys week.chain
+",
+    ),
+    (
+        "figures",
+        "\
+Usage: spoutbasket figures --keys FILE [--method METHOD] [--table] [--json] [SHEET]
+
+Makes the control figures of a sheet: compiles it, writes the chain, reads it, checks
+what was read, and runs it.
+
+  --keys FILE      the receiver's modulus, then its bases, one for each column
+  --method METHOD  as for compile; else the one with the fewest steps
+  --table          the sheet is a table, one payslip a line
+  --json           the result as one JSON object
+
+Example: spoutbasket figures --keys bank.keys week.txt
+",
+    ),
+];

@@ -1,0 +1,73 @@
+//! What is read: a file named, or standard input, up to its end.
+use crate::messages::{shown, Failure};
+use spoutbasket::LONGEST_FILE;
+use std::ffi::OsStr;
+use std::fs::File;
+use std::io::{self, Read};
+use std::os::fd::AsFd;
+use std::path::PathBuf;
+
+/// The most bytes of a text. The largest sheet has a few thousand, so this only ends the reading of what is none.
+const LONGEST_TEXT: usize = 16 << 20;
+
+/// Where input comes from.
+#[derive(PartialEq)]
+pub enum Source {
+    Standard,
+    File(PathBuf),
+}
+
+impl Source {
+    /// `-` and no name at all are standard input.
+    pub fn new(name: Option<&OsStr>) -> Source {
+        match name {
+            None => Source::Standard,
+            Some(name) if name == "-" || name == "/dev/stdin" => Source::Standard,
+            Some(name) => Source::File(name.into()),
+        }
+    }
+
+    /// The name in messages.
+    pub fn name(&self) -> String {
+        match self {
+            Source::Standard => "standard input".to_string(),
+            Source::File(path) => shown(path),
+        }
+    }
+
+    /// A text, whole.
+    pub fn text(&self) -> Result<Vec<u8>, Failure> {
+        let bytes = self.bytes(LONGEST_TEXT + 1)?;
+        if bytes.len() > LONGEST_TEXT {
+            return Err(self.failed("longer than 16 MiB"));
+        }
+        Ok(bytes)
+    }
+
+    /// A chain's file; of a longer one as much as shows that it is too long.
+    pub fn chain(&self) -> Result<Vec<u8>, Failure> {
+        self.bytes(LONGEST_FILE + 1)
+    }
+
+    fn bytes(&self, most: usize) -> Result<Vec<u8>, Failure> {
+        let mut bytes = vec![];
+        self.open()
+            .and_then(|file| file.take(most as u64).read_to_end(&mut bytes))
+            .map_err(|why| self.failed(&why.to_string()))?;
+        Ok(bytes)
+    }
+
+    fn open(&self) -> io::Result<File> {
+        match self {
+            Source::Standard => Ok(io::stdin().as_fd().try_clone_to_owned()?.into()),
+            Source::File(path) => File::open(path),
+        }
+    }
+
+    fn failed(&self, why: &str) -> Failure {
+        Failure::Device {
+            name: self.name(),
+            why: why.to_string(),
+        }
+    }
+}

@@ -1,0 +1,145 @@
+//! The command, run as a script runs it.
+use std::io::Write;
+use std::path::{Path, PathBuf};
+use std::process::{Child, Command, Stdio};
+
+/// The manual's week: four payslips of three pay elements, and a receiver's keys.
+pub const WEEK: &str = "3 4\n3 0 2\n1 2 0\n0 0 2\n3 2 1\n";
+pub const KEYS: &str = "10000\n3 5 7\n";
+/// What the check says of the week's shortest chain.
+pub const PASSED: &str = "passed: 3 columns, 4 payslips, 9 steps\n";
+
+/// How a run ended.
+#[derive(Debug)]
+pub struct Ended {
+    pub status: i32,
+    /// Standard output.
+    pub said: Vec<u8>,
+    /// Standard error.
+    pub told: String,
+}
+
+impl Ended {
+    /// Done, quietly; what was said, as text.
+    pub fn done(self) -> String {
+        assert_eq!((self.status, self.told.as_str()), (0, ""));
+        String::from_utf8(self.said).unwrap()
+    }
+
+    /// Ended with a status and one line on standard error, and nothing said; the line without the command's name and without its end.
+    pub fn ended(self, status: i32) -> String {
+        let said = String::from_utf8_lossy(&self.said);
+        assert_eq!((self.status, said.as_ref()), (status, ""), "{}", self.told);
+        self.line()
+    }
+
+    /// The one line on standard error.
+    pub fn line(&self) -> String {
+        let line = self.told.strip_prefix("spoutbasket: ");
+        let line = line.and_then(|line| line.strip_suffix('\n'));
+        let line = line.filter(|line| !line.contains('\n'));
+        line.unwrap_or_else(|| panic!("{self:?}")).to_string()
+    }
+}
+
+/// The folder of the command, where `cargo build --release` leaves it.
+fn programs() -> PathBuf {
+    Path::new(env!("CARGO_MANIFEST_DIR")).join("../rust/target/release")
+}
+
+/// The command, with its three streams piped.
+pub fn start(arguments: &[&str]) -> Child {
+    Command::new(programs().join("spoutbasket"))
+        .args(arguments)
+        .stdin(Stdio::piped())
+        .stdout(Stdio::piped())
+        .stderr(Stdio::piped())
+        .spawn()
+        .expect("the command is built before its tests")
+}
+
+/// Waits for the end.
+pub fn end(child: Child) -> Ended {
+    let output = child.wait_with_output().unwrap();
+    Ended {
+        status: output.status.code().expect("ended by no signal"),
+        said: output.stdout,
+        told: String::from_utf8(output.stderr).unwrap(),
+    }
+}
+
+/// The command on some input.
+pub fn spoutbasket(arguments: &[&str], input: &[u8]) -> Ended {
+    let mut child = start(arguments);
+    let mut stdin = child.stdin.take().unwrap();
+    let input = input.to_vec();
+    // it need not read all of its input
+    let writer = std::thread::spawn(move || stdin.write_all(&input).is_ok());
+    let ended = end(child);
+    writer.join().unwrap();
+    ended
+}
+
+/// A folder of a test's own, removed at the end.
+pub struct Folder(PathBuf);
+
+impl Folder {
+    pub fn new(name: &str) -> Folder {
+        let name = format!("spoutbasket-{name}-{}", std::process::id());
+        let folder = std::env::temp_dir().join(name);
+        std::fs::create_dir_all(&folder).unwrap();
+        Folder(folder)
+    }
+
+    /// A folder with the week's sheet, keys and shortest chain.
+    pub fn week(name: &str) -> Folder {
+        let folder = Folder::new(name);
+        let sheet = folder.file("week.txt", WEEK);
+        folder.file("bank.keys", KEYS);
+        let chain = folder.path("week.chain");
+        spoutbasket(&["compile", &sheet, "-o", &chain], b"").done();
+        folder
+    }
+
+    /// The path of a name in it.
+    pub fn path(&self, name: &str) -> String {
+        self.0.join(name).to_str().unwrap().to_string()
+    }
+
+    /// A file in it.
+    pub fn file(&self, name: &str, bytes: impl AsRef<[u8]>) -> String {
+        let path = self.path(name);
+        std::fs::write(&path, bytes).unwrap();
+        path
+    }
+
+    /// The names in it, in order.
+    pub fn names(&self) -> Vec<String> {
+        let names = std::fs::read_dir(&self.0).unwrap();
+        let names = names.map(|entry| entry.unwrap().file_name().into_string().unwrap());
+        let mut names = Vec::from_iter(names);
+        names.sort();
+        names
+    }
+
+    /// A script of the shell, run in it with the command at hand.
+    pub fn script(&self, text: &str) -> Ended {
+        let path = std::env::var("PATH").unwrap();
+        let child = Command::new("bash")
+            .args(["-c", text])
+            .current_dir(&self.0)
+            .env("PATH", format!("{}:{path}", programs().display()))
+            .stdin(Stdio::null())
+            .stdout(Stdio::piped())
+            .stderr(Stdio::piped())
+            .spawn()
+            .unwrap();
+        end(child)
+    }
+}
+
+impl Drop for Folder {
+    fn drop(&mut self) {
+        let _ = std::fs::remove_dir_all(&self.0);
+    }
+}

@@ -1,0 +1,384 @@
+//! The command where input or output fails: the status and the line, and a chain file that is whole or not there.
+use spoutbasket_tests::command::{end, spoutbasket, start, Ended, Folder, PASSED};
+use spoutbasket_tests::texts::phrase;
+use std::io::Write;
+use std::os::unix::fs::{symlink, MetadataExt, PermissionsExt};
+use std::time::Duration;
+
+const FULL: &str = "No space left on device (os error 28)";
+
+/// The commands that write to standard output.
+const WRITING: [&str; 10] = [
+    "compile week.txt",
+    "choose week.txt week.chain week.chain",
+    "check week.txt week.chain",
+    "check --json week.txt week.chain",
+    "list week.chain",
+    "list --json week.chain",
+    "run --keys bank.keys week.chain",
+    "figures --keys bank.keys week.txt",
+    "help list",
+    "--version",
+];
+
+#[test]
+fn a_full_device() {
+    let folder = Folder::week("full");
+    for command in WRITING {
+        let ended = folder.script(&format!("spoutbasket {command} > /dev/full"));
+        assert_eq!(
+            ended.ended(3),
+            format!("standard output: {FULL}"),
+            "{command}"
+        );
+    }
+    let ended = folder.script("spoutbasket compile week.txt -o /dev/full");
+    assert_eq!(ended.ended(3), format!("/dev/full: {FULL}"));
+    // where a refusal cannot be written as an object there is nothing to parse
+    let ended = folder.script("spoutbasket list --json week.txt > /dev/full");
+    assert_eq!(ended.ended(3), format!("standard output: {FULL}"));
+    // messages that cannot be written leave the status as it is
+    for (command, status) in [("list week.txt", 1), ("list --no", 2), ("list none", 3)] {
+        let ended = folder.script(&format!("spoutbasket {command} 2> /dev/full"));
+        assert_eq!(
+            (ended.status, ended.told.as_str()),
+            (status, ""),
+            "{command}"
+        );
+    }
+    let ended = folder.script("spoutbasket compile -v week.txt -o x.chain 2> /dev/full");
+    assert_eq!(ended.done(), "");
+}
+
+#[test]
+fn closed_output() {
+    let folder = Folder::week("closed");
+    for command in WRITING {
+        // the reader is gone before the command starts
+        let ended = folder.script(&format!(
+            "mkfifo pipe; exec 3<> pipe 4> pipe 3<&-; rm pipe; spoutbasket {command} >&4"
+        ));
+        let broken = "standard output: Broken pipe (os error 32)";
+        assert_eq!(ended.ended(3), broken, "{command}");
+
+        let ended = folder.script(&format!("spoutbasket {command} >&-"));
+        // that a chain passed is said by the status too
+        match command {
+            "check week.txt week.chain" => assert_eq!(ended.done(), ""),
+            _ => assert_eq!(ended.ended(3), "standard output: closed", "{command}"),
+        }
+        assert_eq!(
+            folder
+                .script(&format!("spoutbasket {command} > /dev/null"))
+                .done(),
+            ""
+        );
+    }
+    // a result that goes elsewhere is not lost
+    let ended =
+        folder.script("spoutbasket compile week.txt -o new.chain >&-; cmp new.chain week.chain");
+    assert_eq!(ended.done(), "");
+    let ended = folder.script("spoutbasket list nothing >&- 2>&-");
+    assert_eq!((ended.status, ended.told.as_str()), (3, ""));
+}
+
+/// Writes parts with a pause after each; a pause is no end.
+fn in_parts(arguments: &[&str], parts: &[&str]) -> Ended {
+    let mut child = start(arguments);
+    let mut stdin = child.stdin.take().unwrap();
+    for part in parts {
+        stdin.write_all(part.as_bytes()).unwrap();
+        std::thread::sleep(Duration::from_millis(150));
+    }
+    drop(stdin);
+    end(child)
+}
+
+#[test]
+fn a_producer_that_pauses_or_dies() {
+    let compiled = in_parts(&["compile"], &["1 ", "1\n187", "500\n"]);
+    assert_eq!(
+        spoutbasket(&["list"], &compiled.said).done().lines().nth(1),
+        Some("1 187500")
+    );
+    let cut = in_parts(&["compile"], &["1 1\n187", "500"]);
+    let why = format!("refused 103 at line 2, column 7: {}", phrase(103));
+    assert_eq!(cut.ended(1), format!("standard input: {why}"));
+
+    // a chain and keys in parts
+    let folder = Folder::week("parts");
+    let chain = std::fs::read(folder.path("week.chain")).unwrap();
+    let ended = folder.script(
+        "{ head -c 5 week.chain; sleep 0.2; tail -c +6 week.chain; } | spoutbasket check week.txt -",
+    );
+    assert_eq!(ended.done(), PASSED);
+    let ended = folder.script("head -c 5 week.chain | spoutbasket check week.txt -");
+    let why = format!("standard input: refused 6: {}: 5 bytes", phrase(6));
+    assert_eq!((chain.len() > 5, ended.ended(1)), (true, why));
+    let keys = in_parts(
+        &["run", "--keys", "-", &folder.path("week.chain")],
+        &["100", "00\n3 5", " 7\n"],
+    );
+    assert_eq!(keys.done().lines().next(), Some("1323"));
+}
+
+#[test]
+fn input_that_cannot_be_read() {
+    let folder = Folder::week("unread");
+    folder.script("mkdir folder").done();
+    for (name, why) in [
+        ("folder", "Is a directory (os error 21)"),
+        ("none", "No such file or directory (os error 2)"),
+        ("week.txt/none", "Not a directory (os error 20)"),
+        // its first page cannot be read, whoever reads it
+        ("/proc/self/mem", "Input/output error (os error 5)"),
+    ] {
+        for command in [
+            "compile NAME",
+            "compile --table NAME -o new.chain",
+            "check NAME week.chain",
+            "check week.txt NAME",
+            "choose week.txt NAME week.chain",
+            "choose week.txt week.chain NAME",
+            "list NAME",
+            "run --keys bank.keys NAME",
+            "run --keys NAME week.chain",
+            "figures --keys NAME week.txt",
+            "figures --keys bank.keys NAME",
+        ] {
+            let ended = folder.script(&format!("spoutbasket {}", command.replace("NAME", name)));
+            assert_eq!(ended.ended(3), format!("{name}: {why}"), "{command}");
+        }
+    }
+    let ended = folder.script("spoutbasket list < folder");
+    assert_eq!(
+        ended.ended(3),
+        "standard input: Is a directory (os error 21)"
+    );
+    let ended = folder.script("spoutbasket list 0> written");
+    assert_eq!(
+        ended.ended(3),
+        "standard input: Bad file descriptor (os error 9)"
+    );
+    // input without an end
+    let ended = folder.script("spoutbasket compile /dev/zero");
+    assert_eq!(ended.ended(3), "/dev/zero: longer than 16 MiB");
+    let ended = folder.script("yes 1 | spoutbasket figures --keys - week.txt");
+    assert_eq!(ended.ended(3), "standard input: longer than 16 MiB");
+    let ended = folder.script("yes 1 | tr -d '\\n' | tr 1 '\\21' | spoutbasket list");
+    let why = format!(
+        "refused 6: {}: over 56116 bytes, the longest file",
+        phrase(6)
+    );
+    assert_eq!(ended.ended(1), format!("standard input: {why}"));
+    // no input at all
+    let ended = folder.script("spoutbasket compile <&-");
+    assert_eq!(
+        ended.ended(1),
+        format!("standard input: refused 1: {}: p is missing", phrase(1))
+    );
+    assert!(!folder.names().contains(&"new.chain".to_string()));
+}
+
+#[test]
+fn output_that_cannot_be_written() {
+    let folder = Folder::week("unwritten");
+    folder
+        .script("mkdir folder; echo old > old.chain; ln week.txt same.txt")
+        .done();
+    let names = folder.names();
+    for (target, status, why) in [
+        ("folder", 3, "folder: is a directory"),
+        (".", 3, ".: is a directory"),
+        (
+            "none/x.chain",
+            3,
+            "none/x.chain: No such file or directory (os error 2)",
+        ),
+        (
+            "week.txt/x.chain",
+            3,
+            "week.txt/x.chain: Not a directory (os error 20)",
+        ),
+        ("new.chain/", 3, "new.chain/: Not a directory (os error 20)"),
+    ] {
+        for command in ["compile week.txt", "choose week.txt week.chain week.chain"] {
+            let ended = folder.script(&format!("spoutbasket {command} -o {target}"));
+            assert_eq!(ended.ended(status), why, "{command}");
+        }
+    }
+    let ended = folder.script("spoutbasket compile week.txt -o same.txt");
+    assert!(ended.ended(2).contains("-o names the sheet itself"));
+    // refused input leaves an old file as it was
+    let ended = folder.script("echo 1 1 x | spoutbasket compile -o old.chain");
+    assert_eq!(ended.status, 1);
+    let ended = folder.script("spoutbasket choose week.txt old.chain old.chain -o old.chain");
+    assert_eq!(ended.status, 1);
+    assert_eq!(folder.script("cat old.chain").done(), "old\n");
+    assert_eq!(folder.names(), names);
+}
+
+/// No room for the whole file: the old one stays, or none, and nothing is left beside it.
+#[test]
+fn no_half_of_a_chain() {
+    let folder = Folder::new("half");
+    let sample = concat!(env!("CARGO_MANIFEST_DIR"), "/../samples/sheet-31.txt");
+    folder
+        .script(&format!("cp {sample} sheet.txt; echo old > old.chain"))
+        .done();
+    let names = folder.names();
+    for target in ["old.chain", "new.chain"] {
+        let ended = folder.script(&format!(
+            "trap '' XFSZ; ulimit -f 1; spoutbasket compile sheet.txt -o {target}"
+        ));
+        assert_eq!(
+            ended.ended(3),
+            format!("{target}: File too large (os error 27)")
+        );
+        assert_eq!(folder.names(), names);
+        assert_eq!(folder.script("cat old.chain").done(), "old\n");
+    }
+    // with room it is replaced
+    folder
+        .script("spoutbasket compile sheet.txt -o old.chain")
+        .done();
+    let checked = folder
+        .script("spoutbasket check sheet.txt old.chain")
+        .done();
+    assert_eq!(checked, "passed: 9 columns, 48 payslips, 1555 steps\n");
+    assert_eq!(folder.names(), names);
+}
+
+/// Whoever reads the name while it is written has one whole chain or the other.
+#[test]
+fn readers_of_a_chain_that_is_replaced() {
+    let folder = Folder::week("replaced");
+    let (sheet, chain) = (folder.path("week.txt"), folder.path("week.chain"));
+    let compile = |method: &str| {
+        spoutbasket(&["compile", "--method", method, &sheet, "-o", &chain], b"").done();
+        std::fs::read(&chain).unwrap()
+    };
+    let whole = [compile("straus:3"), compile("yao:1")];
+    assert_ne!(whole[0], whole[1]);
+    std::thread::scope(|scope| {
+        let writer = scope.spawn(|| {
+            for _ in 0..20 {
+                compile("straus:3");
+                compile("yao:1");
+            }
+        });
+        while !writer.is_finished() {
+            let bytes = std::fs::read(&chain).unwrap();
+            assert!(whole.contains(&bytes), "{} bytes", bytes.len());
+        }
+    });
+}
+
+/// A new file with a new file's mode; other names of the old one keep it; a link stays a link; devices and pipes are written as they are.
+#[test]
+fn where_a_chain_goes() {
+    let folder = Folder::week("target");
+    folder
+        .script("echo old > old.chain; ln old.chain other.chain; mkdir far")
+        .done();
+    symlink("far/real.chain", folder.path("link.chain")).unwrap();
+    folder.script("echo old > far/real.chain").done();
+    let said = folder.script(
+        "set -euo pipefail
+        umask 027
+        spoutbasket compile week.txt -o old.chain
+        spoutbasket compile week.txt -o link.chain
+        cmp week.chain old.chain; cmp week.chain far/real.chain; cat other.chain
+        spoutbasket compile week.txt -o /dev/null
+        mkfifo pipe; cat pipe > through.chain & spoutbasket compile week.txt -o pipe; wait
+        cmp week.chain through.chain
+        echo before > log; spoutbasket compile week.txt -o /dev/stdout >> log
+        { echo before; cat week.chain; } | cmp - log",
+    );
+    assert_eq!(said.done(), "old\n");
+    let of = |name: &str| std::fs::metadata(folder.path(name)).unwrap();
+    assert_eq!(of("old.chain").permissions().mode() & 0o777, 0o640);
+    assert_ne!(of("old.chain").ino(), of("other.chain").ino());
+    assert!(std::fs::symlink_metadata(folder.path("link.chain"))
+        .unwrap()
+        .is_symlink());
+    let hidden = |name: &String| name.starts_with('.');
+    assert!(!folder.names().iter().any(hidden), "{:?}", folder.names());
+}
+
+/// A person's terminal gets no chain's bytes unless that is asked for.
+#[test]
+fn a_terminal() {
+    let folder = Folder::week("terminal");
+    let on_terminal = |command: &str| {
+        let said = folder.script(&format!("script -qec 'spoutbasket {command}' /dev/null"));
+        (
+            said.status,
+            String::from_utf8_lossy(&said.said).into_owned(),
+        )
+    };
+    for command in ["compile week.txt", "choose week.txt week.chain week.chain"] {
+        let (status, said) = on_terminal(command);
+        assert_eq!(status, 2);
+        assert!(
+            said.contains("a chain is no text for a terminal: give -o CHAIN"),
+            "{said}"
+        );
+    }
+    assert_eq!(
+        on_terminal("compile week.txt -o new.chain"),
+        (0, String::new())
+    );
+    assert_eq!(on_terminal("compile week.txt -o -").0, 0);
+    let (status, said) = on_terminal("check week.txt week.chain");
+    assert_eq!((status, said.trim_end()), (0, PASSED.trim_end()));
+}
+
+/// A night's script releases what passed and nothing else.
+#[test]
+fn a_night() {
+    let folder = Folder::week("night");
+    folder
+        .script("{ printf '\\21'; tail -c +2 week.chain; } > flipped.chain")
+        .done();
+    let night = |chain: &str| {
+        folder.script(&format!(
+            "set -euo pipefail
+            if spoutbasket check week.txt {chain}; then echo RELEASED; fi
+            echo END"
+        ))
+    };
+    assert_eq!(
+        night("week.chain").done(),
+        format!("{PASSED}RELEASED\nEND\n")
+    );
+    for chain in ["flipped.chain", "none.chain", "week.txt", "."] {
+        let said = night(chain);
+        assert_eq!(
+            (said.status, said.said.as_slice()),
+            (0, &b"END\n"[..]),
+            "{chain}"
+        );
+        assert!(said.line().starts_with(&format!("{chain}: ")), "{chain}");
+    }
+    // without a test the script ends at the first line that fails
+    for (line, status) in [
+        ("spoutbasket check week.txt flipped.chain", 1),
+        ("spoutbasket check week.txt", 2),
+        ("spoutbasket compile none.txt -o new.chain", 3),
+        ("cat none.txt 2> why | spoutbasket compile -o new.chain", 1),
+        ("printf '1 1\\n187' | spoutbasket compile -o new.chain", 1),
+        (
+            "spoutbasket run --keys none.keys week.chain | cat > figures",
+            3,
+        ),
+        (
+            "spoutbasket run --keys bank.keys flipped.chain | sort > figures",
+            1,
+        ),
+    ] {
+        let said = folder.script(&format!("set -euo pipefail\n{line}\necho RELEASED"));
+        assert_eq!((said.status, said.said.len()), (status, 0), "{line}");
+    }
+    assert!(!folder.names().contains(&"new.chain".to_string()));
+}

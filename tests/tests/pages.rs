@@ -1,0 +1,118 @@
+//! What the pages say of the command is what it does: synopses, the example, the night's script, the sample.
+use spoutbasket_tests::command::{spoutbasket, Folder, KEYS, WEEK};
+
+fn page(name: &str) -> String {
+    let path = format!("{}/../{name}", env!("CARGO_MANIFEST_DIR"));
+    std::fs::read_to_string(path).unwrap()
+}
+
+/// The lines of the block of code after some words, without their indent.
+fn block<'a>(page: &'a str, words: &str) -> Vec<&'a str> {
+    let (_, rest) = page.split_once(words).unwrap_or_else(|| panic!("{words}"));
+    let lines = rest.lines().skip_while(|line| !line.starts_with("    "));
+    lines
+        .take_while(|line| line.starts_with("    ") || line.is_empty())
+        .map(|line| line.strip_prefix("    ").unwrap_or(""))
+        .collect()
+}
+
+/// The text of a file that a page shows.
+fn shown(page: &str, words: &str) -> String {
+    format!("{}\n", block(page, words).join("\n").trim_end())
+}
+
+/// A folder with the manual's sheet and keys.
+fn week(name: &str) -> Folder {
+    let manual = page("docs/MANUAL.md");
+    let folder = Folder::new(name);
+    assert_eq!(shown(&manual, "**Plain**"), WEEK);
+    folder.file("week.txt", WEEK);
+    folder.file("week.csv", shown(&manual, "**A table**"));
+    assert_eq!(shown(&manual, "## Keys"), KEYS);
+    folder.file("bank.keys", KEYS);
+    folder
+}
+
+#[test]
+fn every_synopsis_in_the_manual_page() {
+    let mut page = page("docs/spoutbasket.1");
+    for mark in ["\\fB", "\\fI", "\\fR"] {
+        page = page.replace(mark, "");
+    }
+    let page = page.replace("\\-", "-");
+    for name in ["compile", "check", "choose", "list", "run", "figures"] {
+        let help = spoutbasket(&["help", name], b"").done();
+        let usage = help.lines().next().unwrap();
+        let usage = usage.strip_prefix("Usage: ").unwrap();
+        assert!(page.lines().any(|line| line == usage), "{usage}");
+    }
+}
+
+#[test]
+fn the_example_of_the_manual() {
+    let folder = week("example");
+    let manual = page("docs/MANUAL.md");
+    let session = shown(&manual, "## From a sheet to its figures");
+    let mut commands = 0;
+    for part in session.split("$ ").filter(|part| !part.is_empty()) {
+        let (command, expected) = part.split_once('\n').unwrap();
+        assert_eq!(folder.script(command).done(), expected, "{command}");
+        commands += 1;
+    }
+    assert_eq!(commands, 6);
+    let same = "spoutbasket compile week.txt | cmp - best.chain";
+    assert_eq!(folder.script(same).done(), "");
+    let same = "spoutbasket check --table week.csv best.chain";
+    folder.script(same).done();
+}
+
+#[test]
+fn the_night_of_the_manual() {
+    let folder = week("manual-night");
+    folder
+        .script("mkdir outbox; cp bank.keys pension.keys")
+        .done();
+    let script = shown(&page("docs/MANUAL.md"), "## At night");
+    let script = script.replace("cd /srv/payroll", "pwd > here");
+    assert_eq!(folder.script(&script).done(), "");
+    for name in ["bank.figures", "check.txt", "friday.txt", "pension.figures"] {
+        assert!(folder.names().contains(&name.to_string()), "{name}");
+    }
+    assert_eq!(folder.script("cmp week.chain outbox/week.chain").done(), "");
+    // a sheet that is cut off ends the night before anything goes out
+    folder
+        .script("rm -r outbox/* *.figures; printf '3 4\\n3 0' > week.txt")
+        .done();
+    let said = folder.script(&script);
+    assert_eq!((said.status, said.said.len()), (1, 0));
+    assert_eq!(
+        folder.script("ls outbox; ls | grep figures || true").done(),
+        ""
+    );
+}
+
+/// The read-me's sample, and its payslip of two amounts.
+#[test]
+fn the_examples_of_the_read_me() {
+    let readme = page("README.md");
+    let main = block(&readme, "## Two commands")[0];
+    let (_, command) = main.rsplit_once("rust/target/release/").unwrap();
+    let root = concat!(env!("CARGO_MANIFEST_DIR"), "/..");
+    let folder = Folder::new("read-me");
+    let said = folder.script(&format!("cd {root} && {command}")).done();
+    let said: Vec<&str> = said.lines().collect();
+    let shown = block(&readme, "It prints the 48 control figures");
+    assert_eq!((said.len(), said[0], said[48]), (49, shown[0], shown[2]));
+
+    folder.file("slip.txt", "2 1\n3 2\n");
+    folder.file("bank.keys", "1000\n3 5\n");
+    let mut lines = 0;
+    for line in block(&readme, "At the command line") {
+        let (command, comment) = line.split_once('#').unwrap_or((line, ""));
+        let said = folder.script(command).done();
+        let said = said.trim_end().replace('\n', ", then ");
+        assert_eq!(said, comment.trim(), "{command}");
+        lines += 1;
+    }
+    assert!(lines >= 4);
+}

@@ -1,4 +1,4 @@
-use crate::{Refusal, TextReason, MOST_COLUMNS};
+use crate::{slices, Refusal, TextReason, MOST_COLUMNS};
 use std::{fmt, io};
 
 /// A text turned down: where, why, and what was found there.
@@ -10,7 +10,7 @@ use std::{fmt, io};
 ///
 /// let Err(SheetError::Text(fault)) = Sheet::from_table(b"168233;187.50\n") else { panic!() };
 /// assert_eq!((fault.reason, fault.line, fault.column), (TextReason::Mark, 1, 11));
-/// assert_eq!(fault.to_string(), "line 1, column 11: decimal point or grouping mark '.'");
+/// assert_eq!(fault.to_string(), "line 1, column 11: decimal point or grouping mark: '.'");
 /// ```
 #[derive(Clone, Copy, PartialEq, Eq, Hash, PartialOrd, Ord)]
 pub struct TextFault {
@@ -70,7 +70,7 @@ impl TextFault {
             }
             // digits are marked only by a blank before them
             TextReason::Mark if (0x30..=0x39).contains(&found) => {
-                format!("(a blank before {})", byte(found))
+                format!("a blank before {}", byte(found))
             }
             TextReason::Byte | TextReason::Mark | TextReason::Sign => byte(found),
             _ => return None,
@@ -82,7 +82,7 @@ impl TextFault {
 fn byte(byte: u64) -> String {
     match u8::try_from(byte) {
         Ok(shown @ b'!'..=b'~') => format!("'{}'", char::from(shown)),
-        _ => format!("(byte {byte:#04x})"),
+        _ => format!("byte {byte:#04x}"),
     }
 }
 
@@ -94,7 +94,7 @@ impl fmt::Display for TextFault {
             (TextReason::Sizes | TextReason::Room | TextReason::Fields, Some(detail)) => {
                 f.write_str(&detail)
             }
-            (_, Some(detail)) => write!(f, "{} {detail}", self.phrase()),
+            (_, Some(detail)) => write!(f, "{}: {detail}", self.phrase()),
             (_, None) => f.write_str(self.phrase()),
         }
     }
@@ -191,4 +191,22 @@ pub(crate) fn read(
             wanted,
         }),
     }
+}
+
+/// The numbers of a text, parted by blanks, tabs and ends of lines: what a plain sheet and a receiver's keys are written in.
+///
+/// # Errors
+///
+/// The place and kind of a byte that does not belong, of a number too large, or of a cut.
+///
+/// ```
+/// assert_eq!(spoutbasket::numbers(b"1000\n3 5\n"), Ok(vec![1_000, 3, 5]));
+/// // the last line has no end, so a digit may be missing
+/// assert_eq!(spoutbasket::numbers(b"1000\n3 5").unwrap_err().number(), 103);
+/// ```
+pub fn numbers(text: &[u8]) -> Result<Vec<u32>, TextFault> {
+    // a number has a digit, and something parts it from the next
+    let ([count, ..], mut numbers) = read(text, text.len().div_ceil(2), slices::numbers)?;
+    numbers.truncate(count);
+    Ok(numbers)
 }

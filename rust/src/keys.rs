@@ -1,4 +1,4 @@
-use crate::{fault, slices, TextFault, MOST_COLUMNS};
+use crate::{numbers, TextFault};
 use std::fmt;
 
 /// What a receiver keeps to itself: its modulus and its bases, one for each column.
@@ -29,19 +29,12 @@ impl Keys {
     ///
     /// # Errors
     ///
-    /// The place and kind of a byte that does not belong, of a number too large or too many, or of a cut.
+    /// The place and kind of a byte that does not belong, of a number too large, or of a cut.
     pub fn from_text(text: &[u8]) -> Result<Keys, TextFault> {
-        let ([count, ..], numbers) = fault::read(text, 1 + MOST_COLUMNS, slices::numbers)?;
-        Ok(match &numbers[..count] {
-            [modulus, bases @ ..] => Keys {
-                modulus: *modulus,
-                bases: bases.to_vec(),
-            },
-            [] => Keys {
-                modulus: 0,
-                bases: vec![],
-            },
-        })
+        let numbers = numbers(text)?;
+        let (&modulus, bases) = numbers.split_first().unwrap_or((&0, &[]));
+        let bases = bases.to_vec();
+        Ok(Keys { modulus, bases })
     }
 }
 

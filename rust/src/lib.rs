@@ -53,7 +53,7 @@ pub mod slices;
 
 pub use chain::{Chain, Run};
 pub use choose::choose;
-pub use fault::{SheetError, TextFault};
+pub use fault::{numbers, SheetError, TextFault};
 pub use keys::Keys;
 pub use listing::{list, list_text, Listing};
 pub use method::Method;

@@ -1,6 +1,6 @@
 use crate::chain::Lent;
 use crate::refusal::answer;
-use crate::{fault, slices, Chain, Method, Reason, Refusal, Run, SheetError};
+use crate::{fault, numbers, slices, Chain, Method, Reason, Refusal, Run, SheetError};
 use crate::{LONGEST_FILE, MOST_COLUMNS, MOST_PAYSLIPS, MOST_VALUES};
 use std::slice::ChunksExact;
 
@@ -100,11 +100,11 @@ impl Sheet {
     /// let sheet = Sheet::from_text(b"2 1\n3 2\n").unwrap();
     /// assert_eq!(sheet, Sheet::new(2, 1, [3, 2]).unwrap());
     /// let error = Sheet::from_text(b"2 1\n3 -2\n").unwrap_err();
-    /// assert_eq!(error.to_string(), "line 2, column 3: sign '-'");
+    /// assert_eq!(error.to_string(), "line 2, column 3: sign: '-'");
     /// ```
     pub fn from_text(text: &[u8]) -> Result<Sheet, SheetError> {
-        let ([count, ..], numbers) = fault::read(text, 2 + MOST_AMOUNTS, slices::numbers)?;
-        let (sizes, amounts) = numbers[..count].split_at(count.min(2));
+        let numbers = numbers(text)?;
+        let (sizes, amounts) = numbers.split_at(numbers.len().min(2));
         let size = |i: usize| sizes.get(i).map_or(0, |&size| size as usize);
         Ok(Sheet::new(size(0), size(1), amounts)?)
     }

@@ -1,5 +1,5 @@
 //! Sheets and keys from texts, and what is said of a text that cannot be read.
-use spoutbasket::{Keys, Reason, Sheet, SheetError, TextFault, TextReason};
+use spoutbasket::{Keys, Reason, Refusal, Sheet, SheetError, TextFault, TextReason};
 use spoutbasket::{MOST_COLUMNS, MOST_PAYSLIPS};
 use std::error::Error;
 
@@ -41,10 +41,7 @@ fn largest() -> Result<(), SheetError> {
         sheet
     );
     let error = Sheet::from_text(format!("16 64\n{table}0\n").as_bytes()).unwrap_err();
-    assert_eq!(
-        error.to_string(),
-        "line 66, column 1: more than 1026 numbers"
-    );
+    assert_eq!(error, Refusal::from(Reason::Amounts).into());
     Ok(())
 }
 
@@ -93,17 +90,17 @@ fn faults_in_words() {
         (
             "3 x\n",
             TextReason::Byte,
-            "line 1, column 3: neither a digit nor a separator 'x'",
+            "line 1, column 3: neither a digit nor a separator: 'x'",
         ),
         (
             "3 0\n1 \u{e9}\n",
             TextReason::Byte,
-            "line 2, column 3: neither a digit nor a separator (byte 0xc3)",
+            "line 2, column 3: neither a digit nor a separator: byte 0xc3",
         ),
         (
             "3;0\n1\t;2\n",
             TextReason::Byte,
-            "line 2, column 2: neither a digit nor a separator (byte 0x09)",
+            "line 2, column 2: neither a digit nor a separator: byte 0x09",
         ),
         (
             "3 4294967296\n",
@@ -133,19 +130,19 @@ fn faults_in_words() {
         (
             "3 0\n1.5 2\n",
             TextReason::Mark,
-            "line 2, column 2: decimal point or grouping mark '.'",
+            "line 2, column 2: decimal point or grouping mark: '.'",
         ),
         (
             "187,50;20,00\n",
             TextReason::Mark,
-            "line 1, column 4: decimal point or grouping mark ','",
+            "line 1, column 4: decimal point or grouping mark: ','",
         ),
         (
             "1 875;20\n",
             TextReason::Mark,
-            "line 1, column 3: decimal point or grouping mark (a blank before '8')",
+            "line 1, column 3: decimal point or grouping mark: a blank before '8'",
         ),
-        ("3 -1\n", TextReason::Sign, "line 1, column 3: sign '-'"),
+        ("3 -1\n", TextReason::Sign, "line 1, column 3: sign: '-'"),
         (
             "3;;1\n",
             TextReason::Empty,
@@ -205,8 +202,9 @@ fn keys() {
     assert_eq!((none.modulus, none.bases.len()), (0, 0));
     let most = "9\n".repeat(17);
     assert_eq!(Keys::from_text(most.as_bytes()).unwrap().bases, [9; 16]);
-    let more = Keys::from_text((most + " 9\n").as_bytes()).unwrap_err();
-    assert_eq!(more.to_string(), "line 18, column 2: more than 17 numbers");
+    // how many there may be is for the run to say
+    let more = Keys::from_text((most + " 9\n").as_bytes()).unwrap();
+    assert_eq!(more.bases, [9; 17]);
     let point = Keys::from_text(b"10000\n3.5\n").unwrap_err();
     assert_eq!(
         (point.reason, point.line, point.column),

@@ -54,9 +54,9 @@ fn plain_sheets() {
             "101 at line 2, column 3",
             &format!("'x'; {table}"),
         ),
-        ("2 1\n3\u{a0}2\n", "101 at line 2, column 2", "(byte 0xc2)"),
-        ("1 1\n\u{feff}3\n", "101 at line 2, column 1", "(byte 0xef)"),
-        ("1 1\n\0\n", "101 at line 2, column 1", "(byte 0x00)"),
+        ("2 1\n3\u{a0}2\n", "101 at line 2, column 2", "byte 0xc2"),
+        ("1 1\n\u{feff}3\n", "101 at line 2, column 1", "byte 0xef"),
+        ("1 1\n\0\n", "101 at line 2, column 1", "byte 0x00"),
         (
             "basic;tax\n3;2\n",
             "101 at line 1, column 1",
@@ -108,8 +108,8 @@ fn tables() {
             "1 amount, 2 wanted",
         ),
         ("3 2\n1;4 0\n", "101 at line 2, column 2", "';'"),
-        ("3,2\n1\t,0\n", "101 at line 2, column 2", "(byte 0x09)"),
-        ("3 2\n1\r 0\n", "101 at line 2, column 2", "(byte 0x0d)"),
+        ("3,2\n1\t,0\n", "101 at line 2, column 2", "byte 0x09"),
+        ("3 2\n1\r 0\n", "101 at line 2, column 2", "byte 0x0d"),
         ("3;4294967296\n", "102 at line 1, column 12", ""),
         ("3;2\n1;0", "103 at line 2, column 4", ""),
         (
@@ -128,7 +128,7 @@ fn tables() {
         (
             "1 875;20\n",
             "105 at line 1, column 3",
-            "(a blank before '8')",
+            "a blank before '8'",
         ),
         ("1'875\t20\n", "105 at line 1, column 2", "'''"),
         ("-3;2\n", "106 at line 1, column 1", "'-'"),

@@ -1,8 +1,8 @@
 //! Sheets, chains and keys out of what is read, each by the library; and in words why one is turned down.
 use crate::input::Source;
 use crate::messages::{counted, Failure, Refused};
-use spoutbasket::{choose, list, slices, Chain, Keys, Listing, Method, Reason, Refusal};
-use spoutbasket::{Sheet, SheetError, TextFault, LONGEST_FILE, MOST_COLUMNS, MOST_PAYSLIPS};
+use spoutbasket::{choose, list, numbers, Chain, Keys, Listing, Method, Reason, Refusal};
+use spoutbasket::{Sheet, SheetError, LONGEST_FILE, MOST_COLUMNS, MOST_PAYSLIPS};
 
 /// The sheet of a table, or of the plain numbers p, q and the amounts.
 pub fn sheet(source: &Source, table: bool) -> Result<Sheet, Failure> {
@@ -35,24 +35,6 @@ fn by_numbers(source: &Source, text: &[u8]) -> Result<Sheet, Refused> {
     })
 }
 
-/// The numbers of a text, with room for as many as it can have.
-fn numbers(text: &[u8]) -> Result<Vec<u32>, TextFault> {
-    let (mut numbers, mut words) = (vec![0; text.len().div_ceil(2)], [0; 4]);
-    let number = slices::numbers(text, &mut numbers, &mut words);
-    let [line, column, found, wanted] = words;
-    if number != 0 {
-        return Err(TextFault {
-            line,
-            column,
-            reason: number.into(),
-            found,
-            wanted,
-        });
-    }
-    numbers.truncate(words[0] as usize);
-    Ok(numbers)
-}
-
 /// Why a plain sheet's numbers are no sheet.
 fn misshapen(numbers: &[u32]) -> Option<String> {
     let [p, q, amounts @ ..] = numbers else {
@@ -76,12 +58,8 @@ fn size(name: &str, found: usize, most: usize) -> Option<String> {
 
 /// A receiver's modulus and bases.
 pub fn keys(source: &Source) -> Result<Keys, Failure> {
-    let numbers = numbers(&source.text()?);
-    let numbers = numbers.map_err(|fault| Refused::in_text(source.name(), &fault))?;
-    // a text without numbers has modulus 0, which is refused
-    let (&modulus, bases) = numbers.split_first().unwrap_or((&0, &[]));
-    let bases = bases.to_vec();
-    Ok(Keys { modulus, bases })
+    let keys = Keys::from_text(&source.text()?);
+    Ok(keys.map_err(|fault| Refused::in_text(source.name(), &fault))?)
 }
 
 /// A run refused for its keys, if it is that.

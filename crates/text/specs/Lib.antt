@@ -1,2 +1,3 @@
+pub mod Faults
 pub mod Text
-pub mod Samples
+pub mod Inner

@@ -309,7 +309,7 @@ fn after(spot: Spot, b: u8) -> Spot
 }
 
 // Where a place is in a text.
-pub fn spot_of(text: &[u8], place: usize) -> Spot
+fn spot_of(text: &[u8], place: usize) -> Spot
     ensures { λ r. ⌜ r ≡ spotOf (now (text .entry)) place ⌝ }
 {
     let mut spot = Spot { line: 1, column: 1 };
@@ -322,7 +322,7 @@ pub fn spot_of(text: &[u8], place: usize) -> Spot
 }
 
 // The refusal of a text by a fault at a place.
-pub fn refuse(text: &[u8], fault: u32, place: usize, found: usize, wanted: usize) -> Read
+fn refuse(text: &[u8], fault: u32, place: usize, found: usize, wanted: usize) -> Read
     ensures { λ r. ⌜ r ≡ refusedAt fault (spotOf (now (text .entry)) place) found wanted ⌝ }
 {
     let spot = spot_of(text, place);

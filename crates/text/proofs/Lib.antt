@@ -1,2 +1,4 @@
 pub mod Reading
 pub mod Spots
+pub mod Marks
+pub mod Outcomes

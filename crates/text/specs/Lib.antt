@@ -1,2 +1,4 @@
+pub mod Faults
 pub mod Text
+pub mod Inner
 pub mod Samples

@@ -1,7 +1,7 @@
 -- Each return is the one test of the definition, decided.
 use borrow.Author.Needs.{needs}
 use Rattle.text.specs.Text.{afterByte}
-use Rattle.text.proofs.Reading.{choosing}
+use Rattle.decimal.proofs.Choices.{choosing}
 use Rattle.text.proofs.after.Statement.{statement}
 use Rattle.text.proofs.after.Tie as tie
 

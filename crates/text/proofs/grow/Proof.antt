@@ -1,7 +1,7 @@
 -- The new number fits 64 bits, and the test on it is the definition.
 use borrow.Author.Needs.{needs}
 use Rattle.text.specs.Text.{grown}
-use Rattle.text.proofs.Reading.{choosing}
+use Rattle.decimal.proofs.Choices.{choosing}
 use Rattle.text.proofs.grow.Statement.{statement}
 use Rattle.text.proofs.grow.Tie as tie
 

@@ -1,0 +1,3 @@
+pub mod Phrases
+pub mod Inner
+pub mod Samples

@@ -1,0 +1,50 @@
+-- A text of numbers comes to what its parts come to: it is cut off, or read.
+use mathlib.Core.Path.{_≡_, refl, sym, ap, _∙_}
+use mathlib.Core.Bool.{Bool, true, false}
+use mathlib.Core.List.{List, []}
+use Prim.Native.Nat.{ℕ}
+use lib.ListN.{length}
+use Rattle.chain.specs.Written.{over, laid}
+use Rattle.chain.proofs.Written.{over-laid, laid-nil}
+use Rattle.text.specs.declared.Parting.the-variants.{Free}
+use Rattle.text.specs.declared.Parsed.{Parsed}
+use Rattle.text.specs.declared.Read.{Read}
+use Rattle.text.specs.Text.{readText, isCut, cutText, toldNumbers, numbersFound, outcome, Outcome, numbersIn, numberTold, wordsTold}
+use Rattle.text.specs.Inner.{ParsedTo, ReadTo, ReadTold}
+
+-- nothing is stored
+pub over-none : (old : List ℕ) → old ≡ over [] old
+over-none old = sym (over-laid [] old ∙ laid-nil 0 old)
+
+-- an outcome that is another
+read-same : (o o′ : Outcome) (old : List ℕ) (a : Read) (new : List ℕ) → o ≡ o′ → ReadTo o old a new → ReadTo o′ old a new
+read-same o o′ old a new e r = rw e at r
+
+module _ (text : List ℕ) (t : Bool) (told : t ≡ isCut text) where
+  module _ (n : ℕ) (cut : t ≡ true) where
+    numbers-out : outcome (cutText text) [] ≡ numbersIn text n
+    unfolding numbersIn
+    numbers-out = rw (← told, cut)
+
+    pub numbers-cut : (old : List ℕ) (a : Read) → a ≡ cutText text → ReadTo (numbersIn text n) old a old
+    numbers-cut old a e = read-same _ _ old a old numbers-out (record { answered = e; stored = over-none old })
+
+  module _ (n : ℕ) (whole : t ≡ false) where
+    numbers-on : numbersFound text (readText Free text n) ≡ numbersIn text n
+    unfolding numbersIn
+    numbers-on = rw (← told, whole)
+
+    pub numbers-read : (old : List ℕ) (p : Parsed) (a : Read) (new : List ℕ) → ParsedTo Free text 0 n old p new → a ≡ toldNumbers text p → ReadTo (numbersIn text n) old a new
+    numbers-read old p a new r e =
+        read-same _ _ old a new numbers-on
+        (record { answered = e ∙ ap (toldNumbers text) (r .answered); stored = r .stored ∙ sym (over-laid _ old) })
+
+-- what a text comes to, where the text is another one
+pub read-of : (f : List ℕ → ℕ → Outcome) (t t′ : List ℕ) (n : ℕ) (old : List ℕ) (a : Read) (new : List ℕ) → t ≡ t′ → ReadTo (f t n) old a new → ReadTo (f t′ n) old a new
+read-of f t t′ n old a new e r = rw e at r
+
+-- what was read is told
+pub read-told : (o : Outcome) (old : List ℕ) (a : Read) (new : List ℕ) (number : ℕ) (words : List ℕ) → ReadTo o old a new → ReadTold a number words
+    → (number ≡ numberTold (o .answer)) × ((words ≡ wordsTold (o .answer)) × (new ≡ over (o .numbers) old))
+read-told o old a new number words r t =
+    (t .number-is ∙ ap numberTold (r .answered), (t .words-are ∙ ap wordsTold (r .answered), r .stored))

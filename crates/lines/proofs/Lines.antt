@@ -6,8 +6,8 @@ use Prim.Native.Nat.{ℕ, zero, suc, _+_, _-_, _^_, _≤_, _<_}
 use native.Mathlib.Decide.{ℕ-discrete}
 use native.Mathlib.Numerals.{add-one}
 use native.Mathlib.Omega.{arith}
-use lib.ListN.{length, getD, take, drop, drop-of-length-le, List·getD-eq-default}
-use lib.Seq.{drop-cons}
+use lib.ListN.{length, getD, take, drop, length-drop, drop-of-length-le, List·getD-eq-default}
+use lib.Seq.{drop-cons, length-take-le}
 use Rattle.chain.specs.Tests.{_<?_, _=?_, _or_}
 use Rattle.chain.proofs.Rules.{eq-yes, eq-no}
 use Rattle.decimal.specs.Decimal.{blank, newline}
@@ -15,7 +15,8 @@ use Rattle.text.specs.Text.{tab, return, firstDigit, lastDigit}
 use Rattle.text.specs.declared.Parting.{Parting}
 use Rattle.text.specs.declared.Parting.the-variants.{Fields}
 use Rattle.lines.specs.declared.Tally.{Tally}
-use Rattle.lines.specs.Lines.{semicolon, comma, onFirst, linesOf, contentLength, sameUnit, digitUnit, blankUnit, begun, tallied, talliedAll, tallyStart, tallyOf, partingOf, separatorsIn, fieldsIn, headOf}
+use Rattle.lines.specs.declared.Head.{Head}
+use Rattle.lines.specs.Lines.{semicolon, comma, onFirst, linesOf, contentLength, contentOf, sameUnit, digitUnit, blankUnit, begun, tallied, talliedAll, tallyStart, tallyOf, partingOf, separatorsIn, fieldsIn, headOf}
 use Rattle.lines.specs.Inner.{untilNewline, Low}
 
 -- a text's first line, and the lines after it
@@ -33,13 +34,17 @@ line-first b (c ∷ s) = by-byte (ℕ-discrete b newline) (line-first c s)
     by-byte (yes h) ih = rw (eq-yes b newline h)
     by-byte (no h) ih = rw (eq-no b newline h) (ap (onFirst b) ih)
 
-pub until-within : (t : List ℕ) → untilNewline t ≤ length t
+until-within : (t : List ℕ) → untilNewline t ≤ length t
 until-within [] = omega arith
 until-within (b ∷ r) = by-test (b =? newline) (until-within r)
   where
     by-test : (t : Bool) → untilNewline r ≤ length r → cond t 0 (suc (untilNewline r)) ≤ suc (length r)
     by-test true h = omega arith
     by-test false h = omega arith
+
+-- a line ends within its text
+pub end-within : (text : List ℕ) (at end : ℕ) → at ≤ length text → end ≡ at + untilNewline (drop at text) → (at ≤ end) × (end ≤ length text)
+end-within text at end h e = (omega arith, omega (arith, until-within (drop at text), length-drop at text))
 
 -- the newline is sought byte by byte
 module _ (text : List ℕ) (i : ℕ) (w : ℕ) (e : w ≡ i + untilNewline (drop i text)) where
@@ -66,13 +71,16 @@ content-none line e =
     let no : getD line (length line - 1) 0 ≡ return → ⊥ = λ z. omega arith in
     rw (eq-no (getD line (length line - 1) 0) return no) (sym e)
 
-pub content-within : (line : List ℕ) → contentLength line ≤ length line
+content-within : (line : List ℕ) → contentLength line ≤ length line
 unfolding contentLength
 content-within line = by-test (getD line (length line - 1) 0 =? return)
   where
     by-test : (t : Bool) → cond t (length line - 1) (length line) ≤ length line
     by-test true = omega arith
     by-test false = omega arith
+
+pub content-long : (line : List ℕ) (n : ℕ) → n ≡ contentLength line → n ≡ length (take n line)
+content-long line n e = sym (length-take-le n line (omega (arith, content-within line)))
 
 -- what a byte counts is 1 at most
 unit : (t : Bool) → (cond t 1 0 ≤ 1) × (cond t 0 1 ≤ 1)
@@ -203,3 +211,10 @@ fields-by t by s n is e = rw (is, e)
 
 pub separators-made : (s n : ℕ) (t : Tally) → n ≡ separatorsIn s t → Low t → n + 1 < 2 ^ 64
 separators-made s n t e low = rw e (separators-low s t low)
+
+-- a head's end lies within its line
+pub head-low : (line : List ℕ) (h : Head) → h ≡ headOf (contentOf line) → h .stop ≤ length line
+unfolding headOf
+head-low line h e =
+    let stop : h .stop ≡ length (contentOf line) = ap (λ (g : Head). g .stop) e in
+    omega (arith, length-take-le (contentLength line) line (content-within line), content-within line)

@@ -251,3 +251,41 @@ pub extern "C" fn spoutbasket_path(
     );
     tell::tell_figured(figured, answer)
 }
+
+ghost use Rattle.text.specs.Text.{numbersOf, numberTold, wordsTold};
+ghost use Rattle.table.specs.Table.{tableOf};
+ghost use Rattle.phrases.specs.Phrases.{phraseNumber, phraseWords, phraseText};
+
+// A text of numbers, read over the front of the lent ones. The words answer how many there are, or where and why it was turned down.
+#[no_mangle]
+pub extern "C" fn spoutbasket_numbers(
+    text: &[u8],
+    numbers: &mut [u32],
+    answer: &mut [u64; 4],
+) -> u32
+    ensures { λ r. ⌜ r ≡ numberTold (numbersOf (now (text .entry)) (length (now (numbers .entry))) .answer) ⌝ }
+    ensures { λ r. ⌜ now (answer .exit) ≡ wordsTold (numbersOf (now (text .entry)) (length (now (numbers .entry))) .answer) ⌝ }
+    ensures { λ r. ⌜ now (numbers .exit) ≡ over (numbersOf (now (text .entry)) (length (now (numbers .entry))) .numbers) (now (numbers .entry)) ⌝ }
+{
+    text::numbers(text, numbers, answer)
+}
+
+// A table of amounts, one payslip a line, read over the front of the lent ones. The words answer p and q, or where and why it was turned down.
+#[no_mangle]
+pub extern "C" fn spoutbasket_table(text: &[u8], amounts: &mut [u32], answer: &mut [u64; 4]) -> u32
+    ensures { λ r. ⌜ r ≡ numberTold (tableOf (now (text .entry)) (length (now (amounts .entry))) .answer) ⌝ }
+    ensures { λ r. ⌜ now (answer .exit) ≡ wordsTold (tableOf (now (text .entry)) (length (now (amounts .entry))) .answer) ⌝ }
+    ensures { λ r. ⌜ now (amounts .exit) ≡ over (tableOf (now (text .entry)) (length (now (amounts .entry))) .numbers) (now (amounts .entry)) ⌝ }
+{
+    table::table(text, amounts, answer)
+}
+
+// The words for a refusal's number, over the front of a text; the answer is their length.
+#[no_mangle]
+pub extern "C" fn spoutbasket_phrase(number: u32, text: &mut [u8], answer: &mut [u64; 4]) -> u32
+    ensures { λ r. ⌜ r ≡ phraseNumber number (length (now (text .entry))) ⌝ }
+    ensures { λ r. ⌜ now (answer .exit) ≡ phraseWords number (length (now (text .entry))) ⌝ }
+    ensures { λ r. ⌜ now (text .exit) ≡ phraseText number (now (text .entry)) ⌝ }
+{
+    phrases::phrase(number, text, answer)
+}

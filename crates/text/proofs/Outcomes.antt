@@ -10,14 +10,14 @@ use Rattle.text.specs.declared.Parting.the-variants.{Free}
 use Rattle.text.specs.declared.Parsed.{Parsed}
 use Rattle.text.specs.declared.Read.{Read}
 use Rattle.text.specs.Text.{readText, isCut, cutText, toldNumbers, numbersFound, outcome, Outcome, numbersIn, numberTold, wordsTold}
-use Rattle.text.specs.Inner.{ParsedTo, ReadTo, ReadTold}
+use Rattle.text.specs.Inner.{FoundTo, ReadTo, ReadTold}
 
 -- nothing is stored
 pub over-none : (old : List ℕ) → old ≡ over [] old
 over-none old = sym (over-laid [] old ∙ laid-nil 0 old)
 
 -- an outcome that is another
-read-same : (o o′ : Outcome) (old : List ℕ) (a : Read) (new : List ℕ) → o ≡ o′ → ReadTo o old a new → ReadTo o′ old a new
+pub read-same : (o o′ : Outcome) (old : List ℕ) (a : Read) (new : List ℕ) → o ≡ o′ → ReadTo o old a new → ReadTo o′ old a new
 read-same o o′ old a new e r = rw e at r
 
 module _ (text : List ℕ) (t : Bool) (told : t ≡ isCut text) where
@@ -34,7 +34,7 @@ module _ (text : List ℕ) (t : Bool) (told : t ≡ isCut text) where
     unfolding numbersIn
     numbers-on = rw (← told, whole)
 
-    pub numbers-read : (old : List ℕ) (p : Parsed) (a : Read) (new : List ℕ) → ParsedTo Free text 0 n old p new → a ≡ toldNumbers text p → ReadTo (numbersIn text n) old a new
+    pub numbers-read : (old : List ℕ) (p : Parsed) (a : Read) (new : List ℕ) → FoundTo (readText Free text n) 0 old p new → a ≡ toldNumbers text p → ReadTo (numbersIn text n) old a new
     numbers-read old p a new r e =
         read-same _ _ old a new numbers-on
         (record { answered = e ∙ ap (toldNumbers text) (r .answered); stored = r .stored ∙ sym (over-laid _ old) })

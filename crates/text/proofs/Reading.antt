@@ -23,7 +23,7 @@ use Rattle.text.specs.declared.Effect.the-variants.{Becomes, Ends, Fault
 use Rattle.text.specs.declared.Parsed.{Parsed}
 use Rattle.text.specs.declared.Parsed.the-variants.{Numbers, Fault}
 use Rattle.text.specs.Text.{kindOf, endKind, kindsOf, grown, begun, effectOf, Found, found, before, follow, readFrom, readText}
-use Rattle.text.specs.Inner.{kindAt, ParsedTo}
+use Rattle.text.specs.Inner.{kindAt, FoundTo}
 
 -- a definition by cases, of a case that is known
 pub case : {A B : Type 0} (f : A → B) (m k : A) (r : B) → m ≡ k → r ≡ f k → r ≡ f m
@@ -110,7 +110,7 @@ module _ (by : Parting) (text : List ℕ) (from n : ℕ) (old : List ℕ) where
 
   module _ (c : ℕ) (m : Making) (i : ℕ) (cells : List ℕ) (r : Reads c m i cells) where
     -- the end
-    pub reads-end : length text < i → ParsedTo by text from n old (Numbers c) cells
+    pub reads-end : length text < i → FoundTo (readText by text n) from old (Numbers c) cells
     unfolding readFrom
     reads-end h =
         let past : length (kindsOf by text) ≤ i = omega (arith, kinds-length by text) in
@@ -159,7 +159,7 @@ module _ (by : Parting) (text : List ℕ) (from n : ℕ) (old : List ℕ) where
                 r .numbers ∙ ap (λ (f : Found). laid (from + c) (f .numbers) cells) s ∙ rw at (sym (laid-one (from + c) x _ cells (omega (arith, r .long))));
           }
 
-      pub reads-stop : (fault seen wanted : ℕ) → e ≡ Faulty fault seen wanted → ParsedTo by text from n old (Fault fault (i + 1) seen wanted) cells
+      pub reads-stop : (fault seen wanted : ℕ) → e ≡ Faulty fault seen wanted → FoundTo (readText by text n) from old (Fault fault (i + 1) seen wanted) cells
       unfolding follow
       reads-stop fault seen wanted was =
           let s : left c m i ≡ found (Fault fault (i + 1) seen wanted) [] = next ∙ rw (was, follow) in
@@ -175,3 +175,22 @@ module _ (by : Parting) (text : List ℕ) (from n : ℕ) (old : List ℕ) where
 
         pub on-ends : (x : ℕ) → e ≡ Ends x → from + n ≤ length old → cells′ ≡ set cells (from + c) x → c′ ≡ c + 1 → m′ ≡ Nothing → Reads c′ m′ (i + 1) cells′
         on-ends x was room a b d = rw (a, b, d) (reads-ends x was room)
+
+-- a text that was read has as many numbers as it answers, and they are within the room for them
+read-count : (n c i : ℕ) (m : Making) (ks : List Kind) (x : ℕ) → c ≤ n → Fits c n m → readFrom n c i m ks .answer ≡ Numbers x
+    → (x ≡ c + length (readFrom n c i m ks .numbers)) × (x ≤ n)
+unfolding readFrom follow before
+read-count n c i m [] x h f e = let z : c ≡ x = cc in (omega arith, omega arith)
+read-count n c i m (k ∷ r) x h f e = by-effect (effectOf c n m k) (sound c n m k f) (λ c′ m′. read-count n c′ (suc i) m′ r x) e
+  where
+    by-effect : (t : Effect) → Sound c n t
+        → ((c′ : ℕ) (m′ : Making) → c′ ≤ n → Fits c′ n m′ → readFrom n c′ (suc i) m′ r .answer ≡ Numbers x → (x ≡ c′ + length (readFrom n c′ (suc i) m′ r .numbers)) × (x ≤ n))
+        → follow i t (λ m′. readFrom n c (suc i) m′ r) (λ y. before y (readFrom n (suc c) (suc i) Nothing r)) .answer ≡ Numbers x
+        → (x ≡ c + length (follow i t (λ m′. readFrom n c (suc i) m′ r) (λ y. before y (readFrom n (suc c) (suc i) Nothing r)) .numbers)) × (x ≤ n)
+    by-effect (Becomes m′) s ih e = ih c m′ h s e
+    by-effect (Ends y) s ih e = let z = ih (suc c) Nothing s tt e in (omega (arith, z .0), z .1)
+    by-effect (Faulty fault seen wanted) s ih e = let z : _≡_ {A = ℕ} 0 1 = cc in absurd (omega arith)
+
+pub text-count : (by : Parting) (text : List ℕ) (n x : ℕ) → readText by text n .answer ≡ Numbers x → (x ≡ length (readText by text n .numbers)) × (x ≤ n)
+unfolding readText
+text-count by text n x e = let z = read-count n 0 1 Nothing (kindsOf by text) x (omega arith) tt e in (omega (arith, z .0), z .1)

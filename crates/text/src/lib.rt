@@ -3,9 +3,9 @@ ghost use mathlib.Core.Path.{_≡_};
 ghost use Prim.Native.Nat.{_+_, _^_, _<_, _≤_};
 ghost use lib.ListN.{length};
 ghost use Rattle.chain.specs.Written.{over};
-ghost use Rattle.text.specs.Text.{faultOf, plainKind, wordKind, freeKind, fieldKind, kindOf, endKind, parted, closed, padded, grown, begun, lengthened, effectOf};
+ghost use Rattle.text.specs.Text.{faultOf, plainKind, wordKind, freeKind, fieldKind, kindOf, endKind, parted, closed, padded, grown, begun, lengthened, effectOf, readText};
 ghost use Rattle.text.specs.Text.{afterByte, spotOf, markLength, isCut, cutText, refusedAt, toldNumbers, numbersIn, numbersOf, numberTold, wordsTold};
-ghost use Rattle.text.specs.Inner.{kindAt, ParsedTo, ReadTo, ReadTold};
+ghost use Rattle.text.specs.Inner.{kindAt, FoundTo, ReadTo, ReadTold};
 
 // The numbers of the refusals.
 pub const OUT_OF_RANGE: u32 = 1;
@@ -260,7 +260,7 @@ fn effect_of(made: usize, cells: usize, making: Making, kind: Kind) -> Effect
 // Reads the numbers of a text over so many cells from a place on. Those that stand whole before a fault are stored.
 pub fn parse(by: Parting, text: &[u8], from: usize, room: usize, numbers: &mut [u32]) -> Parsed
     requires { ⌜ from + room ≤ length (now numbers) ⌝ }
-    ensures { λ r. ⌜ ParsedTo by (now (text .entry)) from room (now (numbers .entry)) r (now (numbers .exit)) ⌝ }
+    ensures { λ r. ⌜ FoundTo (readText by (now (text .entry)) room) from (now (numbers .entry)) r (now (numbers .exit)) ⌝ }
 {
     let mut made: usize = 0;
     let mut making = Making::Nothing;

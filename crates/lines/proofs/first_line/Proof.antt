@@ -1,11 +1,9 @@
 -- The head is that of the content.
 use borrow.Author.Needs.{needs}
-use mathlib.Core.Path.{sym, ap, _∙_}
-use native.Mathlib.Omega.{arith}
+use mathlib.Core.Path.{ap, _∙_}
 use lib.ListN.{take}
-use lib.Seq.{length-take-le}
 use Rattle.lines.specs.Lines.{headOf}
-use Rattle.lines.proofs.Lines.{content-within}
+use Rattle.lines.proofs.Lines.{content-long}
 use Rattle.lines.proofs.first_line.Statement.{statement}
 use Rattle.lines.proofs.first_line.Tie as tie
 
@@ -13,7 +11,7 @@ content-length-requires : tie.Need-content-length-requires
 content-length-requires c κs = search needs
 
 slice-aggregate-head-of : tie.Need-slice-aggregate-head-of
-slice-aggregate-head-of c = let w = content-within (c .before .before .before .args .line .now) in let e = c .before .content-length .ensures in sym (length-take-le _ _ (omega arith))
+slice-aggregate-head-of c = content-long _ _ (c .before .content-length .ensures)
 
 head-of-requires : tie.Need-head-of-requires
 head-of-requires c κs = search needs

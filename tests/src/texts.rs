@@ -198,7 +198,7 @@ fn amounts(
                 return Err((105, at, byte as u64, 0));
             }
             making = Some(grown(making.unwrap_or(0), byte, at)?);
-        } else if byte == b' ' && separator == b' ' {
+        } else if separator == b' ' && matches!(byte, b' ' | b'\t') {
             if let Some(amount) = making.take() {
                 store(amount);
             }

@@ -252,7 +252,8 @@ pub extern "C" fn spoutbasket_path(
     tell::tell_figured(figured, answer)
 }
 
-ghost use Rattle.text.specs.Text.{numbersOf, numberTold, wordsTold};
+ghost use Rattle.places.specs.Places.{numberTold, wordsTold};
+ghost use Rattle.text.specs.Text.{numbersOf};
 ghost use Rattle.table.specs.Table.{tableOf};
 ghost use Rattle.phrases.specs.Phrases.{phraseNumber, phraseWords, phraseText};
 

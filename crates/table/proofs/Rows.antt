@@ -12,13 +12,14 @@ use Rattle.chain.specs.Chain.{mostColumns, mostPayslips}
 use Rattle.chain.specs.Written.{over, laid}
 use Rattle.chain.proofs.Rules.{lt-yes, lt-no, eq-yes, eq-no, ne-yes, ne-no, not-lt}
 use Rattle.chain.proofs.Written.{laid-nil, laid-length, laid-laid, over-laid}
-use Rattle.text.specs.Faults.{outOfRange, noRoom, otherFields}
+use Rattle.places.specs.Faults.{outOfRange, noRoom, otherFields}
 use Rattle.text.specs.declared.Parting.{Parting}
 use Rattle.text.specs.declared.Parsed.{Parsed}
 use Rattle.text.specs.declared.Parsed.the-variants.{Numbers, Fault}
-use Rattle.text.specs.declared.Read.{Read}
-use Rattle.text.specs.declared.Read.the-variants.{Values, Refused}
-use Rattle.text.specs.Text.{Found, found, readText, Outcome, outcome, isCut, cutText}
+use Rattle.places.specs.declared.Read.{Read}
+use Rattle.places.specs.declared.Read.the-variants.{Values, Refused}
+use Rattle.places.specs.Places.{isCut, cutText}
+use Rattle.text.specs.Text.{Found, found, readText, Outcome, outcome}
 use Rattle.text.specs.Inner.{FoundTo, ReadTo}
 use Rattle.text.proofs.Reading.{text-count}
 use Rattle.text.proofs.Outcomes.{over-none}

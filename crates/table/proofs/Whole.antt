@@ -7,10 +7,11 @@ use native.Mathlib.Omega.{arith}
 use lib.ListN.{length, take, drop, drop-of-length-le}
 use Rattle.chain.specs.Chain.{mostColumns}
 use Rattle.chain.proofs.Rules.{lt-yes, lt-no, eq-yes, eq-no, or-left, or-right, or-none}
-use Rattle.text.specs.Faults.{outOfRange}
-use Rattle.text.specs.declared.Read.{Read}
-use Rattle.text.specs.declared.Read.the-variants.{Refused}
-use Rattle.text.specs.Text.{Outcome, outcome, isCut, cutText}
+use Rattle.places.specs.Faults.{outOfRange}
+use Rattle.places.specs.declared.Read.{Read}
+use Rattle.places.specs.declared.Read.the-variants.{Refused}
+use Rattle.places.specs.Places.{isCut, cutText}
+use Rattle.text.specs.Text.{Outcome, outcome}
 use Rattle.text.specs.Inner.{ReadTo}
 use Rattle.text.proofs.Outcomes.{over-none, read-same}
 use Rattle.lines.specs.Lines.{linesOf, contentOf, headOf}

@@ -3,8 +3,9 @@ use mathlib.Core.Path.{_≡_, refl}
 use mathlib.Core.List.{List, [], _∷_, _++_}
 use Prim.Native.Nat.{ℕ, zero, suc}
 use Rattle.chain.specs.Tests.{_<?_, _=?_, _≠?_, _or_}
-use Rattle.text.specs.declared.Read.the-variants.{Values, Refused}
-use Rattle.text.specs.Text.{faultOf, plainKind, wordKind, freeKind, fieldKind, grown, begun, before, follow, readFrom, readText, afterByte, spotOf, markLength, isCut, cutText, outcome}
+use Rattle.places.specs.declared.Read.the-variants.{Values, Refused}
+use Rattle.places.specs.Places.{afterByte, spotOf, markLength, isCut, cutText}
+use Rattle.text.specs.Text.{faultOf, plainKind, wordKind, freeKind, fieldKind, grown, begun, before, follow, readFrom, readText, outcome}
 use Rattle.lines.specs.Lines.{contentLength, sameUnit, digitUnit, blankUnit, begun as wordBegun, tallyOf, partingOf, separatorsIn, headOf}
 use Rattle.table.specs.Table.{rowFound, joined, afterRow, rowsEnd, rowsFrom, headed, tableLines, tableIn, tableOf}
 

@@ -5,13 +5,14 @@ use Prim.Native.Nat.{ℕ, suc, _+_}
 use lib.ListN.{length}
 use Rattle.chain.specs.Tests.{_<?_, _=?_, _≠?_, _or_}
 use Rattle.chain.specs.Chain.{mostColumns, mostPayslips}
-use Rattle.text.specs.Faults.{outOfRange, noRoom, otherFields}
+use Rattle.places.specs.Faults.{outOfRange, noRoom, otherFields}
 use Rattle.text.specs.declared.Parting.{Parting}
 use Rattle.text.specs.declared.Parsed.{Parsed}
 use Rattle.text.specs.declared.Parsed.the-variants.{Numbers, Fault}
-use Rattle.text.specs.declared.Read.{Read}
-use Rattle.text.specs.declared.Read.the-variants.{Values, Refused}
-use Rattle.text.specs.Text.{Found, found, readText, Outcome, outcome, bodyOf, isCut, cutText}
+use Rattle.places.specs.declared.Read.{Read}
+use Rattle.places.specs.declared.Read.the-variants.{Values, Refused}
+use Rattle.places.specs.Places.{bodyOf, isCut, cutText}
+use Rattle.text.specs.Text.{Found, found, readText, Outcome, outcome}
 use Rattle.lines.specs.Lines.{linesOf, contentOf, tallyOf, fieldsIn, headOf}
 use Rattle.lines.specs.declared.Head.{Head}
 

@@ -4,14 +4,14 @@ ghost use Prim.Native.Nat.{_+_, _^_, _≤_, _<_};
 ghost use lib.ListN.{length, drop};
 ghost use Rattle.chain.specs.Chain.{mostColumns};
 ghost use Rattle.chain.specs.Written.{over};
-ghost use Rattle.text.specs.Text.{numberTold, wordsTold};
+ghost use Rattle.places.specs.Places.{numberTold, wordsTold};
 ghost use Rattle.text.specs.Inner.{FoundTo, ReadTo};
 ghost use Rattle.lines.specs.Lines.{linesOf, contentOf};
 ghost use Rattle.table.specs.Table.{rowFound, rowsFrom, headed, tableIn, tableOf};
 use lines::Head;
+use places::Read;
 use text::Parsed;
 use text::Parting;
-use text::Read;
 
 // A line of amounts without its carriage return, judged, and read over the cells after those that are filled.
 fn read_content(
@@ -27,7 +27,7 @@ fn read_content(
 {
     if payslips == chain::MOST_PAYSLIPS {
         return Parsed::Fault(
-            text::OUT_OF_RANGE,
+            places::OUT_OF_RANGE,
             1,
             chain::MOST_PAYSLIPS + 1,
             chain::MOST_PAYSLIPS,
@@ -35,10 +35,10 @@ fn read_content(
     }
     let fields = lines::field_count(by, line);
     if fields != p {
-        return Parsed::Fault(text::OTHER_FIELDS, line.len() + 1, fields, p);
+        return Parsed::Fault(places::OTHER_FIELDS, line.len() + 1, fields, p);
     }
     if amounts.len() < filled + p {
-        return Parsed::Fault(text::NO_ROOM, 1, amounts.len(), filled + p);
+        return Parsed::Fault(places::NO_ROOM, 1, amounts.len(), filled + p);
     }
     text::parse(by, line, filled, p, amounts)
 }
@@ -92,7 +92,7 @@ fn read_rows(
         at = end + 1;
     }
     if payslips == 0 {
-        return Read::Refused(text::OUT_OF_RANGE, line, 1, 0, 1);
+        return Read::Refused(places::OUT_OF_RANGE, line, 1, 0, 1);
     }
     Read::Values(p, payslips)
 }
@@ -105,10 +105,22 @@ fn read_headed(head: Head, end: usize, text: &[u8], amounts: &mut [u32]) -> Read
 {
     let p = head.fields;
     if p == 0 {
-        return Read::Refused(text::OUT_OF_RANGE, 1, head.stop + 1, p, chain::MOST_COLUMNS);
+        return Read::Refused(
+            places::OUT_OF_RANGE,
+            1,
+            head.stop + 1,
+            p,
+            chain::MOST_COLUMNS,
+        );
     }
     if chain::MOST_COLUMNS < p {
-        return Read::Refused(text::OUT_OF_RANGE, 1, head.stop + 1, p, chain::MOST_COLUMNS);
+        return Read::Refused(
+            places::OUT_OF_RANGE,
+            1,
+            head.stop + 1,
+            p,
+            chain::MOST_COLUMNS,
+        );
     }
     let by = head.by;
     if head.digits == 0 {
@@ -121,11 +133,11 @@ fn read_headed(head: Head, end: usize, text: &[u8], amounts: &mut [u32]) -> Read
 fn read_table(text: &[u8], amounts: &mut [u32]) -> Read
     ensures { λ r. ⌜ ReadTo (tableIn (now (text .entry)) (length (now (amounts .entry)))) (now (amounts .entry)) r (now (amounts .exit)) ⌝ }
 {
-    if text::is_cut(text) {
-        return text::cut_text(text);
+    if places::is_cut(text) {
+        return places::cut_text(text);
     }
     if text.len() == 0 {
-        return Read::Refused(text::OUT_OF_RANGE, 1, 1, 0, 1);
+        return Read::Refused(places::OUT_OF_RANGE, 1, 1, 0, 1);
     }
     let end = lines::line_end(text, 0);
     let head = lines::first_line(&text[..end]);
@@ -138,7 +150,7 @@ pub fn table(text: &[u8], amounts: &mut [u32], answer: &mut [u64; 4]) -> u32
     ensures { λ r. ⌜ now (answer .exit) ≡ wordsTold (tableOf (now (text .entry)) (length (now (amounts .entry))) .answer) ⌝ }
     ensures { λ r. ⌜ now (amounts .exit) ≡ over (tableOf (now (text .entry)) (length (now (amounts .entry))) .numbers) (now (amounts .entry)) ⌝ }
 {
-    let start = text::mark_length(text);
+    let start = places::mark_length(text);
     let read = read_table(&text[start..], amounts);
-    text::tell(read, answer)
+    places::tell(read, answer)
 }

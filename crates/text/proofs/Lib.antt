@@ -1,4 +1,2 @@
 pub mod Reading
-pub mod Spots
-pub mod Marks
 pub mod Outcomes

@@ -8,9 +8,11 @@ use Rattle.chain.specs.Written.{over, laid}
 use Rattle.chain.proofs.Written.{over-laid, laid-nil}
 use Rattle.text.specs.declared.Parting.the-variants.{Free}
 use Rattle.text.specs.declared.Parsed.{Parsed}
-use Rattle.text.specs.declared.Read.{Read}
-use Rattle.text.specs.Text.{readText, isCut, cutText, toldNumbers, numbersFound, outcome, Outcome, numbersIn, numberTold, wordsTold}
-use Rattle.text.specs.Inner.{FoundTo, ReadTo, ReadTold}
+use Rattle.places.specs.declared.Read.{Read}
+use Rattle.places.specs.Places.{isCut, cutText, numberTold, wordsTold}
+use Rattle.text.specs.Text.{readText, toldNumbers, numbersFound, outcome, Outcome, numbersIn}
+use Rattle.places.specs.Inner.{ReadTold}
+use Rattle.text.specs.Inner.{FoundTo, ReadTo}
 
 -- nothing is stored
 pub over-none : (old : List ℕ) → old ≡ over [] old

@@ -12,7 +12,7 @@ use Rattle.chain.specs.Tests.{_<?_}
 use Rattle.chain.specs.Chain.{mostAmount}
 use Rattle.chain.specs.Written.{laid}
 use Rattle.chain.proofs.Written.{laid-nil, laid-one}
-use Rattle.text.specs.Faults.{noRoom, tooLarge}
+use Rattle.places.specs.Faults.{noRoom, tooLarge}
 use Rattle.text.specs.declared.Parting.{Parting}
 use Rattle.text.specs.declared.Kind.{Kind}
 use Rattle.text.specs.declared.Kind.the-variants.{Blank, Padding, Separator, Digit, Other}
@@ -24,10 +24,6 @@ use Rattle.text.specs.declared.Parsed.{Parsed}
 use Rattle.text.specs.declared.Parsed.the-variants.{Numbers, Fault}
 use Rattle.text.specs.Text.{kindOf, endKind, kindsOf, grown, begun, effectOf, Found, found, before, follow, readFrom, readText}
 use Rattle.text.specs.Inner.{kindAt, FoundTo}
-
--- a definition by cases, of a case that is known
-pub case : {A B : Type 0} (f : A → B) (m k : A) (r : B) → m ≡ k → r ≡ f k → r ≡ f m
-case f m k r is e = rw is e
 
 -- the kinds of a text are those of its bytes, and one more for its end
 kinds-length : (by : Parting) (text : List ℕ) → length (kindsOf by text) ≡ length text + 1

@@ -7,8 +7,8 @@ use Rattle.chain.specs.Written.{over, laid}
 use Rattle.text.specs.declared.Parting.{Parting}
 use Rattle.text.specs.declared.Kind.{Kind}
 use Rattle.text.specs.declared.Parsed.{Parsed}
-use Rattle.text.specs.declared.Read.{Read}
-use Rattle.text.specs.Text.{endKind, kindsOf, Found, Outcome, numberTold, wordsTold}
+use Rattle.places.specs.declared.Read.{Read}
+use Rattle.text.specs.Text.{endKind, kindsOf, Found, Outcome}
 
 -- the kind at a place of a text, counted from 0
 unfoldable pub kindAt : Parting → List ℕ → ℕ → Kind
@@ -23,8 +23,3 @@ pub record FoundTo (f : Found) (from : ℕ) (old : List ℕ) (answer : Parsed) (
 pub record ReadTo (o : Outcome) (old : List ℕ) (answer : Read) (new : List ℕ) : Type 0 where
   pub answered : answer ≡ o .answer
   pub stored : new ≡ over (o .numbers) old
-
--- an answer was told: its number was returned, and its words were written
-pub record ReadTold (a : Read) (returned : ℕ) (words : List ℕ) : Type 0 where
-  pub number-is : returned ≡ numberTold a
-  pub words-are : words ≡ wordsTold a

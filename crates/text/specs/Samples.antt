@@ -3,8 +3,9 @@ use mathlib.Core.Path.{_≡_, refl}
 use mathlib.Core.List.{List, [], _∷_}
 use Prim.Native.Nat.{ℕ}
 use Rattle.chain.specs.Tests.{_<?_, _=?_, _≠?_, _or_}
-use Rattle.text.specs.declared.Read.the-variants.{Values, Refused}
-use Rattle.text.specs.Text.{faultOf, plainKind, wordKind, freeKind, grown, begun, before, follow, readFrom, readText, afterByte, spotOf, markLength, isCut, cutText, outcome, numbersIn, numbersOf, numberTold, wordsTold}
+use Rattle.places.specs.declared.Read.the-variants.{Values, Refused}
+use Rattle.places.specs.Places.{afterByte, spotOf, markLength, isCut, cutText, numberTold, wordsTold}
+use Rattle.text.specs.Text.{faultOf, plainKind, wordKind, freeKind, grown, begun, before, follow, readFrom, readText, outcome, numbersIn, numbersOf}
 
 -- "12\n3x4\n"
 abbrev letter : List ℕ

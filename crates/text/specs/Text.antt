@@ -1,12 +1,12 @@
 -- Texts of numbers, read byte by byte up to their end or to the first fault (Spec 12.1, 12.2).
-use mathlib.Core.Bool.{Bool, false, cond}
+use mathlib.Core.Bool.{cond}
 use mathlib.Core.List.{List, [], _∷_}
 use Prim.Native.Nat.{ℕ, suc, _+_, _-_, _*_}
-use lib.ListN.{length, getD, take, drop}
-use Rattle.chain.specs.Tests.{_<?_, _=?_, _≠?_, _or_}
+use Rattle.chain.specs.Tests.{_<?_, _=?_, _or_}
 use Rattle.chain.specs.Chain.{mostAmount}
 use Rattle.decimal.specs.Decimal.{blank, newline}
-use Rattle.text.specs.Faults.{noRoom, unreadable, tooLarge, cutOff, grouped, signed, noAmount}
+use Rattle.places.specs.Faults.{noRoom, unreadable, tooLarge, grouped, signed, noAmount}
+use Rattle.places.specs.Places.{spotOf, bodyOf, isCut, refusedAt, cutText}
 use Rattle.text.specs.declared.Parting.{Parting}
 use Rattle.text.specs.declared.Parting.the-variants.{Free, Words, Fields}
 use Rattle.text.specs.declared.Kind.{Kind}
@@ -17,9 +17,8 @@ use Rattle.text.specs.declared.Effect.{Effect}
 use Rattle.text.specs.declared.Effect.the-variants.{Becomes, Ends, Faulty}
 use Rattle.text.specs.declared.Parsed.{Parsed}
 use Rattle.text.specs.declared.Parsed.the-variants.{Numbers, Fault}
-use Rattle.text.specs.declared.Read.{Read}
-use Rattle.text.specs.declared.Read.the-variants.{Values, Refused}
-use Rattle.text.specs.declared.Spot.{Spot}
+use Rattle.places.specs.declared.Read.{Read}
+use Rattle.places.specs.declared.Read.the-variants.{Values}
 
 -- the bytes of a tab, a carriage return, and the digits 0 and 9
 abbrev pub tab : ℕ
@@ -143,30 +142,6 @@ readFrom n c i m (k ∷ r) =
 unfoldable pub readText : Parting → List ℕ → ℕ → Found
 readText by text n = readFrom n 0 1 Nothing (kindsOf by text)
 
--- where a text goes on after a byte: a newline begins a line
-unfoldable pub afterByte : Spot → ℕ → Spot
-afterByte spot b = cond (b =? newline) (record { line = spot .line + 1; column = 1 }) (record { line = spot .line; column = spot .column + 1 })
-
--- after some bytes
-abbrev pub afterBytes : Spot → List ℕ → Spot
-afterBytes spot [] = spot
-afterBytes spot (b ∷ r) = afterBytes (afterByte spot b) r
-
--- the line and the column of a place: 1 and the newlines before it, 1 and the bytes since the last of them
-unfoldable pub spotOf : List ℕ → ℕ → Spot
-spotOf text place = afterBytes (record { line = 1; column = 1 }) (take (place - 1) text)
-
--- a text goes on after a byte order mark
-unfoldable pub markLength : List ℕ → ℕ
-markLength text = cond (getD text 0 0 ≠? 239 or getD text 1 0 ≠? 187 or getD text 2 0 ≠? 191) 0 3
-
-abbrev pub bodyOf : List ℕ → List ℕ
-bodyOf text = drop (markLength text) text
-
--- a text that has bytes and does not end with a newline may have been cut off
-unfoldable pub isCut : List ℕ → Bool
-isCut text = cond (length text =? 0) false (getD text (length text - 1) 0 ≠? newline)
-
 -- what a text answers, and the numbers that are stored
 pub record Outcome : Type 0 where
   pub answer : Read
@@ -174,14 +149,6 @@ pub record Outcome : Type 0 where
 
 abbrev pub outcome : Read → List ℕ → Outcome
 outcome a l = record { answer = a; numbers = l }
-
--- the refusal of a text by a fault at a place
-abbrev pub refusedAt : ℕ → Spot → ℕ → ℕ → Read
-refusedAt fault spot seen wanted = Refused fault (spot .line) (spot .column) seen wanted
-
--- that of a text cut off, just past its last byte
-unfoldable pub cutText : List ℕ → Read
-cutText text = refusedAt cutOff (spotOf text (length text + 1)) 0 0
 
 -- a text of numbers: how many there are, or the first fault
 abbrev pub toldNumbers : List ℕ → Parsed → Read
@@ -196,13 +163,3 @@ numbersIn text n = cond (isCut text) (outcome (cutText text) []) (numbersFound t
 
 abbrev pub numbersOf : List ℕ → ℕ → Outcome
 numbersOf text n = numbersIn (bodyOf text) n
-
--- what is returned: 0, or the refusal's number
-abbrev pub numberTold : Read → ℕ
-numberTold (Values a b) = 0
-numberTold (Refused fault line column seen wanted) = fault
-
--- what the four words are: the values and zeros; or line, column, what was found and what was wanted
-abbrev pub wordsTold : Read → List ℕ
-wordsTold (Values a b) = a ∷ b ∷ 0 ∷ 0 ∷ []
-wordsTold (Refused fault line column seen wanted) = line ∷ column ∷ seen ∷ wanted ∷ []

@@ -2,7 +2,7 @@
 use borrow.Author.Needs.{needs}
 use native.Mathlib.Omega.{arith}
 use Rattle.table.specs.Table.{tableIn}
-use Rattle.text.proofs.Marks.{mark-within, body-part}
+use Rattle.places.proofs.Marks.{mark-within, body-part}
 use Rattle.text.proofs.Outcomes.{read-of, read-told}
 use Rattle.table.proofs.table.Statement.{statement}
 use Rattle.table.proofs.table.Tie as tie

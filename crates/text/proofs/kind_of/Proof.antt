@@ -1,7 +1,7 @@
 -- Each return is one way of parting.
 use borrow.Author.Needs.{needs}
 use Rattle.text.specs.Text.{kindOf}
-use Rattle.text.proofs.Reading.{case}
+use Rattle.places.proofs.Cases.{case}
 use Rattle.text.proofs.kind_of.Statement.{statement}
 use Rattle.text.proofs.kind_of.Tie as tie
 

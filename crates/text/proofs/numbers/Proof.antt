@@ -2,7 +2,7 @@
 use borrow.Author.Needs.{needs}
 use native.Mathlib.Omega.{arith}
 use Rattle.text.specs.Text.{numbersIn}
-use Rattle.text.proofs.Marks.{mark-within, body-part}
+use Rattle.places.proofs.Marks.{mark-within, body-part}
 use Rattle.text.proofs.Outcomes.{read-of, read-told}
 use Rattle.text.proofs.numbers.Statement.{statement}
 use Rattle.text.proofs.numbers.Tie as tie

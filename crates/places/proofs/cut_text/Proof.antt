@@ -1,8 +1,8 @@
 -- The refusal is what the callee says.
 use borrow.Author.Needs.{needs}
-use Rattle.text.specs.Text.{cutText}
-use Rattle.text.proofs.cut_text.Statement.{statement}
-use Rattle.text.proofs.cut_text.Tie as tie
+use Rattle.places.specs.Places.{cutText}
+use Rattle.places.proofs.cut_text.Statement.{statement}
+use Rattle.places.proofs.cut_text.Tie as tie
 
 add-refuse : tie.Need-add-refuse
 add-refuse c = search needs

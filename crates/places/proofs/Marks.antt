@@ -9,7 +9,7 @@ use lib.ListN.{length, getD, take, drop, length-drop, List·getD-eq-default}
 use lib.Seq.{take-all}
 use Rattle.chain.specs.Tests.{_≠?_, _or_}
 use Rattle.chain.proofs.Rules.{ne-yes, or-right}
-use Rattle.text.specs.Text.{markLength, bodyOf}
+use Rattle.places.specs.Places.{markLength, bodyOf}
 
 module _ (text : List ℕ) where
   pub mark-short : length text < 3 → 0 ≡ markLength text

@@ -1,9 +1,9 @@
 -- The spot is what the callee says.
 use borrow.Author.Needs.{needs}
 use mathlib.Core.Path.{ap}
-use Rattle.text.specs.Text.{refusedAt}
-use Rattle.text.proofs.refuse.Statement.{statement}
-use Rattle.text.proofs.refuse.Tie as tie
+use Rattle.places.specs.Places.{refusedAt}
+use Rattle.places.proofs.refuse.Statement.{statement}
+use Rattle.places.proofs.refuse.Tie as tie
 
 spot-of-requires : tie.Need-spot-of-requires
 spot-of-requires c κs = search needs

@@ -9,8 +9,8 @@ use lib.ListN.{length, getD, take, drop, length-take, drop-of-length-le}
 use lib.Seq.{drop-cons, getD-take}
 use Rattle.chain.proofs.Rules.{eq-yes, eq-no}
 use Rattle.decimal.specs.Decimal.{newline}
-use Rattle.text.specs.declared.Spot.{Spot}
-use Rattle.text.specs.Text.{afterByte, afterBytes, spotOf}
+use Rattle.places.specs.declared.Spot.{Spot}
+use Rattle.places.specs.Places.{afterByte, afterBytes, spotOf}
 
 -- where the place is, from where byte i is
 abbrev pub spotLeft : List ℕ → ℕ → Spot → ℕ → Spot

@@ -1,9 +1,9 @@
 -- Each return is the one test of the definition, decided.
 use borrow.Author.Needs.{needs}
-use Rattle.text.specs.Text.{afterByte}
+use Rattle.places.specs.Places.{afterByte}
 use Rattle.decimal.proofs.Choices.{choosing}
-use Rattle.text.proofs.after.Statement.{statement}
-use Rattle.text.proofs.after.Tie as tie
+use Rattle.places.proofs.after.Statement.{statement}
+use Rattle.places.proofs.after.Tie as tie
 
 add-t4 : tie.Need-add-t4
 add-t4 c = search needs

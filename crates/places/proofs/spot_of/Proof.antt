@@ -5,10 +5,10 @@ use Prim.Native.Nat.{_+_, _-_, _≤_}
 use native.Mathlib.Omega.{arith}
 use lib.ListN.{length}
 use borrow.Author.Tests.{ltb-true, ltb-false}
-use Rattle.text.specs.Text.{spotOf}
-use Rattle.text.proofs.Spots.{spotLeft, spot-start, spot-next, spot-past, spot-reached, line-on, column-on}
-use Rattle.text.proofs.spot_of.Statement.{statement}
-use Rattle.text.proofs.spot_of.Tie as tie
+use Rattle.places.specs.Places.{spotOf}
+use Rattle.places.proofs.Spots.{spotLeft, spot-start, spot-next, spot-past, spot-reached, line-on, column-on}
+use Rattle.places.proofs.spot_of.Statement.{statement}
+use Rattle.places.proofs.spot_of.Tie as tie
 
 abbrev Inv-loop : tie.InvT-loop
 Inv-loop text place spot₀ i₀ spot i = (i ≤ length text) × (spot .line ≤ i + 1) × (spot .column ≤ i + 1) × (spotOf text place ≡ spotLeft text place spot i)

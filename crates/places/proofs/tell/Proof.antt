@@ -1,10 +1,10 @@
 -- Each return is one case of the answer.
 use borrow.Author.Needs.{needs}
 use mathlib.Core.Path.{refl}
-use Rattle.text.specs.Text.{numberTold, wordsTold}
-use Rattle.text.proofs.Reading.{case}
-use Rattle.text.proofs.tell.Statement.{statement}
-use Rattle.text.proofs.tell.Tie as tie
+use Rattle.places.specs.Places.{numberTold, wordsTold}
+use Rattle.places.proofs.Cases.{case}
+use Rattle.places.proofs.tell.Statement.{statement}
+use Rattle.places.proofs.tell.Tie as tie
 
 enum-known-read : tie.Need-enum-known-read
 enum-known-read c = search needs

@@ -1,0 +1,3 @@
+pub mod Cases
+pub mod Marks
+pub mod Spots

@@ -1,0 +1,3 @@
+pub mod Faults
+pub mod Places
+pub mod Inner

@@ -113,6 +113,11 @@ impl Folder {
         path
     }
 
+    /// Whether a name in it is a symbolic link.
+    pub fn is_link(&self, name: &str) -> bool {
+        self.0.join(name).is_symlink()
+    }
+
     /// The names in it, in order.
     pub fn names(&self) -> Vec<String> {
         let names = std::fs::read_dir(&self.0).unwrap();

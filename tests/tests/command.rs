@@ -192,8 +192,8 @@ fn any_bytes() {
             true => r.pick(b"0123 \n\t\r;,.-x"),
             false => r.word() as u8,
         };
-        let mut bytes: Vec<u8> = (0..length).map(|_| byte(&mut r)).collect();
-        bytes.push(b'\n');
+        let random = (0..length).map(|_| byte(&mut r));
+        let bytes: Vec<u8> = random.chain([b'\n']).collect();
         let other = folder.file("other", &bytes);
         for arguments in [
             vec!["compile", "-"],
@@ -361,6 +361,10 @@ fn names() {
         cp week.txt $'\\xff.txt'; spoutbasket check $'\\xff.txt' 1.chain > odd; rm $'\\xff.txt'
         spoutbasket check - 1.chain < week.txt
         spoutbasket check week.txt - < 1.chain
+        for name in /dev/stdin /dev/fd/0 /proc/self/fd/0; do
+            spoutbasket check $name - 2>> why < week.txt || echo $?
+            spoutbasket check $name 1.chain > odd < week.txt
+        done
         spoutbasket check /dev/stdin 1.chain --json < week.txt
         spoutbasket list < 1.chain | head -n 1
         spoutbasket run --keys=bank.keys < 1.chain | head -n 1
@@ -370,7 +374,11 @@ fn names() {
     );
     let object = "{\"passed\":true,\"columns\":3,\"payslips\":4,\"steps\":9}\n";
     let run = "1323\n1323\n9 multiplications\n9 multiplications\n";
-    assert_eq!(said.done(), format!("{PASSED}{PASSED}{object}3 4 9\n{run}"));
+    let twice = "2\n".repeat(3);
+    assert_eq!(
+        said.done(),
+        format!("{PASSED}{PASSED}{twice}{object}3 4 9\n{run}")
+    );
     // a name that would break the line
     let odd = folder.path("two\nlines\u{1b}");
     let line = spoutbasket(&["list", &odd], b"").ended(3);
@@ -392,7 +400,9 @@ fn helps() {
             "{help}"
         );
         assert!(help.contains("\nExample: "), "{help}");
-        assert_eq!(spoutbasket(&[name, "--help"], b"").done(), help);
+        for option in ["--help", "-h"] {
+            assert_eq!(spoutbasket(&[name, "-", option], b"").done(), help);
+        }
         assert!(overview.contains(&format!("\n  {name} ")), "{overview}");
     }
     let version = spoutbasket(&["--version"], b"").done();

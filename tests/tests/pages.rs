@@ -79,16 +79,21 @@ fn the_night_of_the_manual() {
         assert!(folder.names().contains(&name.to_string()), "{name}");
     }
     assert_eq!(folder.script("cmp week.chain outbox/week.chain").done(), "");
-    // a sheet that is cut off ends the night before anything goes out
+    let clear = "rm -rf outbox/* *.figures friday.txt";
+    let left = "ls outbox; ls | grep -E 'figures|friday' || true";
+    // a check that is not done ends the night before anything goes out
     folder
-        .script("rm -r outbox/* *.figures; printf '3 4\\n3 0' > week.txt")
+        .script(&format!("{clear}; ln -sf /dev/full check.txt"))
+        .done();
+    assert_eq!(folder.script(&script).status, 3);
+    assert_eq!(folder.script(left).done(), "");
+    // so does a sheet that is cut off
+    folder
+        .script(&format!("{clear}; printf '3 4\\n3 0' > week.txt"))
         .done();
     let said = folder.script(&script);
     assert_eq!((said.status, said.said.len()), (1, 0));
-    assert_eq!(
-        folder.script("ls outbox; ls | grep figures || true").done(),
-        ""
-    );
+    assert_eq!(folder.script(left).done(), "");
 }
 
 /// The read-me's sample, and its payslip of two amounts.

@@ -10,6 +10,9 @@ use std::path::PathBuf;
 /// The most bytes of a text. The largest sheet has a few thousand, so this only ends the reading of what is none.
 const LONGEST_TEXT: usize = 16 << 20;
 
+/// The names of standard input, which can be read once.
+const STANDARD: [&str; 4] = ["-", "/dev/stdin", "/dev/fd/0", "/proc/self/fd/0"];
+
 /// Where input comes from.
 #[derive(PartialEq)]
 pub enum Source {
@@ -18,12 +21,13 @@ pub enum Source {
 }
 
 impl Source {
-    /// `-` and no name at all are standard input.
+    /// No name at all is standard input too.
     pub fn new(name: Option<&OsStr>) -> Source {
         match name {
-            None => Source::Standard,
-            Some(name) if name == "-" || name == "/dev/stdin" => Source::Standard,
-            Some(name) => Source::File(name.into()),
+            Some(name) if !STANDARD.iter().any(|standard| name == *standard) => {
+                Source::File(name.into())
+            }
+            _ => Source::Standard,
         }
     }
 

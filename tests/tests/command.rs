@@ -392,7 +392,9 @@ fn names() {
 #[test]
 fn helps() {
     let overview = spoutbasket(&["--help"], b"").done();
-    assert_eq!(spoutbasket(&["help"], b"").done(), overview);
+    for word in ["help", "-h"] {
+        assert_eq!(spoutbasket(&[word], b"").done(), overview);
+    }
     for name in COMMANDS {
         let help = spoutbasket(&["help", name], b"").done();
         assert!(
@@ -405,8 +407,13 @@ fn helps() {
         }
         assert!(overview.contains(&format!("\n  {name} ")), "{overview}");
     }
-    let version = spoutbasket(&["--version"], b"").done();
-    assert_eq!(version, format!("spoutbasket {}\n", spoutbasket::VERSION));
+    for word in ["--version", "-V"] {
+        let version = spoutbasket(&[word], b"").done();
+        assert_eq!(version, format!("spoutbasket {}\n", spoutbasket::VERSION));
+    }
+    // a file's name
+    let line = spoutbasket(&["list", "--", "--help"], b"").ended(3);
+    assert_eq!(line, "--help: No such file or directory (os error 2)");
 }
 
 /// Wrong uses: status 2, nothing said, one line, and no word of it repeated, since it may be a secret.
@@ -470,6 +477,10 @@ fn wrong_uses() {
             "run: unknown option --base",
         ),
         (vec!["figures", sheet], "figures: --keys FILE wanted"),
+        (
+            vec!["figures", "--keys", "-"],
+            "figures: standard input for two files",
+        ),
         (
             vec!["figures", "--keys", keys, sheet, "52431", "17"],
             "figures: more than 1 file",

@@ -207,8 +207,14 @@ fn output_that_cannot_be_written() {
             assert_eq!(ended.ended(status), why, "{command}");
         }
     }
-    let ended = folder.script("spoutbasket compile week.txt -o same.txt");
-    assert!(ended.ended(2).contains("-o names the sheet itself"));
+    for command in [
+        "compile week.txt -o same.txt",
+        "compile -o week.txt < week.txt",
+        "choose - week.chain week.chain -o same.txt < week.txt",
+    ] {
+        let ended = folder.script(&format!("spoutbasket {command}"));
+        assert!(ended.ended(2).contains("-o names the sheet itself"));
+    }
     // refused input leaves an old file as it was
     let ended = folder.script("echo 1 1 x | spoutbasket compile -o old.chain");
     assert_eq!(ended.status, 1);

@@ -2,7 +2,7 @@
 use crate::messages::{shown, Failure};
 use spoutbasket::LONGEST_FILE;
 use std::ffi::OsStr;
-use std::fs::File;
+use std::fs::{self, File, Metadata};
 use std::io::{self, Read};
 use std::os::fd::AsFd;
 use std::path::PathBuf;
@@ -59,6 +59,14 @@ impl Source {
             .and_then(|file| file.take(most as u64).read_to_end(&mut bytes))
             .map_err(|why| self.failed(&why.to_string()))?;
         Ok(bytes)
+    }
+
+    /// What it is, known without reading.
+    pub fn metadata(&self) -> io::Result<Metadata> {
+        match self {
+            Source::Standard => self.open()?.metadata(),
+            Source::File(path) => fs::metadata(path),
+        }
     }
 
     fn open(&self) -> io::Result<File> {

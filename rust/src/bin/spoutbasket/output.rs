@@ -1,4 +1,5 @@
 //! What is written: results on standard output, and chain files, which appear whole or not at all.
+use crate::input::Source;
 use crate::messages::{shown, Failure};
 use std::collections::hash_map::RandomState;
 use std::ffi::OsStr;
@@ -40,12 +41,12 @@ impl Target {
         }
     }
 
-    /// Whether the target is this very file.
-    pub fn is(&self, other: &Path) -> bool {
+    /// Whether the target is the very file that a source is.
+    pub fn is(&self, source: &Source) -> bool {
         let Target::File(path) = self else {
             return false;
         };
-        match (fs::metadata(path), fs::metadata(other)) {
+        match (fs::metadata(path), source.metadata()) {
             (Ok(a), Ok(b)) => a.is_file() && (a.dev(), a.ino()) == (b.dev(), b.ino()),
             _ => false,
         }

@@ -416,6 +416,27 @@ fn helps() {
     assert_eq!(line, "--help: No such file or directory (os error 2)");
 }
 
+/// A command knows the options of its synopsis and no others.
+#[test]
+fn options() {
+    let options = [
+        "--best", "--method", "--table", "-o", "-v", "--keys", "--json",
+    ];
+    for name in COMMANDS {
+        let help = spoutbasket(&["help", name], b"").done();
+        let usage = help.lines().next().unwrap();
+        let words: Vec<&str> = usage.split([' ', '[', ']']).collect();
+        for option in options {
+            let told = spoutbasket(&[name, option], b"").told;
+            let known = !told.contains("unknown option");
+            assert_eq!(known, words.contains(&option), "{usage}: {told}");
+            // and says what each is for
+            let line = |line: &str| line.trim_start().starts_with(option);
+            assert_eq!(known, help.lines().skip(1).any(line), "{help}");
+        }
+    }
+}
+
 /// Wrong uses: status 2, nothing said, one line, and no word of it repeated, since it may be a secret.
 #[test]
 fn wrong_uses() {

@@ -49,9 +49,14 @@ fn programs() -> PathBuf {
 
 /// The command, with its three streams piped.
 pub fn start(arguments: &[&str]) -> Child {
+    start_on(arguments, Stdio::piped())
+}
+
+/// The command on some standard input, with its two other streams piped.
+pub fn start_on(arguments: &[&str], stdin: impl Into<Stdio>) -> Child {
     Command::new(programs().join("spoutbasket"))
         .args(arguments)
-        .stdin(Stdio::piped())
+        .stdin(stdin)
         .stdout(Stdio::piped())
         .stderr(Stdio::piped())
         .spawn()

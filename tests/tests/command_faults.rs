@@ -1,8 +1,10 @@
 //! The command where input or output fails: the status and the line, and a chain file that is whole or not there.
-use spoutbasket_tests::command::{end, spoutbasket, start, Ended, Folder, PASSED};
+use spoutbasket_tests::command::{end, spoutbasket, start, start_on, Ended, Folder, PASSED};
 use spoutbasket_tests::texts::phrase;
 use std::io::Write;
+use std::os::fd::OwnedFd;
 use std::os::unix::fs::{symlink, MetadataExt, PermissionsExt};
+use std::os::unix::net::UnixStream;
 use std::time::Duration;
 
 const FULL: &str = "No space left on device (os error 28)";
@@ -120,6 +122,25 @@ fn a_producer_that_pauses_or_dies() {
         &["100", "00\n3 5", " 7\n"],
     );
     assert_eq!(keys.done().lines().next(), Some("1323"));
+}
+
+/// A read that fails after whole lines have been read is no end either: here a socket that does not wait.
+#[test]
+fn a_read_that_fails_midway() {
+    let folder = Folder::week("midway");
+    let (keys, chain) = (folder.path("bank.keys"), folder.path("week.chain"));
+    for (arguments, part) in [
+        (vec!["compile"], "1 1\n187\n"),
+        (vec!["figures", "--table", "--keys", &keys], "1 2 3\n"),
+        (vec!["run", "--keys", "-", &chain], "10000\n3 5 7\n"),
+    ] {
+        let (mut producer, input) = UnixStream::pair().unwrap();
+        input.set_nonblocking(true).unwrap();
+        producer.write_all(part.as_bytes()).unwrap();
+        let ended = end(start_on(&arguments, OwnedFd::from(input)));
+        let why = "standard input: Resource temporarily unavailable (os error 11)";
+        assert_eq!(ended.ended(3), why, "{arguments:?}");
+    }
 }
 
 #[test]

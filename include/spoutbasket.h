@@ -182,12 +182,14 @@ uint32_t spoutbasket_list(const uint8_t *bytes, size_t bytes_len, uint8_t text[S
 uint32_t spoutbasket_numbers(const uint8_t *text, size_t text_len, uint32_t *numbers, size_t numbers_len, uint64_t answer[4]);
 
 /* Reads a table, a sheet with one payslip a line: an optional byte order mark, then lines that end with a newline or a carriage return and a newline.
- * Amounts are parted by tabs if the first line has one, else by semicolons if it has one, else by commas if it has one, else by blanks; but for the last
- * case blanks around an amount are padding. A first line without a digit is a line of names, which are counted and not looked at. The amounts, payslip by
- * payslip, go to the front of `amounts`; SPOUTBASKET_MOST_COLUMNS * SPOUTBASKET_MOST_PAYSLIPS cells are always enough. Answers p and q.
+ * Amounts are parted by tabs if the first line has one, else by semicolons if it has one, else by commas if it has one, else by blanks, and by tabs in
+ * later lines; but for the last case blanks around an amount are padding. A first line without a digit is a line of names, which are counted and not
+ * looked at. The amounts, payslip by payslip, go to the front of `amounts`; SPOUTBASKET_MOST_COLUMNS * SPOUTBASKET_MOST_PAYSLIPS cells are always enough.
+ * Answers p and q.
  * Refused 103 first of all; then line by line 1 (p or q out of range), 104, 5, and byte by byte 101, 102, 105, 106, 107; at the end 1 if there is no line
  * of amounts. The four words are then as for numbers; for 1 what is found is p and what is wanted 16, or 65 and 64 payslips, or 0 payslips and 1; for
- * 104 the amounts of the line and p; for 5 the cells that there are and those needed so far. */
+ * 104 the amounts of the line and p; for 5 the cells that there are and those needed so far. The amounts that stand whole before the fault have been
+ * stored; on 103 nothing has. */
 uint32_t spoutbasket_table(const uint8_t *text, size_t text_len, uint32_t *amounts, size_t amounts_len, uint64_t answer[4]);
 
 /* The words for the number of a refusal or a fault, in ASCII, over the front of `text`, without a closing 0; for any other number "no such refusal".

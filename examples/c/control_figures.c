@@ -60,6 +60,11 @@ static int receive(const struct chain *from, struct chain *c, uint32_t figures[Q
     c->p = (size_t)answer[0];
     c->q = (size_t)answer[1];
     c->n = (size_t)answer[2];
+    /* the check sees how many amounts there are and not how they lie */
+    if (c->p != P || c->q != Q) {
+        fprintf(stderr, "the chain is for %zu columns and %zu payslips\n", c->p, c->q);
+        return 1;
+    }
     number = spoutbasket_verify(c->p, c->steps, 2 * c->n, c->outputs, c->q, amounts, P * Q, scratch, SPOUTBASKET_VALUES(c->p, c->n), answer);
     if (refused("check", number, answer))
         return 1;

@@ -110,6 +110,6 @@ pub fn list(bytes: &[u8]) -> Result<Listing, Refusal> {
 pub fn list_text(bytes: &[u8]) -> String {
     let (mut text, mut words) = ([0; LONGEST_LISTING], [0; 4]);
     // a file that is refused is so in the text alone
-    slices::list(bytes, &mut text, &mut words);
+    let _ = slices::list(bytes, &mut text, &mut words);
     String::from_utf8_lossy(&text[..words[0] as usize]).into_owned()
 }

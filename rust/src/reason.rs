@@ -137,7 +137,8 @@ fn phrase(number: u32) -> &'static str {
     let (number, cell) = known.unwrap_or((0, &PHRASES[0]));
     cell.get_or_init(|| {
         let (mut text, mut words) = ([0; LONGEST_PHRASE], [0; 4]);
-        slices::phrase(number, &mut text, &mut words);
+        // there is room for every phrase
+        let _ = slices::phrase(number, &mut text, &mut words);
         String::from_utf8_lossy(&text[..words[0] as usize]).into_owned()
     })
 }

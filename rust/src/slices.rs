@@ -40,6 +40,7 @@ macro_rules! function {
     ({ $(#[$doc:meta])* $name:ident } ($($rust:tt)*) [$($c:tt)*] [$($pass:tt)*]) => {
         $(#[$doc])*
         #[inline]
+        #[must_use]
         pub fn $name($($rust)*) -> u32 {
             extern "C" {
                 #[link_name = concat!("spoutbasket_", stringify!($name))]

@@ -49,9 +49,14 @@ fn programs() -> PathBuf {
 
 /// The command, with its three streams piped.
 pub fn start(arguments: &[&str]) -> Child {
+    start_on(arguments, Stdio::piped())
+}
+
+/// The command on some standard input, with its two other streams piped.
+pub fn start_on(arguments: &[&str], stdin: impl Into<Stdio>) -> Child {
     Command::new(programs().join("spoutbasket"))
         .args(arguments)
-        .stdin(Stdio::piped())
+        .stdin(stdin)
         .stdout(Stdio::piped())
         .stderr(Stdio::piped())
         .spawn()
@@ -111,6 +116,11 @@ impl Folder {
         let path = self.path(name);
         std::fs::write(&path, bytes).unwrap();
         path
+    }
+
+    /// Whether a name in it is a symbolic link.
+    pub fn is_link(&self, name: &str) -> bool {
+        self.0.join(name).is_symlink()
     }
 
     /// The names in it, in order.

@@ -192,8 +192,8 @@ fn any_bytes() {
             true => r.pick(b"0123 \n\t\r;,.-x"),
             false => r.word() as u8,
         };
-        let mut bytes: Vec<u8> = (0..length).map(|_| byte(&mut r)).collect();
-        bytes.push(b'\n');
+        let random = (0..length).map(|_| byte(&mut r));
+        let bytes: Vec<u8> = random.chain([b'\n']).collect();
         let other = folder.file("other", &bytes);
         for arguments in [
             vec!["compile", "-"],
@@ -361,6 +361,10 @@ fn names() {
         cp week.txt $'\\xff.txt'; spoutbasket check $'\\xff.txt' 1.chain > odd; rm $'\\xff.txt'
         spoutbasket check - 1.chain < week.txt
         spoutbasket check week.txt - < 1.chain
+        for name in /dev/stdin /dev/fd/0 /proc/self/fd/0; do
+            spoutbasket check $name - 2>> why < week.txt || echo $?
+            spoutbasket check $name 1.chain > odd < week.txt
+        done
         spoutbasket check /dev/stdin 1.chain --json < week.txt
         spoutbasket list < 1.chain | head -n 1
         spoutbasket run --keys=bank.keys < 1.chain | head -n 1
@@ -370,7 +374,11 @@ fn names() {
     );
     let object = "{\"passed\":true,\"columns\":3,\"payslips\":4,\"steps\":9}\n";
     let run = "1323\n1323\n9 multiplications\n9 multiplications\n";
-    assert_eq!(said.done(), format!("{PASSED}{PASSED}{object}3 4 9\n{run}"));
+    let twice = "2\n".repeat(3);
+    assert_eq!(
+        said.done(),
+        format!("{PASSED}{PASSED}{twice}{object}3 4 9\n{run}")
+    );
     // a name that would break the line
     let odd = folder.path("two\nlines\u{1b}");
     let line = spoutbasket(&["list", &odd], b"").ended(3);
@@ -384,7 +392,9 @@ fn names() {
 #[test]
 fn helps() {
     let overview = spoutbasket(&["--help"], b"").done();
-    assert_eq!(spoutbasket(&["help"], b"").done(), overview);
+    for word in ["help", "-h"] {
+        assert_eq!(spoutbasket(&[word], b"").done(), overview);
+    }
     for name in COMMANDS {
         let help = spoutbasket(&["help", name], b"").done();
         assert!(
@@ -392,11 +402,39 @@ fn helps() {
             "{help}"
         );
         assert!(help.contains("\nExample: "), "{help}");
-        assert_eq!(spoutbasket(&[name, "--help"], b"").done(), help);
+        for option in ["--help", "-h"] {
+            assert_eq!(spoutbasket(&[name, "-", option], b"").done(), help);
+        }
         assert!(overview.contains(&format!("\n  {name} ")), "{overview}");
     }
-    let version = spoutbasket(&["--version"], b"").done();
-    assert_eq!(version, format!("spoutbasket {}\n", spoutbasket::VERSION));
+    for word in ["--version", "-V"] {
+        let version = spoutbasket(&[word], b"").done();
+        assert_eq!(version, format!("spoutbasket {}\n", spoutbasket::VERSION));
+    }
+    // a file's name
+    let line = spoutbasket(&["list", "--", "--help"], b"").ended(3);
+    assert_eq!(line, "--help: No such file or directory (os error 2)");
+}
+
+/// A command knows the options of its synopsis and no others.
+#[test]
+fn options() {
+    let options = [
+        "--best", "--method", "--table", "-o", "-v", "--keys", "--json",
+    ];
+    for name in COMMANDS {
+        let help = spoutbasket(&["help", name], b"").done();
+        let usage = help.lines().next().unwrap();
+        let words: Vec<&str> = usage.split([' ', '[', ']']).collect();
+        for option in options {
+            let told = spoutbasket(&[name, option], b"").told;
+            let known = !told.contains("unknown option");
+            assert_eq!(known, words.contains(&option), "{usage}: {told}");
+            // and says what each is for
+            let line = |line: &str| line.trim_start().starts_with(option);
+            assert_eq!(known, help.lines().skip(1).any(line), "{help}");
+        }
+    }
 }
 
 /// Wrong uses: status 2, nothing said, one line, and no word of it repeated, since it may be a secret.
@@ -460,6 +498,10 @@ fn wrong_uses() {
             "run: unknown option --base",
         ),
         (vec!["figures", sheet], "figures: --keys FILE wanted"),
+        (
+            vec!["figures", "--keys", "-"],
+            "figures: standard input for two files",
+        ),
         (
             vec!["figures", "--keys", keys, sheet, "52431", "17"],
             "figures: more than 1 file",

@@ -1,8 +1,10 @@
 //! The command where input or output fails: the status and the line, and a chain file that is whole or not there.
-use spoutbasket_tests::command::{end, spoutbasket, start, Ended, Folder, PASSED};
+use spoutbasket_tests::command::{end, spoutbasket, start, start_on, Ended, Folder, PASSED};
 use spoutbasket_tests::texts::phrase;
 use std::io::Write;
+use std::os::fd::OwnedFd;
 use std::os::unix::fs::{symlink, MetadataExt, PermissionsExt};
+use std::os::unix::net::UnixStream;
 use std::time::Duration;
 
 const FULL: &str = "No space left on device (os error 28)";
@@ -122,6 +124,25 @@ fn a_producer_that_pauses_or_dies() {
     assert_eq!(keys.done().lines().next(), Some("1323"));
 }
 
+/// A read that fails after whole lines have been read is no end either: here a socket that does not wait.
+#[test]
+fn a_read_that_fails_midway() {
+    let folder = Folder::week("midway");
+    let (keys, chain) = (folder.path("bank.keys"), folder.path("week.chain"));
+    for (arguments, part) in [
+        (vec!["compile"], "1 1\n187\n"),
+        (vec!["figures", "--table", "--keys", &keys], "1 2 3\n"),
+        (vec!["run", "--keys", "-", &chain], "10000\n3 5 7\n"),
+    ] {
+        let (mut producer, input) = UnixStream::pair().unwrap();
+        input.set_nonblocking(true).unwrap();
+        producer.write_all(part.as_bytes()).unwrap();
+        let ended = end(start_on(&arguments, OwnedFd::from(input)));
+        let why = "standard input: Resource temporarily unavailable (os error 11)";
+        assert_eq!(ended.ended(3), why, "{arguments:?}");
+    }
+}
+
 #[test]
 fn input_that_cannot_be_read() {
     let folder = Folder::week("unread");
@@ -207,8 +228,14 @@ fn output_that_cannot_be_written() {
             assert_eq!(ended.ended(status), why, "{command}");
         }
     }
-    let ended = folder.script("spoutbasket compile week.txt -o same.txt");
-    assert!(ended.ended(2).contains("-o names the sheet itself"));
+    for command in [
+        "compile week.txt -o same.txt",
+        "compile -o week.txt < week.txt",
+        "choose - week.chain week.chain -o same.txt < week.txt",
+    ] {
+        let ended = folder.script(&format!("spoutbasket {command}"));
+        assert!(ended.ended(2).contains("-o names the sheet itself"));
+    }
     // refused input leaves an old file as it was
     let ended = folder.script("echo 1 1 x | spoutbasket compile -o old.chain");
     assert_eq!(ended.status, 1);
@@ -249,6 +276,56 @@ fn no_half_of_a_chain() {
     assert_eq!(folder.names(), names);
 }
 
+/// A sync of files, or of folders if FOLDERS is set, that fails with the error of a number.
+const FAILING_SYNC: &str = "#include <errno.h>
+#include <stdlib.h>
+#include <sys/stat.h>
+int fsync(int fd)
+{
+    struct stat found;
+    if (fstat(fd, &found) != 0 || !S_ISDIR(found.st_mode) != !getenv(\"FOLDERS\"))
+        return 0;
+    errno = atoi(getenv(\"ERROR\"));
+    return -1;
+}
+int fdatasync(int fd) { return fsync(fd); }
+";
+
+/// Bytes that are lost on their way to the device, which is known only at the sync.
+#[test]
+fn a_sync_that_fails() {
+    let folder = Folder::week("sync");
+    folder.file("sync.c", FAILING_SYNC);
+    folder
+        .script("cc -shared -fPIC sync.c -o sync.so; echo old > old.chain; touch listed")
+        .done();
+    let names = folder.names();
+    let run = |setting: &str, command: &str| {
+        folder.script(&format!(
+            "LD_PRELOAD=$PWD/sync.so {setting} spoutbasket {command}"
+        ))
+    };
+    let lost = "Input/output error (os error 5)";
+    let listed = "list week.chain > listed";
+    let compiled = "compile week.txt -o old.chain";
+    let ended = run("ERROR=5", listed);
+    assert_eq!(ended.ended(3), format!("standard output: {lost}"));
+    let ended = run("ERROR=5", compiled);
+    assert_eq!(ended.ended(3), format!("old.chain: {lost}"));
+    assert_eq!(folder.script("cat old.chain").done(), "old\n");
+    assert_eq!(folder.names(), names);
+    // the file is whole, but its name may be lost
+    let ended = run("ERROR=5 FOLDERS=1", compiled);
+    assert_eq!(ended.ended(3), format!("old.chain: {lost}"));
+    assert_eq!(folder.names(), names);
+    // a file system without a sync: EINVAL
+    for setting in ["ERROR=22", "ERROR=22 FOLDERS=1"] {
+        run(setting, listed).done();
+        run(setting, compiled).done();
+        assert_eq!(folder.script("cmp week.chain old.chain").done(), "");
+    }
+}
+
 /// Whoever reads the name while it is written has one whole chain or the other.
 #[test]
 fn readers_of_a_chain_that_is_replaced() {
@@ -274,34 +351,45 @@ fn readers_of_a_chain_that_is_replaced() {
     });
 }
 
-/// A new file with a new file's mode; other names of the old one keep it; a link stays a link; devices and pipes are written as they are.
+/// A file with the mode of the old one, or of any new one; other names of the old one keep it; a link stays a link, even one to no file yet; devices and
+/// pipes are written as they are.
 #[test]
 fn where_a_chain_goes() {
     let folder = Folder::week("target");
     folder
-        .script("echo old > old.chain; ln old.chain other.chain; mkdir far")
+        .script("echo old > old.chain; ln old.chain other.chain; mkdir far; (umask 0; echo > open.chain); (umask 077; echo > own.chain)")
         .done();
     symlink("far/real.chain", folder.path("link.chain")).unwrap();
+    symlink("link.first", folder.path("far/link.ahead")).unwrap();
+    symlink("far/link.ahead", folder.path("ahead.chain")).unwrap();
     folder.script("echo old > far/real.chain").done();
     let said = folder.script(
         "set -euo pipefail
         umask 027
-        spoutbasket compile week.txt -o old.chain
-        spoutbasket compile week.txt -o link.chain
-        cmp week.chain old.chain; cmp week.chain far/real.chain; cat other.chain
+        for name in old link ahead new open own; do spoutbasket compile week.txt -o $name.chain; done
+        for name in old new open own far/real; do cmp week.chain $name.chain; done
+        cmp week.chain far/link.first; cat other.chain
         spoutbasket compile week.txt -o /dev/null
         mkfifo pipe; cat pipe > through.chain & spoutbasket compile week.txt -o pipe; wait
         cmp week.chain through.chain
-        echo before > log; spoutbasket compile week.txt -o /dev/stdout >> log
-        { echo before; cat week.chain; } | cmp - log",
+        for name in /dev/stdout /dev/fd/1 /proc/self/fd/1; do
+            echo before > log; spoutbasket compile week.txt -o $name >> log
+            { echo before; cat week.chain; } | cmp - log
+        done",
     );
     assert_eq!(said.done(), "old\n");
     let of = |name: &str| std::fs::metadata(folder.path(name)).unwrap();
-    assert_eq!(of("old.chain").permissions().mode() & 0o777, 0o640);
+    for (name, mode) in [
+        ("new.chain", 0o640),
+        ("own.chain", 0o600),
+        ("open.chain", 0o666),
+    ] {
+        assert_eq!(of(name).permissions().mode() & 0o777, mode, "{name}");
+    }
     assert_ne!(of("old.chain").ino(), of("other.chain").ino());
-    assert!(std::fs::symlink_metadata(folder.path("link.chain"))
-        .unwrap()
-        .is_symlink());
+    for name in ["link.chain", "ahead.chain", "far/link.ahead"] {
+        assert!(folder.is_link(name), "{name}");
+    }
     let hidden = |name: &String| name.starts_with('.');
     assert!(!folder.names().iter().any(hidden), "{:?}", folder.names());
 }

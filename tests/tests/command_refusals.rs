@@ -154,7 +154,7 @@ fn tables_as_people_have_them() {
         "168233;0\n18750;7\n",
         "168233,0\n18750,7\n",
         "168233 0\n18750 7\n",
-        "  168233    0  \n 18750\t7\n".replace('\t', " ").as_str(),
+        "  168233    0  \n 18750\t7\n",
         "basic;tax\r\n168233;0\r\n18750;7\r\n",
         "\u{feff}Grundlohn\tSteuer\r\n168233\t0\r\n18750\t7\r\n",
         "basic pay , tax\n 168233 , 0\n018750 , 0007 \n",

@@ -1,4 +1,4 @@
-//! What the pages say of the command is what it does: synopses, the example, the night's script, the sample.
+//! What the pages say of the command is what it does: synopses, the example, objects, messages, the night's script, the sample.
 use spoutbasket_tests::command::{spoutbasket, Folder, KEYS, WEEK};
 
 fn page(name: &str) -> String {
@@ -33,13 +33,18 @@ fn week(name: &str) -> Folder {
     folder
 }
 
-#[test]
-fn every_synopsis_in_the_manual_page() {
+/// The manual page without its marks.
+fn manual_page() -> String {
     let mut page = page("docs/spoutbasket.1");
     for mark in ["\\fB", "\\fI", "\\fR"] {
         page = page.replace(mark, "");
     }
-    let page = page.replace("\\-", "-");
+    page.replace("\\-", "-").replace("\\(aq", "'")
+}
+
+#[test]
+fn every_synopsis_in_the_manual_page() {
+    let page = manual_page();
     for name in ["compile", "check", "choose", "list", "run", "figures"] {
         let help = spoutbasket(&["help", name], b"").done();
         let usage = help.lines().next().unwrap();
@@ -66,6 +71,38 @@ fn the_example_of_the_manual() {
     folder.script(same).done();
 }
 
+/// Every object and every message that the manual shows, and the messages of the manual page.
+#[test]
+fn the_objects_and_messages_of_the_manual() {
+    let folder = week("objects");
+    let manual = page("docs/MANUAL.md");
+    let said = folder.script(
+        "spoutbasket compile week.txt -o week.chain
+        spoutbasket check --json week.txt week.chain
+        spoutbasket list --json week.chain
+        spoutbasket run --json --keys bank.keys week.chain
+        spoutbasket figures --json --keys bank.keys week.txt",
+    );
+    assert_eq!(said.done(), shown(&manual, "## JSON"));
+    let refused = folder.script(
+        "printf '3 65\\n' > week.txt; spoutbasket compile week.txt
+        printf '1 1\\n187.50\\n' > week.txt; spoutbasket compile week.txt
+        printf '3 4\\n3 0 2\\n1 2 0\\n0 1 2\\n3 2 1\\n' > week.txt; spoutbasket check --json week.txt week.chain
+        echo 10000 3 5 7 11 > bank.keys; spoutbasket run --keys bank.keys week.chain",
+    );
+    let object = String::from_utf8(refused.said).unwrap();
+    assert_eq!(object, shown(&manual, "A refusal is an object too"));
+    assert_eq!(refused.told, shown(&manual, "## What the messages mean"));
+    let page = manual_page();
+    let (_, diagnostics) = page.split_once(".SH DIAGNOSTICS").unwrap();
+    let messages: Vec<&str> = diagnostics
+        .lines()
+        .filter(|line| line.starts_with("spoutbasket: "))
+        .collect();
+    assert!(!messages.is_empty());
+    assert!(messages.iter().all(|line| refused.told.contains(line)));
+}
+
 #[test]
 fn the_night_of_the_manual() {
     let folder = week("manual-night");
@@ -79,16 +116,21 @@ fn the_night_of_the_manual() {
         assert!(folder.names().contains(&name.to_string()), "{name}");
     }
     assert_eq!(folder.script("cmp week.chain outbox/week.chain").done(), "");
-    // a sheet that is cut off ends the night before anything goes out
+    let clear = "rm -rf outbox/* *.figures friday.txt";
+    let left = "ls outbox; ls | grep -E 'figures|friday' || true";
+    // a check that is not done ends the night before anything goes out
     folder
-        .script("rm -r outbox/* *.figures; printf '3 4\\n3 0' > week.txt")
+        .script(&format!("{clear}; ln -sf /dev/full check.txt"))
+        .done();
+    assert_eq!(folder.script(&script).status, 3);
+    assert_eq!(folder.script(left).done(), "");
+    // so does a sheet that is cut off
+    folder
+        .script(&format!("{clear}; printf '3 4\\n3 0' > week.txt"))
         .done();
     let said = folder.script(&script);
     assert_eq!((said.status, said.said.len()), (1, 0));
-    assert_eq!(
-        folder.script("ls outbox; ls | grep figures || true").done(),
-        ""
-    );
+    assert_eq!(folder.script(left).done(), "");
 }
 
 /// The read-me's sample, and its payslip of two amounts.

@@ -227,10 +227,10 @@ fn target(form: &Form, given: &Given, sheet: &Source) -> Result<Target, Failure>
         return Err(form.wrong("a chain is no text for a terminal: give -o CHAIN"));
     }
     let target = Target::new(name);
-    match sheet {
-        Source::File(path) if target.is(path) => Err(form.wrong("-o names the sheet itself")),
-        _ => Ok(target),
+    if target.is(sheet) {
+        return Err(form.wrong("-o names the sheet itself"));
     }
+    Ok(target)
 }
 
 /// A chain's sizes as JSON fields.

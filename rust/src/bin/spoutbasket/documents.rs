@@ -2,37 +2,37 @@
 use crate::input::Source;
 use crate::messages::{counted, Failure, Refused};
 use spoutbasket::{choose, list, numbers, Chain, Keys, Listing, Method, Reason, Refusal};
-use spoutbasket::{Sheet, SheetError, LONGEST_FILE, MOST_COLUMNS, MOST_PAYSLIPS};
+use spoutbasket::{Sheet, SheetError, TextFault, TextReason};
+use spoutbasket::{LONGEST_FILE, MOST_COLUMNS, MOST_PAYSLIPS};
 
 /// The sheet of a table, or of the plain numbers p, q and the amounts.
 pub fn sheet(source: &Source, table: bool) -> Result<Sheet, Failure> {
     let text = source.text()?;
-    let read = if table { by_table } else { by_numbers };
-    Ok(read(source, &text)?)
-}
-
-fn by_table(source: &Source, text: &[u8]) -> Result<Sheet, Refused> {
-    Sheet::from_table(text).map_err(|error| match error {
-        SheetError::Text(fault) => Refused::in_text(source.name(), &fault),
-        SheetError::Refusal(refusal) => Refused::new(source.name(), refusal, None),
-        _ => unreachable!("a sheet's error is one of the two"),
-    })
-}
-
-fn by_numbers(source: &Source, text: &[u8]) -> Result<Sheet, Refused> {
-    let judged = numbers(text)
-        .map_err(|fault| Refused::in_text(source.name(), &fault))
-        .and_then(|numbers| {
-            let size = |place: usize| numbers.get(place).map_or(0, |&size| size as usize);
-            let amounts = numbers.get(2..).unwrap_or_default();
-            Sheet::new(size(0), size(1), amounts)
-                .map_err(|refusal| Refused::new(source.name(), refusal, misshapen(&numbers)))
-        });
+    let read = if table {
+        Sheet::from_table
+    } else {
+        Sheet::from_text
+    };
     let like_a_table = |byte: &u8| matches!(byte, b',' | b';') || byte.is_ascii_alphabetic();
-    judged.map_err(|refused| match text.iter().any(like_a_table) {
-        true => refused.and("for a table, one payslip a line, give --table"),
-        false => refused,
-    })
+    Ok(read(&text).map_err(|error| {
+        let refused = no_sheet(source, &text, error);
+        match !table && text.iter().any(like_a_table) {
+            true => refused.and("for a table, one payslip a line, give --table"),
+            false => refused,
+        }
+    })?)
+}
+
+/// A text that cannot be read, or whose numbers are no sheet. Those of a table always are: p and q are counted.
+fn no_sheet(source: &Source, text: &[u8], error: SheetError) -> Refused {
+    match error {
+        SheetError::Text(fault) => Refused::in_text(source.name(), &fault),
+        SheetError::Refusal(refusal) => {
+            let detail = numbers(text).ok().and_then(|numbers| misshapen(&numbers));
+            Refused::new(source.name(), refusal, detail)
+        }
+        _ => unreachable!("a sheet's error is one of the two"),
+    }
 }
 
 /// Why a plain sheet's numbers are no sheet.
@@ -42,18 +42,21 @@ fn misshapen(numbers: &[u32]) -> Option<String> {
         return Some(format!("{missing} is missing"));
     };
     let (p, q) = (*p as usize, *q as usize);
-    size("p", p, MOST_COLUMNS)
-        .or_else(|| size("q", q, MOST_PAYSLIPS))
+    size(p, MOST_COLUMNS)
+        .or_else(|| size(q, MOST_PAYSLIPS))
         .or_else(|| Some(format!("{} found, {} wanted", amounts.len(), p * q)))
 }
 
-/// A size that is out of range, if it is.
-fn size(name: &str, found: usize, most: usize) -> Option<String> {
-    match found {
-        0 => Some(format!("{name} is 0, at least 1")),
-        _ if found > most => Some(format!("{name} is {found}, at most {most}")),
-        _ => None,
-    }
+/// A size that is out of range, if it is, in the words for a table's.
+fn size(found: usize, most: usize) -> Option<String> {
+    let fault = TextFault {
+        line: 1,
+        column: 1,
+        reason: TextReason::Sizes,
+        found: found as u64,
+        wanted: most as u64,
+    };
+    fault.detail().filter(|_| found == 0 || found > most)
 }
 
 /// A receiver's modulus and bases.

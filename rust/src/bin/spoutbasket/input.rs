@@ -2,13 +2,16 @@
 use crate::messages::{shown, Failure};
 use spoutbasket::LONGEST_FILE;
 use std::ffi::OsStr;
-use std::fs::File;
+use std::fs::{self, File, Metadata};
 use std::io::{self, Read};
 use std::os::fd::AsFd;
 use std::path::PathBuf;
 
 /// The most bytes of a text. The largest sheet has a few thousand, so this only ends the reading of what is none.
 const LONGEST_TEXT: usize = 16 << 20;
+
+/// The names of standard input, which can be read once.
+const STANDARD: [&str; 4] = ["-", "/dev/stdin", "/dev/fd/0", "/proc/self/fd/0"];
 
 /// Where input comes from.
 #[derive(PartialEq)]
@@ -18,12 +21,13 @@ pub enum Source {
 }
 
 impl Source {
-    /// `-` and no name at all are standard input.
+    /// No name at all is standard input too.
     pub fn new(name: Option<&OsStr>) -> Source {
         match name {
-            None => Source::Standard,
-            Some(name) if name == "-" || name == "/dev/stdin" => Source::Standard,
-            Some(name) => Source::File(name.into()),
+            Some(name) if !STANDARD.iter().any(|standard| name == *standard) => {
+                Source::File(name.into())
+            }
+            _ => Source::Standard,
         }
     }
 
@@ -55,6 +59,14 @@ impl Source {
             .and_then(|file| file.take(most as u64).read_to_end(&mut bytes))
             .map_err(|why| self.failed(&why.to_string()))?;
         Ok(bytes)
+    }
+
+    /// What it is, known without reading.
+    pub fn metadata(&self) -> io::Result<Metadata> {
+        match self {
+            Source::Standard => self.open()?.metadata(),
+            Source::File(path) => fs::metadata(path),
+        }
     }
 
     fn open(&self) -> io::Result<File> {

@@ -76,7 +76,7 @@ fn show(name: &str) -> Result<(), Failure> {
 /// Whether `--help` is among the options.
 fn asks_for_help(words: &[OsString]) -> bool {
     let mut options = words.iter().take_while(|word| *word != "--");
-    options.any(|word| word == "--help")
+    options.any(|word| word == "--help" || word == "-h")
 }
 
 fn wrong(why: &str) -> Failure {

@@ -1,13 +1,17 @@
 //! What is written: results on standard output, and chain files, which appear whole or not at all.
+use crate::input::Source;
 use crate::messages::{shown, Failure};
 use std::collections::hash_map::RandomState;
 use std::ffi::OsStr;
-use std::fs::{self, File, OpenOptions};
+use std::fs::{self, File, OpenOptions, Permissions};
 use std::hash::{BuildHasher, Hasher};
 use std::io::{self, ErrorKind, IsTerminal, Write};
 use std::os::fd::AsFd;
-use std::os::unix::fs::{FileTypeExt, MetadataExt};
+use std::os::unix::fs::{FileTypeExt, MetadataExt, OpenOptionsExt};
 use std::path::{Path, PathBuf};
+
+/// The names of standard output. Opened by one of the system's, a file would be written from its start and not from where standard output is.
+const STANDARD: [&str; 4] = ["-", "/dev/stdout", "/dev/fd/1", "/proc/self/fd/1"];
 
 /// Where a chain goes.
 pub enum Target {
@@ -16,12 +20,13 @@ pub enum Target {
 }
 
 impl Target {
-    /// `-` and no name at all are standard output.
+    /// No name at all is standard output too.
     pub fn new(name: Option<&OsStr>) -> Target {
         match name {
-            None => Target::Standard,
-            Some(name) if name == "-" || name == "/dev/stdout" => Target::Standard,
-            Some(name) => Target::File(name.into()),
+            Some(name) if !STANDARD.iter().any(|standard| name == *standard) => {
+                Target::File(name.into())
+            }
+            _ => Target::Standard,
         }
     }
 
@@ -36,12 +41,12 @@ impl Target {
         }
     }
 
-    /// Whether the target is this very file.
-    pub fn is(&self, other: &Path) -> bool {
+    /// Whether the target is the very file that a source is.
+    pub fn is(&self, source: &Source) -> bool {
         let Target::File(path) = self else {
             return false;
         };
-        match (fs::metadata(path), fs::metadata(other)) {
+        match (fs::metadata(path), source.metadata()) {
             (Ok(a), Ok(b)) => a.is_file() && (a.dev(), a.ino()) == (b.dev(), b.ino()),
             _ => false,
         }
@@ -104,20 +109,28 @@ fn write_file(path: &Path, bytes: &[u8]) -> io::Result<()> {
             OpenOptions::new().write(true).open(path)?.write_all(bytes)
         }
         // through links, so that they stay what they are
-        Ok(_) => replace(&fs::canonicalize(path)?, bytes),
-        Err(why) if why.kind() == ErrorKind::NotFound => replace(path, bytes),
+        Ok(found) => replace(&fs::canonicalize(path)?, Some(found.permissions()), bytes),
+        Err(why) if why.kind() == ErrorKind::NotFound => match fs::read_link(path) {
+            Ok(to) => write_file(&folder_of(path).join(to), bytes),
+            Err(_) => replace(path, None, bytes),
+        },
         Err(why) => Err(why),
     }
 }
 
-/// A new file under the name, whole: written beside it, brought to the device, and only then renamed.
-fn replace(path: &Path, bytes: &[u8]) -> io::Result<()> {
-    let folder = match path.parent() {
+fn folder_of(path: &Path) -> &Path {
+    match path.parent() {
         Some(folder) if folder != Path::new("") => folder,
         _ => Path::new("."),
-    };
-    let (beside, file) = beside(folder)?;
-    let placed = fill(file, bytes).and_then(|()| fs::rename(&beside, path));
+    }
+}
+
+/// A new file under the name, whole: written beside it, brought to the device, and only then renamed. What only some may read stays so: the new file has
+/// the permissions of the old one, if there is one.
+fn replace(path: &Path, old: Option<Permissions>, bytes: &[u8]) -> io::Result<()> {
+    let folder = folder_of(path);
+    let (beside, file) = beside(folder, if old.is_some() { 0o600 } else { 0o666 })?;
+    let placed = fill(file, old, bytes).and_then(|()| fs::rename(&beside, path));
     if placed.is_err() {
         // what failed is told; there is nothing to add if this fails too
         let _ = fs::remove_file(&beside);
@@ -126,19 +139,22 @@ fn replace(path: &Path, bytes: &[u8]) -> io::Result<()> {
 }
 
 /// A new file in a folder under a name that nobody can foresee.
-fn beside(folder: &Path) -> io::Result<(PathBuf, File)> {
+fn beside(folder: &Path, mode: u32) -> io::Result<(PathBuf, File)> {
+    let mut options = OpenOptions::new();
+    options.write(true).create_new(true).mode(mode);
     loop {
         let random = RandomState::new().build_hasher().finish();
         let path = folder.join(format!(".spoutbasket-{random:016x}"));
-        match OpenOptions::new().write(true).create_new(true).open(&path) {
+        match options.open(&path) {
             Err(why) if why.kind() == ErrorKind::AlreadyExists => {}
             opened => return opened.map(|file| (path, file)),
         }
     }
 }
 
-fn fill(mut file: File, bytes: &[u8]) -> io::Result<()> {
+fn fill(mut file: File, permissions: Option<Permissions>, bytes: &[u8]) -> io::Result<()> {
     file.write_all(bytes)?;
+    permissions.map_or(Ok(()), |permissions| file.set_permissions(permissions))?;
     synced(file.sync_all())
 }
 

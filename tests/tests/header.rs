@@ -66,22 +66,35 @@ fn phrases_of_the_header() {
     assert_eq!(seen, wanted);
 }
 
-/// The manual's table of phrases has a row for each number, whose second cell starts with the library's phrase.
-#[test]
-fn phrases_of_the_manual() {
-    let manual = std::fs::read_to_string(header::project("docs/MANUAL.md")).unwrap();
-    let mut rows: BTreeMap<u32, &str> = BTreeMap::new();
-    let lines = manual.lines();
+/// The rows of a page's table of phrases by number: the cell behind each number.
+fn table_of(page: &str) -> BTreeMap<u32, String> {
+    let page = std::fs::read_to_string(header::project(page)).unwrap();
+    let lines = page.lines();
     let table = lines.skip_while(|line| !line.starts_with("| number | phrase"));
-    for row in table.skip(2).take_while(|line| line.starts_with('|')) {
+    let rows = table.skip(2).take_while(|line| line.starts_with('|'));
+    rows.filter_map(|row| {
         let cells: Vec<&str> = row.split('|').map(str::trim).collect();
-        rows.insert(cells[1].parse().unwrap(), cells[2]);
-    }
+        // a row for all other numbers has none
+        let number = cells[1].parse().ok()?;
+        Some((number, cells[2].to_string()))
+    })
+    .collect()
+}
+
+/// The tables of phrases have a row for each number, with the library's phrase; the manual's may say more behind it.
+#[test]
+fn phrases_of_the_pages() {
     let phrases = phrases();
-    assert!(rows.keys().eq(phrases.keys()), "{:?}", rows.keys());
-    for (number, phrase) in phrases {
-        let row = rows[&number];
-        assert!(row.starts_with(phrase), "{number}: {row}, not {phrase}");
+    for page in ["docs/MANUAL.md", "docs/SPEC.md"] {
+        let rows = table_of(page);
+        assert!(rows.keys().eq(phrases.keys()), "{page}: {:?}", rows.keys());
+        for (number, phrase) in &phrases {
+            let row = &rows[number];
+            assert!(
+                row.starts_with(phrase),
+                "{page}, {number}: {row}, not {phrase}"
+            );
+        }
     }
 }
 

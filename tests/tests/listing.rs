@@ -6,6 +6,7 @@ use spoutbasket_tests::reference::{
     self, EDITION_STEPS, LONGEST_FILE, MOST_COLUMNS, MOST_PAYSLIPS,
 };
 use spoutbasket_tests::tool;
+use std::process::Command;
 
 fn file_of(chain: &Chain) -> Vec<u8> {
     let mut bytes = vec![0; LONGEST_FILE];
@@ -100,5 +101,25 @@ fn the_program() {
             (String::from_utf8(said).unwrap(), silent),
             (expected, String::new())
         );
+    }
+}
+
+/// What breaks the program's reading or writing is said on standard error, and nothing is listed.
+#[test]
+fn what_breaks_the_program() {
+    let program = concat!(env!("CARGO_MANIFEST_DIR"), "/../target/bin/lister");
+    for (script, line) in [
+        ("\"$0\" < .", "standard input: Is a directory\n"),
+        (
+            "\"$0\" > /dev/full < \"$0\"",
+            "standard output: No space left on device\n",
+        ),
+    ] {
+        let ended = Command::new("sh")
+            .args(["-c", script, program])
+            .output()
+            .unwrap();
+        let told = String::from_utf8(ended.stderr).unwrap();
+        assert_eq!((&ended.stdout[..], told.as_str()), (&b""[..], line));
     }
 }

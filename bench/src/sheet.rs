@@ -28,7 +28,7 @@ fn by_division(x: u64, y: u64, m: u64, _inverse: u64) -> u64 {
 /// A product of two numbers below 2^32 modulo m by the inverse of m, as the library has it.
 fn by_inverse(x: u64, y: u64, m: u64, inverse: u64) -> u64 {
     let product = x * y;
-    let left = product - (u128::from(product) * u128::from(inverse) >> 64) as u64 * m;
+    let left = product - ((u128::from(product) * u128::from(inverse)) >> 64) as u64 * m;
     let less = left.wrapping_sub(m);
     if less >> 63 == 0 {
         less

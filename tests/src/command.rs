@@ -1,4 +1,4 @@
-//! The command, run as a script runs it.
+//! The command, run as a script runs it, and the lister.
 use std::io::Write;
 use std::path::{Path, PathBuf};
 use std::process::{Child, Command, Stdio};
@@ -54,13 +54,17 @@ pub fn start(arguments: &[&str]) -> Child {
 
 /// The command on some standard input, with its two other streams piped.
 pub fn start_on(arguments: &[&str], stdin: impl Into<Stdio>) -> Child {
-    Command::new(programs().join("spoutbasket"))
+    start_program(programs().join("spoutbasket"), arguments, stdin)
+}
+
+fn start_program(path: PathBuf, arguments: &[&str], stdin: impl Into<Stdio>) -> Child {
+    Command::new(path)
         .args(arguments)
         .stdin(stdin)
         .stdout(Stdio::piped())
         .stderr(Stdio::piped())
         .spawn()
-        .expect("the command is built before its tests")
+        .expect("the programs are built before their tests")
 }
 
 /// Waits for the end.
@@ -75,7 +79,17 @@ pub fn end(child: Child) -> Ended {
 
 /// The command on some input.
 pub fn spoutbasket(arguments: &[&str], input: &[u8]) -> Ended {
-    let mut child = start(arguments);
+    end_on(start(arguments), input)
+}
+
+/// The lister, which `rt check` leaves in target/bin, on some input.
+pub fn lister(input: &[u8]) -> Ended {
+    let path = Path::new(env!("CARGO_MANIFEST_DIR")).join("../target/bin/lister");
+    end_on(start_program(path, &[], Stdio::piped()), input)
+}
+
+/// Writes some input and waits for the end.
+fn end_on(mut child: Child, input: &[u8]) -> Ended {
     let mut stdin = child.stdin.take().unwrap();
     let input = input.to_vec();
     // it need not read all of its input

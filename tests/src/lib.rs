@@ -6,6 +6,3 @@ pub mod header;
 pub mod random;
 pub mod reference;
 pub mod texts;
-mod tool;
-
-pub use tool::tool;

@@ -1,11 +1,11 @@
 //! The listing, as a function and as the program, against the reference.
 use spoutbasket::LONGEST_LISTING;
+use spoutbasket_tests::command::lister;
 use spoutbasket_tests::ffi;
 use spoutbasket_tests::random::{legal_chain, Chain, Random};
 use spoutbasket_tests::reference::{
     self, EDITION_STEPS, LONGEST_FILE, MOST_COLUMNS, MOST_PAYSLIPS,
 };
-use spoutbasket_tests::tool;
 use std::process::Command;
 
 fn file_of(chain: &Chain) -> Vec<u8> {
@@ -96,11 +96,7 @@ fn the_largest_listing() {
 fn the_program() {
     for bytes in files().iter().take(60) {
         let expected = reference::listing(bytes);
-        let (said, silent) = tool("lister", &[], bytes);
-        assert_eq!(
-            (String::from_utf8(said).unwrap(), silent),
-            (expected, String::new())
-        );
+        assert_eq!(lister(bytes).done(), expected);
     }
 }
 

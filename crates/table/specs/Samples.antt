@@ -48,6 +48,9 @@ pub record Samples : Type 0 where
   pub namesWords : tableOf (77 ∷ 101 ∷ 97 ∷ 108 ∷ 32 ∷ 67 ∷ 108 ∷ 111 ∷ 116 ∷ 104 ∷ 105 ∷ 110 ∷ 103 ∷ 10 ∷ 49 ∷ 32 ∷ 50 ∷ 10 ∷ []) 9 ≡ outcome (Values 2 1) (1 ∷ 2 ∷ [])
   -- "Col1;Col2\n1;2\n"
   pub nameDigit : tableOf (67 ∷ 111 ∷ 108 ∷ 49 ∷ 59 ∷ 67 ∷ 111 ∷ 108 ∷ 50 ∷ 10 ∷ 49 ∷ 59 ∷ 50 ∷ 10 ∷ []) 9 ≡ outcome (Refused 101 1 1 67 0) []
+  -- "0;0\n", "9\n"
+  pub zerosFirst : tableOf (48 ∷ 59 ∷ 48 ∷ 10 ∷ []) 9 ≡ outcome (Values 2 1) (0 ∷ 0 ∷ [])
+  pub nineFirst : tableOf (57 ∷ 10 ∷ []) 9 ≡ outcome (Values 1 1) (9 ∷ [])
   -- "Meal;Clothing\n"
   pub namesOnly : tableOf (77 ∷ 101 ∷ 97 ∷ 108 ∷ 59 ∷ 67 ∷ 108 ∷ 111 ∷ 116 ∷ 104 ∷ 105 ∷ 110 ∷ 103 ∷ 10 ∷ []) 9 ≡ outcome (Refused 1 2 1 0 1) []
   -- "1;2\nMeal;Clothing\n"
@@ -156,6 +159,8 @@ samples-hold =
       namesAny = refl;
       namesWords = refl;
       nameDigit = refl;
+      zerosFirst = refl;
+      nineFirst = refl;
       namesOnly = refl;
       namesLater = refl;
       mark = refl;

@@ -47,7 +47,7 @@ Holds a chain against a sheet, whoever made it: passed, or refused with status 1
   --table  the sheet is a table, one payslip a line
   --json   the result as one JSON object
 
-Example: if spoutbasket check week.txt week.chain; then send week.chain; fi
+Example: spoutbasket check week.txt week.chain
 ",
     ),
     (

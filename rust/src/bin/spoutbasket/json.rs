@@ -28,3 +28,9 @@ pub fn string(text: &str) -> String {
     }
     quoted + "\""
 }
+
+// no text that the command writes today has anything to escape
+#[test]
+fn escapes() {
+    assert_eq!(string("a \"b\" \\ \n é"), r#""a \"b\" \\ \u000a é""#);
+}

@@ -1,4 +1,4 @@
-# The proved archive (by rt), the shared object that is made of it, and the command (by cargo); their installation.
+# The proved archive (by rt, whose log goes to target/prove.log), the shared object that is made of it, and the command (by cargo); their installation.
 #
 #   make                    all three
 #   make check              the gate
@@ -24,7 +24,8 @@ COMMAND = rust/target/release/spoutbasket
 all: $(ARCHIVE) $(SHARED) $(COMMAND)
 
 target/staticlib/libspoutbasket.a: crates.txt $(shell find crates -name '*.rt' -o -name '*.antt')
-	rt staticlib spoutbasket
+	mkdir -p target
+	rt staticlib spoutbasket > target/prove.log 2>&1 || { tail -n 20 target/prove.log; exit 1; }
 	touch $@
 
 $(SHARED): $(ARCHIVE)

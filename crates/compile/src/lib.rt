@@ -65,7 +65,7 @@ fn judge_accepted(p: usize, q: usize, amounts: &[u32], method: usize, k: usize) 
         Judgement::Fine => {}
     }
     let n = step_count(p, q, amounts, method, k);
-    match chain::judge_length(chain::MOST_STEPS, n) {
+    match shape::judge_length(chain::MOST_STEPS, n) {
         Judgement::Refused(number, place) => Compiled::Refused(number, place),
         Judgement::Fine => Compiled::Steps(n),
     }

@@ -64,7 +64,7 @@ fn judge_header(layout: Layout, bytes: &[u8]) -> Heading
     if h.edition != layout.edition {
         return Heading::Refused(7, 0);
     }
-    match chain::judge_length(layout.limit, h.n) {
+    match shape::judge_length(layout.limit, h.n) {
         Judgement::Refused(number, place) => Heading::Refused(number, place),
         Judgement::Fine => Heading::Found(layout::extent_of(layout, h.p, h.q, h.n)),
     }
@@ -84,7 +84,7 @@ fn judge_steps(bytes: &[u8], x: Extent) -> Judgement
         let second = middle.take(bytes, x.width);
         let a = first.value as u32;
         let b = second.value as u32;
-        match chain::judge_step(x.p + s + 1, s + 1, a, b) {
+        match legal::judge_step(x.p + s + 1, s + 1, a, b) {
             Judgement::Refused(number, place) => {
                 return Judgement::Refused(number, place);
             }

@@ -39,7 +39,7 @@ fn judge(
 ) -> Judgement
     ensures { λ r. ⌜ verdictOf r ≡ runRule p (pairs (now (steps .entry))) (now (outputs .entry)) m (now (bases .entry)) room places ⌝ }
 {
-    match chain::judge_shape(chain::MOST_STEPS, p, outputs.len(), steps.len() / 2) {
+    match shape::judge_shape(chain::MOST_STEPS, p, outputs.len(), steps.len() / 2) {
         Judgement::Refused(number, place) => {
             return Judgement::Refused(number, place);
         }
@@ -54,7 +54,7 @@ fn judge(
     if any_not_below(m, bases) {
         return Judgement::Refused(16, 0);
     }
-    match chain::judge_chain(p, steps, outputs) {
+    match legal::judge_chain(p, steps, outputs) {
         Judgement::Refused(number, place) => {
             return Judgement::Refused(number, place);
         }

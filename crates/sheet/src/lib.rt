@@ -22,7 +22,7 @@ pub fn judge_amounts(p: usize, q: usize, amounts: &[u32]) -> Judgement
 pub fn judge_sheet(p: usize, q: usize, amounts: &[u32]) -> Judgement
     ensures { λ r. ⌜ verdictOf r ≡ sheetRule p q (now (amounts .entry)) ⌝ }
 {
-    match chain::judge_sizes(p, q) {
+    match shape::judge_sizes(p, q) {
         Judgement::Refused(number, place) => Judgement::Refused(number, place),
         Judgement::Fine => judge_amounts(p, q, amounts),
     }

@@ -20,7 +20,7 @@ fn judge_room(p: usize, steps: &[u32], outputs: &[u32], scratch: usize) -> Judge
     ensures { λ r. ⌜ verdictOf r ≡ (chainRule p (pairs (now (steps .entry))) (now (outputs .entry)) then refuseIf
         (scratch <? scratchSize p (length (pairs (now (steps .entry))))) 5 0) ⌝ }
 {
-    match chain::judge_chain(p, steps, outputs) {
+    match legal::judge_chain(p, steps, outputs) {
         Judgement::Refused(number, place) => {
             return Judgement::Refused(number, place);
         }
@@ -36,7 +36,7 @@ fn judge_room(p: usize, steps: &[u32], outputs: &[u32], scratch: usize) -> Judge
 fn judge(p: usize, steps: &[u32], outputs: &[u32], amounts: &[u32], scratch: usize) -> Judgement
     ensures { λ r. ⌜ verdictOf r ≡ fittingRule p (pairs (now (steps .entry))) (now (outputs .entry)) (now (amounts .entry)) scratch ⌝ }
 {
-    match chain::judge_shape(chain::MOST_STEPS, p, outputs.len(), steps.len() / 2) {
+    match shape::judge_shape(chain::MOST_STEPS, p, outputs.len(), steps.len() / 2) {
         Judgement::Refused(number, place) => {
             return Judgement::Refused(number, place);
         }

@@ -24,7 +24,7 @@ fn judge_rest(p: usize, steps: &[u32], outputs: &[u32], count: usize, lent: usiz
     requires { ⌜ p ≤ mostColumns ⌝ }
     ensures { λ r. ⌜ verdictOf r ≡ (chainRule p (pairs (now (steps .entry))) (now (outputs .entry)) then refuseIf (lent <? count) 5 0) ⌝ }
 {
-    match chain::judge_chain(p, steps, outputs) {
+    match legal::judge_chain(p, steps, outputs) {
         Judgement::Refused(number, place) => {
             return Judgement::Refused(number, place);
         }
@@ -62,7 +62,7 @@ fn write_as(layout: Layout, p: usize, steps: &[u32], outputs: &[u32], bytes: &mu
     requires { ⌜ SoundLayout layout ⌝ }
     ensures { λ r. ⌜ Wrote layout p (now (steps .entry)) (now (outputs .entry)) (now (bytes .entry)) (writtenOf r) (now (bytes .exit)) ⌝ }
 {
-    match chain::judge_shape(layout.limit, p, outputs.len(), steps.len() / 2) {
+    match shape::judge_shape(layout.limit, p, outputs.len(), steps.len() / 2) {
         Judgement::Refused(number, place) => {
             return Written::Refused(number, place);
         }

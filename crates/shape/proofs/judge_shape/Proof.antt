@@ -1,9 +1,9 @@
 -- The verdicts of the two functions in order are the rule's.
 use borrow.Author.Needs.{needs}
 use Rattle.chain.specs.Chain.{shapeRule}
 use Rattle.chain.proofs.Rules.{judging}
-use Rattle.chain.proofs.judge_shape.Statement.{statement}
-use Rattle.chain.proofs.judge_shape.Tie as tie
+use Rattle.shape.proofs.judge_shape.Statement.{statement}
+use Rattle.shape.proofs.judge_shape.Tie as tie
 
 judge-sizes-requires : tie.Need-judge-sizes-requires
 judge-sizes-requires c κs = search needs

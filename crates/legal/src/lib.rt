@@ -1,0 +1,83 @@
+// The steps and outputs of a chain, judged in their order: 9, 10, 11 of a step, then 12 of an output.
+ghost use mathlib.Core.Path.{_≡_};
+ghost use Prim.Native.Nat.{_≤_};
+ghost use Rattle.chain.specs.Chain.{mostColumns, by, pairs, stepRule, stepsRule, outputsRule, chainRule};
+ghost use Rattle.chain.specs.Judgement.{verdictOf};
+use chain::Judgement;
+
+// Step s, which makes value v: 9, 10, 11. Three tests pass a legal step; any other goes through all of them in their order.
+pub fn judge_step(v: usize, s: usize, first: u32, second: u32) -> Judgement
+    ensures { λ r. ⌜ verdictOf r ≡ stepRule v s (by first second) ⌝ }
+{
+    let a = first as usize;
+    let b = second as usize;
+    if b != 0 {
+        if b <= a {
+            if a < v {
+                return Judgement::Fine;
+            }
+        }
+    }
+    if a == 0 {
+        return Judgement::Refused(9, s);
+    }
+    if b == 0 {
+        return Judgement::Refused(9, s);
+    }
+    if v <= a {
+        return Judgement::Refused(10, s);
+    }
+    if v <= b {
+        return Judgement::Refused(10, s);
+    }
+    if a < b {
+        return Judgement::Refused(11, s);
+    }
+    Judgement::Fine
+}
+
+// The steps in order, first and second in turn.
+fn judge_steps(p: usize, steps: &[u32]) -> Judgement
+    requires { ⌜ p ≤ mostColumns ⌝ }
+    ensures { λ r. ⌜ verdictOf r ≡ stepsRule p 1 (pairs (now (steps .entry))) ⌝ }
+{
+    let n = steps.len() / 2;
+    let mut s: usize = 0;
+    while s < n {
+        let x = chain::step_at(steps, s);
+        match judge_step(p + s + 1, s + 1, x.first, x.second) {
+            Judgement::Refused(number, place) => {
+                return Judgement::Refused(number, place);
+            }
+            Judgement::Fine => {}
+        }
+        s += 1;
+    }
+    Judgement::Fine
+}
+
+// 12: an output above top, the number of the last value.
+fn judge_outputs(top: usize, outputs: &[u32]) -> Judgement
+    ensures { λ r. ⌜ verdictOf r ≡ outputsRule top 1 (now (outputs .entry)) ⌝ }
+{
+    let mut i: usize = 0;
+    while i < outputs.len() {
+        let o = outputs[i] as usize;
+        if top < o {
+            return Judgement::Refused(12, i + 1);
+        }
+        i += 1;
+    }
+    Judgement::Fine
+}
+
+// The steps, then 12.
+pub fn judge_chain(p: usize, steps: &[u32], outputs: &[u32]) -> Judgement
+    requires { ⌜ p ≤ mostColumns ⌝ }
+    ensures { λ r. ⌜ verdictOf r ≡ chainRule p (pairs (now (steps .entry))) (now (outputs .entry)) ⌝ }
+{
+    match judge_steps(p, steps) {
+        Judgement::Refused(number, place) => Judgement::Refused(number, place),
+        Judgement::Fine => judge_outputs(p + steps.len() / 2, outputs),
+    }
+}

@@ -36,7 +36,7 @@ pub extern "C" fn spoutbasket_compile(
     ensures { λ r. ⌜ now (outputs .exit) ≡ compileOutputs p q (now (amounts .entry)) method k (length (now (steps .entry)) / 2) (now (outputs .entry)) ⌝ }
 {
     let compiled = compile::compile(p, q, amounts, method, k, steps, outputs);
-    tell::tell_compiled(compiled, answer)
+    tell_sender::tell_compiled(compiled, answer)
 }
 
 // The file of a chain, written.
@@ -53,7 +53,7 @@ pub extern "C" fn spoutbasket_write(
     ensures { λ r. ⌜ now (bytes .exit) ≡ writeBytes edition1 p (pairs (now (steps .entry))) (now (outputs .entry)) (now (bytes .entry)) ⌝ }
 {
     let written = writing::write(p, steps, outputs, bytes);
-    tell::tell_written(written, answer)
+    tell_sender::tell_written(written, answer)
 }
 
 // The file of a chain, read.
@@ -249,7 +249,7 @@ pub extern "C" fn spoutbasket_path(
         values,
         figures,
     );
-    tell::tell_figured(figured, answer)
+    tell_sender::tell_figured(figured, answer)
 }
 
 ghost use Rattle.places.specs.Places.{numberTold, wordsTold};

@@ -11,8 +11,7 @@ use Rattle.layout.specs.File.{fileOf, writeAnswer, writeBytes, readAnswer, read
 use Rattle.decimal.specs.Decimal.{blank, decimal}
 use Rattle.listing.specs.Listing.{listing}
 use Rattle.trials.specs.Rows.{Row, _gives_, Holds, rows-hold, answered, definitions}
-use Rattle.trials.specs.Trials.{nines}
-use Rattle.trials.specs.Ranges.{ones}
+use Rattle.trials.specs.Trials.{nines, ones}
 
 -- case J by Yao 1: p = 3, q = 4, n = 9, and its file, whose fields have 4 bits
 abbrev pub stepsJ : List ℕ

@@ -3,8 +3,5 @@ pub mod Trials
 pub mod Refusals
 pub mod Orders
 pub mod Places
-pub mod Ranges
 pub mod Files
 pub mod Choices
-pub mod PathRows
-pub mod Methods

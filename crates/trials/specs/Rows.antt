@@ -28,7 +28,6 @@ use Rattle.choose.specs.Choose.{fileRule, better, unless, chooseRule, choice}
 use Rattle.answers.specs.Answers.{Choice, first, second, neither}
 use Rattle.decimal.specs.Decimal.{decimal}
 use Rattle.listing.specs.Listing.{lineOf, listingRule, chainText, refusedText, textFor, listing}
-use Rattle.path.specs.Path.{pathAnswer, pathLeaves}
 
 pub record Row : Type 0 where
   pub got : List ℕ
@@ -117,12 +116,12 @@ unfoldable pub compileDefinitions : Unit {0}
 unfolding partition partitionCount partitionCeiling methodRule methodOf acceptedRule compileRule compileAnswer compileSteps compileOutputs
 compileDefinitions = tt
 
--- the chooser, the lister and the path
+-- the chooser and the lister
 unfoldable pub otherDefinitions : Unit {0}
-unfolding fileRule better unless chooseRule choice decimal lineOf listingRule chainText refusedText textFor listing pathAnswer pathLeaves
+unfolding fileRule better unless chooseRule choice decimal lineOf listingRule chainText refusedText textFor listing
 otherDefinitions = tt
 
--- a table that unfolds this unfolds every definition that reads the specification
+-- a table that unfolds this unfolds every definition that reads the specification, but for the whole path's
 unfoldable pub definitions : Unit {0}
 unfolding chainDefinitions checkDefinitions runDefinitions fieldDefinitions fileDefinitions methodDefinitions compileDefinitions otherDefinitions
 definitions = tt

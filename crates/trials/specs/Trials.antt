@@ -50,6 +50,11 @@ ran p steps output m bases =
     ++ runValues p (pairs steps) (output ∷ []) m bases 2 (nines 9)
     ++ runFigures p (pairs steps) (output ∷ []) m bases 9 (nines 2)
 
+-- 2n steps, to the exponent 2^(n + 1) − 1 by doubling and adding 1 in turn
+abbrev pub ones : ℕ → List Step
+ones zero = []
+ones (suc n) = ones n ++ by (n + n + 1) (n + n + 1) ∷ by (n + n + 2) 1 ∷ []
+
 -- n squarings in a row, from value 1
 abbrev pub doublings : ℕ → List Step
 doublings zero = []

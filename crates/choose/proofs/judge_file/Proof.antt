@@ -4,6 +4,7 @@ use mathlib.Core.Path.{sym}
 use native.Mathlib.Omega.{arith}
 use lib.Seq.{length-take-le}
 use denote.Ref.{now}
+use Rattle.answers.proofs.Clauses.{answer-clause}
 use Rattle.layout.specs.Layout.{edition1}
 use Rattle.reading.proofs.Good.{Good, read-refused, read-good}
 use Rattle.choose.proofs.Files.{refusal-says, unread, other-columns, other-payslips, not-held, all-held}
@@ -97,7 +98,7 @@ returns-3 c =
     let a = s .args in
     refusal-says _ _ _ _ _ _
     (unread _ _ _ _ _ _
-    (read-refused edition1 (now (a .bytes)) (now (a .steps)) (now (a .outputs)) (s .pre .pairs-enough) (s .pre .outputs-enough) _ (r .read .ensures .0) _ _
+    (read-refused edition1 (now (a .bytes)) (now (a .steps)) (now (a .outputs)) (s .pre .pairs-enough) (s .pre .outputs-enough) _ (answer-clause (r .read .ensures)) _ _
     (n .number .given .1)))
 
 same-length-7 : tie.Need-same-length-7
@@ -116,7 +117,7 @@ returns-4 c =
     let k = e .before .before .before in
     let s = k .before .before .before .before .before .before .before .before .before .before .before .before .before .before in
     refusal-says _ _ _ _ _ _
-    (not-held _ _ _ _ _ _ _ _ _ (read-file k) (e .before .if1 .left) (e .if2 .left) _ (s .pre .numbers-enough) _ (v .verify .ensures .0) _ _
+    (not-held _ _ _ _ _ _ _ _ _ (read-file k) (e .before .if1 .left) (e .if2 .left) _ (s .pre .numbers-enough) _ (answer-clause (v .verify .ensures)) _ _
     (c .before .number2 .given .1))
 
 same-length-10 : tie.Need-same-length-10
@@ -136,7 +137,7 @@ returns-5 c =
     let s = k .before .before .before .before .before .before .before .before .before .before .before .before .before .before in
     record {
       verdict =
-          all-held _ _ _ _ _ _ _ _ _ (read-file k) (e .before .if1 .left) (e .if2 .left) _ (s .pre .numbers-enough) _ (v .verify .ensures .0)
+          all-held _ _ _ _ _ _ _ _ _ (read-file k) (e .before .if1 .left) (e .if2 .left) _ (s .pre .numbers-enough) _ (answer-clause (v .verify .ensures))
           (c .enum-told .given .1);
       count = λ f. read-file k .taken .long;
     }

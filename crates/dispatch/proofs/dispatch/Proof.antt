@@ -3,6 +3,7 @@ use borrow.Author.Needs.{needs}
 use mathlib.Core.Path.{sym}
 use lib.Seq.{length-take-le}
 use denote.Ref.{now}
+use Rattle.answers.proofs.Clauses.{answer-clause, first-slice-clause, only-slice-clause, second-slice-clause}
 use Rattle.chain.specs.Chain.{pairs}
 use Rattle.layout.specs.Layout.{edition1}
 use Rattle.writing.proofs.Told.{write-room}
@@ -24,8 +25,8 @@ slice-reshare-prefix-read c =
     let n = c .before in
     let w = n .before .before .before .before in
     let a = w .before .before .before .before .before .before .before .args in
-    write-room edition1 (a .p) (pairs (now (a .steps))) (now (a .outputs)) (now (a .bytes)) _ (w .write .ensures .0) _ (n .count .given .1) _
-    (w .write .ensures .1)
+    write-room edition1 (a .p) (pairs (now (a .steps))) (now (a .outputs)) (now (a .bytes)) _ (answer-clause (w .write .ensures)) _ (n .count .given .1) _
+    (only-slice-clause (w .write .ensures))
 
 slice-aggregate-read : tie.Need-slice-aggregate-read
 slice-aggregate-read c = sym (length-take-le _ _ (slice-reshare-prefix-read (c .before)))
@@ -40,8 +41,8 @@ returns : tie.Need-returns
 returns c =
     let w = c .before .before .before .before .before in
     let a = w .before .before .before .before .before .before .before .args in
-    not-written (a .p) (pairs (now (a .steps))) (now (a .outputs)) (now (a .bytes)) (now (a .received)) (now (a .results)) _ (w .write .ensures .0) _
-    (w .write .ensures .1)
+    not-written (a .p) (pairs (now (a .steps))) (now (a .outputs)) (now (a .bytes)) (now (a .received)) (now (a .results)) _ (answer-clause (w .write .ensures)) _
+    (only-slice-clause (w .write .ensures))
     _ _ (c .before .number .given .1)
 
 same-length-2 : tie.Need-same-length-2
@@ -59,9 +60,9 @@ returns-2 c =
     let n = r .before .before .before .before .before in
     let w = n .before .before .before .before in
     let a = w .before .before .before .before .before .before .before .args in
-    then-read (a .p) (pairs (now (a .steps))) (now (a .outputs)) (now (a .bytes)) (now (a .received)) (now (a .results)) _ (w .write .ensures .0) _
-    (w .write .ensures .1)
-    _ (n .count .given .1) _ _ _ (r .read .ensures .0) (r .read .ensures .1 .0) (r .read .ensures .1 .1)
+    then-read (a .p) (pairs (now (a .steps))) (now (a .outputs)) (now (a .bytes)) (now (a .received)) (now (a .results)) _ (answer-clause (w .write .ensures)) _
+    (only-slice-clause (w .write .ensures))
+    _ (n .count .given .1) _ _ _ (answer-clause (r .read .ensures)) (first-slice-clause (r .read .ensures)) (second-slice-clause (r .read .ensures))
 
 pub dispatch-spec : {M : Type 1} → statement M
 dispatch-spec =

@@ -4,6 +4,7 @@ use mathlib.Core.Path.{sym, ap}
 use native.Mathlib.Omega.{arith}
 use lib.Seq.{length-take-le}
 use denote.Ref.{now}
+use Rattle.answers.proofs.Clauses.{answer-clause}
 use Rattle.chain.specs.Judgement.{verdictOf}
 use Rattle.chain.proofs.Rules.{told-refused, told-fine}
 use Rattle.layout.specs.Layout.{edition1}
@@ -80,7 +81,7 @@ returns-2 c =
     listing-refused _ _ _ _
     (unread _ (r .before .before .before .if1 .left) _ _
     (read-refused edition1 (now (a .bytes)) (now (a .steps)) (now (a .outputs)) (omega (arith, s .pre .0)) (omega (arith, s .pre .1)) _
-    (r .read .ensures .0) _ _ (n .number .given .1)))
+    (answer-clause (r .read .ensures)) _ _ (n .number .given .1)))
 
 same-length-3 : tie.Need-same-length-3
 same-length-3 c = search needs

@@ -6,6 +6,7 @@ use native.Mathlib.Omega.{arith}
 use lib.ListN.{getD}
 use lib.Seq.{length-take-le}
 use denote.Ref.{now}
+use Rattle.answers.proofs.Clauses.{answer-clause, first-slice-clause, second-slice-clause}
 use Rattle.chain.specs.Verdict.{fine}
 use Rattle.chain.specs.Chain.{mostAmount, pairs}
 use Rattle.chain.proofs.Pairs.{pairs-flat}
@@ -59,7 +60,7 @@ accepted-at c =
     let r = compiling c in
     let s = start r in
     compile-passes (s .args .p) (s .args .q) (now (s .args .amounts)) (s .args .method) (s .args .k) (now (s .args .steps))
-    (now (s .args .outputs)) _ (r .compile .ensures .0) _ (c .compiled .given .1)
+    (now (s .args .outputs)) _ (answer-clause (r .compile .ensures)) _ (c .compiled .given .1)
 
 counted-at : (c : tie.After-compiled) → let s = start (compiling c) in
     c .compiled .given .0 .0 ≡ count (s .args .p) (s .args .q) (now (s .args .amounts)) (s .args .method) (s .args .k)
@@ -67,7 +68,7 @@ counted-at c =
     let r = compiling c in
     let s = start r in
     compile-counts (s .args .p) (s .args .q) (now (s .args .amounts)) (s .args .method) (s .args .k) (now (s .args .steps))
-    (now (s .args .outputs)) _ (r .compile .ensures .0) _ (c .compiled .given .1)
+    (now (s .args .outputs)) _ (answer-clause (r .compile .ensures)) _ (c .compiled .given .1)
 
 -- the chain that compile filled
 filled-at : (c : tie.After-compiled)
@@ -79,7 +80,7 @@ filled-at c =
     let r = compiling c in
     let s = start r in
     filled (s .args .p) (s .args .q) (now (s .args .amounts)) (s .args .method) (s .args .k) (now (s .args .steps))
-    (now (s .args .outputs)) _ (r .compile .ensures .0) _ (c .compiled .given .1) (low r) _ _ (r .compile .ensures .1 .0) (r .compile .ensures .1 .1)
+    (now (s .args .outputs)) _ (answer-clause (r .compile .ensures)) _ (c .compiled .given .1) (low r) _ _ (first-slice-clause (r .compile .ensures)) (second-slice-clause (r .compile .ensures))
 
 -- the chain that read filled
 taken-at : (c : tie.After-columns)
@@ -95,7 +96,7 @@ taken-at c =
     let s = start r in
     let f = filled-at n in
     read-alone (s .args .p) (s .args .q) (now (s .args .amounts)) (s .args .method) (s .args .k) (low r) (slices s) (s .args .m)
-    (now (s .args .bases)) _ _ (r .compile .ensures .1 .0) (r .compile .ensures .1 .1)
+    (now (s .args .bases)) _ _ (first-slice-clause (r .compile .ensures)) (second-slice-clause (r .compile .ensures))
     (accepted-at n)
     _ _ (f .steps-front) (f .outputs-front) _ _ _ _ (d .dispatch .ensures)
     _ _ _ (c .columns .given .1)
@@ -168,9 +169,9 @@ returns c =
     let r = c .before .before .before .before .before .before .before in
     let s = start r in
     not-compiled (s .args .p) (s .args .q) (now (s .args .amounts)) (s .args .method) (s .args .k) (low r) (slices s) (s .args .m)
-    (now (s .args .bases)) _ _ (r .compile .ensures .1 .0) (r .compile .ensures .1 .1) _ _
+    (now (s .args .bases)) _ _ (first-slice-clause (r .compile .ensures)) (second-slice-clause (r .compile .ensures)) _ _
     (compile-stops (s .args .p) (s .args .q) (now (s .args .amounts)) (s .args .method) (s .args .k) (now (s .args .steps))
-    (now (s .args .outputs)) _ (r .compile .ensures .0) _ _ (c .before .number .given .1))
+    (now (s .args .outputs)) _ (answer-clause (r .compile .ensures)) _ _ (c .before .number .given .1))
 
 same-length-3 : tie.Need-same-length-3
 same-length-3 c = search needs
@@ -195,7 +196,7 @@ returns-2 c =
     let s = start r in
     let f = filled-at n in
     not-dispatched (s .args .p) (s .args .q) (now (s .args .amounts)) (s .args .method) (s .args .k) (low r) (slices s) (s .args .m)
-    (now (s .args .bases)) _ _ (r .compile .ensures .1 .0) (r .compile .ensures .1 .1)
+    (now (s .args .bases)) _ _ (first-slice-clause (r .compile .ensures)) (second-slice-clause (r .compile .ensures))
     (accepted-at n)
     _ _ (f .steps-front) (f .outputs-front) _ _ _ _ (d .dispatch .ensures)
     _ _ (c .before .number2 .given .1)
@@ -235,7 +236,7 @@ returns-3 c =
     let f = filled-at n in
     let t = taken-at w in
     not-received (s .args .p) (s .args .q) (now (s .args .amounts)) (s .args .method) (s .args .k) (low r) (slices s) (s .args .m)
-    (now (s .args .bases)) _ _ (r .compile .ensures .1 .0) (r .compile .ensures .1 .1)
+    (now (s .args .bases)) _ _ (first-slice-clause (r .compile .ensures)) (second-slice-clause (r .compile .ensures))
     (accepted-at n)
     _ _ (f .steps-front) (f .outputs-front) _ _ _ _ (d .dispatch .ensures)
     _ _ _ (w .columns .given .1)
@@ -279,7 +280,7 @@ returns-4 c =
     let f = filled-at n in
     let t = taken-at w in
     all-done (s .args .p) (s .args .q) (now (s .args .amounts)) (s .args .method) (s .args .k) (low r) (slices s) (s .args .m)
-    (now (s .args .bases)) _ _ (r .compile .ensures .1 .0) (r .compile .ensures .1 .1)
+    (now (s .args .bases)) _ _ (first-slice-clause (r .compile .ensures)) (second-slice-clause (r .compile .ensures))
     (accepted-at n)
     _ _ (f .steps-front) (f .outputs-front) _ _ _ _ (d .dispatch .ensures)
     _ _ _ (w .columns .given .1)

@@ -1,6 +1,7 @@
 -- The check refuses, or the chain is run; each return is one law of `Receiving`.
 use borrow.Author.Needs.{needs}
 use denote.Ref.{now}
+use Rattle.answers.proofs.Clauses.{answer-clause, first-slice-clause, only-slice-clause, second-slice-clause}
 use Rattle.chain.specs.Chain.{pairs}
 use Rattle.receive.proofs.Receiving.{not-passed, then-run}
 use Rattle.receive.proofs.receive.Statement.{statement}
@@ -27,7 +28,7 @@ returns c =
     let a = w .before .before .before .before .before .before .before .before .before .args in
     not-passed (a .p) (pairs (now (a .steps))) (now (a .outputs)) (now (a .amounts)) (a .m) (now (a .bases)) (now (a .scratch)) (now (a .values))
     (now (a .figures)) _
-    (w .verify .ensures .0) _ (w .verify .ensures .1) _ _ (c .before .number .given .1)
+    (answer-clause (w .verify .ensures)) _ (only-slice-clause (w .verify .ensures)) _ _ (c .before .number .given .1)
 
 same-length-2 : tie.Need-same-length-2
 same-length-2 c = search needs
@@ -46,7 +47,7 @@ returns-2 c =
     let a = w .before .before .before .before .before .before .before .before .before .args in
     then-run (a .p) (pairs (now (a .steps))) (now (a .outputs)) (now (a .amounts)) (a .m) (now (a .bases)) (now (a .scratch)) (now (a .values))
     (now (a .figures)) _
-    (w .verify .ensures .0) _ (w .verify .ensures .1) (e .enum-told .given .1) _ _ _ (r .run .ensures .0) (r .run .ensures .1 .0) (r .run .ensures .1 .1)
+    (answer-clause (w .verify .ensures)) _ (only-slice-clause (w .verify .ensures)) (e .enum-told .given .1) _ _ _ (answer-clause (r .run .ensures)) (first-slice-clause (r .run .ensures)) (second-slice-clause (r .run .ensures))
 
 pub receive-spec : {M : Type 1} → statement M
 receive-spec =

@@ -21,7 +21,7 @@ walked method k l m bases =
     answered (pathAnswer 2 1 sheetA method k l m bases) ++ laidOut (pathLeaves 2 1 sheetA method k l m bases)
 
 unfoldable pub pathRows : List Row
-unfolding definitions
+unfolding definitions pathAnswer pathLeaves
 pathRows =
     -- no call refused, with one cell more than is needed in each slice; then with just as many
     walked 1 1 (cells 7 2 8 7 2 7 7 2) 1000 (3 ∷ 5 ∷ [])

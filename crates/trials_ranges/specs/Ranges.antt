@@ -11,9 +11,9 @@ use Rattle.layout.specs.File.{longestFile, byteCount, writeAnswer, readAnswer}
 use Rattle.compile.specs.Compile.{chainOf, count, compileAnswer}
 use Rattle.choose.specs.Choose.{choice, mostScratch}
 use Rattle.listing.specs.Listing.{listing}
 use Rattle.trials.specs.Rows.{Row, _gives_, Holds, rows-hold, verdict, answered, chosen, definitions}
-use Rattle.trials.specs.Trials.{sheetA, stepsA, fileA}
+use Rattle.trials.specs.Trials.{sheetA, stepsA, fileA, ones}
 use Rattle.trials.specs.Refusals.{refusedLine}
 
 -- f at each number of a list, one after the other
 abbrev pub each : (ℕ → List ℕ) → List ℕ → List ℕ
@@ -46,11 +46,6 @@ ends most = 0 ∷ 1 ∷ most ∷ (most + 1) ∷ []
 -- compile of zeros with no room, 5 where the method and its parameter are right
 abbrev pub parameter : ℕ → ℕ → ℕ → List ℕ
 parameter p method k = answered (compileAnswer p 1 (replicate p 0) method k 0 0)
-
--- 2n steps, to the exponent 2^(n + 1) − 1 by doubling and adding 1 in turn
-abbrev pub ones : ℕ → List Step
-ones zero = []
-ones (suc n) = ones n ++ by (n + n + 1) (n + n + 1) ∷ by (n + n + 2) 1 ∷ []
 
 -- Two payslips in 503 inputs, 62 groups of 8 and one of 7, by partition 8: 487 squarings, 62 · 247 + 120 steps of tables and 62 of payslip 1,
 -- which has all 63 parts: 15,983 in all. Payslip 2 has 16 parts in columns 1 to 4, and its amount in column 5.

@@ -1,0 +1,41 @@
+// How what the sheet's sender calls answers across the C interface: compile, write and the whole path.
+ghost use Rattle.answers.specs.Answers.{compiledOf, writtenOf, figuredOf};
+ghost use Rattle.tell.specs.Inner.{ToldAs};
+use answers::Compiled;
+use answers::Figured;
+use answers::Written;
+use tell::tell;
+
+// What a compile answered.
+pub fn tell_compiled(compiled: Compiled, answer: &mut [u64; 4]) -> u32
+    ensures { λ r. ⌜ ToldAs (compiledOf compiled) r (now (answer .exit)) ⌝ }
+{
+    match compiled {
+        Compiled::Refused(number, place) => tell(number, place, 0, 0, answer),
+        Compiled::Steps(n) => tell(0, n, 0, 0, answer),
+    }
+}
+
+// What a write answered.
+pub fn tell_written(written: Written, answer: &mut [u64; 4]) -> u32
+    ensures { λ r. ⌜ ToldAs (writtenOf written) r (now (answer .exit)) ⌝ }
+{
+    match written {
+        Written::Refused(number, place) => tell(number, place, 0, 0, answer),
+        Written::Bytes(n) => tell(0, n, 0, 0, answer),
+    }
+}
+
+// What the whole path answered.
+pub fn tell_figured(figured: Figured, answer: &mut [u64; 4]) -> u32
+    ensures { λ r. ⌜ ToldAs (figuredOf figured) r (now (answer .exit)) ⌝ }
+{
+    match figured {
+        Figured::Refused(number, place) => tell(number, place, 0, 0, answer),
+        Figured::Counts {
+            compiled,
+            read,
+            made,
+        } => tell(0, compiled, read, made, answer),
+    }
+}

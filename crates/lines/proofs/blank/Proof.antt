@@ -1,6 +1,6 @@
 -- Each return is one test of the definition, decided.
 use borrow.Author.Needs.{needs}
-use Rattle.lines.specs.Lines.{blankUnit}
+use Rattle.lines.specs.Inner.{blankUnit}
 use Rattle.decimal.proofs.Choices.{choosing}
 use Rattle.lines.proofs.blank.Statement.{statement}
 use Rattle.lines.proofs.blank.Tie as tie

@@ -3,14 +3,14 @@ use mathlib.Core.Path.{_≡_, refl, sym, ap, ap₂, _∙_, subst}
 use mathlib.Core.Bool.{Bool, true, false}
 use mathlib.Core.List.{List, [], _∷_, _++_, append-assoc}
 use Prim.Native.Nat.{ℕ, zero, suc, _+_, _-_, _*_, _/_, _%_, _^_, _≤_, _<_}
-use native.Mathlib.Nat.{not-suc-le-zero, le-of-suc-le-suc, zero-lt-suc, mod-lt, mod-eq-of-lt, mod-one, add-assoc, mul-assoc, add-mul, zero-add, zero-mul}
+use native.Mathlib.Nat.{not-suc-le-zero, le-of-suc-le-suc, zero-lt-suc, mod-lt, mod-eq-of-lt, mod-one, add-assoc, add-comm, suc-add, mul-assoc, add-mul, zero-add, zero-mul}
 use native.Mathlib.Numerals.{one-add}
 use native.Mathlib.Omega.{arith}
 use lib.ListN.{length, take, drop, replicate, length-append, length-drop, length-replicate, take-append-drop}
 use lib.Seq.{length-take-le}
 use lib.Dec.{eqb, lit<}
 use lib.Arith.{digits-lt}
-use lib.Pow.{pow-add, mod-pow-add, high, low}
+use lib.Pow.{pow-add, mod-pow-add, shr-shr, high, low}
 use Rattle.bits.specs.Bits.{bit, odd, bits, value}
 
 bit-eqb : (m : ℕ) → m < 2 → bit (eqb m 1) ≡ m
@@ -74,6 +74,23 @@ pub bits-value : (b : List Bool) (w : ℕ) → length b ≡ w → bits w (value 
 bits-value b w l =
     value-inj (bits w (value b)) b (length-bits w (value b) ∙ sym l)
     (value-bits-lt w (value b) (subst (λ (k : ℕ). value b < 2 ^ k) l (value-lt b)))
+
+-- a field of two widths is the high bits and then the low ones
+pub bits-add : (a b x : ℕ) → bits (a + b) x ≡ bits a (x / 2 ^ b) ++ bits b x
+unfolding bits
+bits-add zero b x = ap (λ (k : ℕ). bits k x) (zero-add b)
+bits-add (suc a) b x =
+    ap (λ (k : ℕ). bits k x) (suc-add a b)
+    ∙ ap₂ (λ (n : ℕ) (r : List Bool). odd n ∷ r) (ap (λ (k : ℕ). x / 2 ^ k) (add-comm a b) ∙ sym (shr-shr x b a)) (bits-add a b x)
+
+-- so two numbers, one shifted before the other, are a field of twice the width
+pub bits-two : (w a b : ℕ) → b < 2 ^ w → bits (2 * w) (a * 2 ^ w + b) ≡ bits w a ++ bits w b
+bits-two w a b h =
+    let x : ℕ = a * 2 ^ w + b in
+    let e : 2 * w ≡ w + w = omega arith in
+    ap (λ (k : ℕ). bits k x) e ∙ bits-add w w x
+    ∙ ap₂ (λ (y : ℕ) (r : List Bool). bits w y ++ r) (high a w h)
+    (value-inj (bits w x) (bits w b) (length-bits w x ∙ sym (length-bits w b)) (value-bits w x ∙ low a w h ∙ sym (value-bits-lt w b h)))
 
 pub value-append : (a b : List Bool) → value (a ++ b) ≡ value a * 2 ^ length b + value b
 unfolding value

@@ -7,9 +7,13 @@ use lib.ListN.{length, take, getD}
 use Rattle.chain.specs.Written.{over}
 use Rattle.bits.specs.Bits.{value, bytesBits, pack, bytesFor, fieldAt}
 
--- how wide a field may be, so that four bytes cover it from any bit on
+-- how wide a field that is read may be, so that four bytes cover it from any bit on
 abbrev pub widestField : ℕ
 widestField = 25
+
+-- how wide a field that is written may be, so that eight bytes do
+abbrev pub widestPut : ℕ
+widestPut = 57
 
 -- a field of w bits at position at is short enough, lies within the file, and its end is a usize
 pub record FieldRoom (file : List ℕ) (at w : ℕ) : Type 0 where
@@ -25,7 +29,9 @@ pub record FieldTaken (file : List ℕ) (at w v next : ℕ) : Type 0 where
 
 -- a field of w bits, one at least, whose value is v, has room at position at
 pub record FieldFill (buf : List ℕ) (at w v : ℕ) : Type 0 where
-  pub room : FieldRoom buf at w
+  pub narrow : w ≤ widestPut
+  pub within : at + w ≤ 8 * length buf
+  pub fits : at + w < 2 ^ 64
   pub some : 0 < w
   pub small : v < 2 ^ w
 
@@ -48,6 +54,7 @@ pub record WordAt (file : List ℕ) (i r : ℕ) : Type 0 where
   pub is : r ≡ value (bytesBits (window 4 file i))
   pub small : r < 2 ^ 32
 
--- the four bytes of a number, the highest first
-abbrev pub spread : ℕ → List ℕ
-spread x = x / 2 ^ 24 % 256 ∷ x / 2 ^ 16 % 256 ∷ x / 2 ^ 8 % 256 ∷ x % 256 ∷ []
+-- the lowest n bytes of a number, the highest first
+unfoldable pub spread : ℕ → ℕ → List ℕ
+spread zero x = []
+spread (suc n) x = x / 2 ^ (n * 8) % 256 ∷ spread n x

@@ -75,10 +75,10 @@ fn low_byte(x: u64) -> u8
     (x % 256) as u8
 }
 
-// The first count of the four bytes of x, stored from i on, the first one with head added to it. Only that one waits for what the buffer held.
+// The first count of the lowest four bytes of x, stored from i on, the first one with head added to it. Only that one waits for what the buffer held.
 fn scatter(buf: &mut [u8], i: usize, count: usize, head: u64, x: u64)
     requires { ⌜ (1 ≤ count) × (count ≤ 4) × (i + count ≤ length (now buf)) × (head < 256) ⌝ }
-    ensures { λ _. ⌜ now (buf .exit) ≡ laid i (take count (spread (head * 2 ^ 24 + x))) (now (buf .entry)) ⌝ }
+    ensures { λ _. ⌜ now (buf .exit) ≡ laid i (take count (spread 4 (head * 2 ^ 24 + x))) (now (buf .entry)) ⌝ }
 {
     buf[i] = low_byte(head + (x >> 24));
     if count < 2 {
@@ -93,6 +93,21 @@ fn scatter(buf: &mut [u8], i: usize, count: usize, head: u64, x: u64)
         return;
     }
     buf[i + 3] = low_byte(x);
+}
+
+// The same of the eight bytes of x. Most fields that are put fill four bytes or more, so the first four ask for no count.
+fn scatter_wide(buf: &mut [u8], i: usize, count: usize, head: u64, x: u64)
+    requires { ⌜ (1 ≤ count) × (count ≤ 8) × (i + count ≤ length (now buf)) × (head < 256) ⌝ }
+    ensures { λ _. ⌜ now (buf .exit) ≡ laid i (take count (spread 8 (head * 2 ^ 56 + x))) (now (buf .entry)) ⌝ }
+{
+    if count < 4 {
+        scatter(buf, i, count, head, x >> 32);
+        return;
+    }
+    scatter(buf, i, 4, head, x >> 32);
+    if count > 4 {
+        scatter(buf, i + 4, count - 4, 0, x);
+    }
 }
 
 impl Cursor {
@@ -121,7 +136,7 @@ impl Cursor {
         let used = at % 8 + width;
         let right = 8 - at % 8;
         let head = (wide(buf[i]) >> right) << right;
-        scatter(buf, i, (used + 7) / 8, head, value << (32 - used));
+        scatter_wide(buf, i, (used + 7) / 8, head, value << (64 - used));
         Cursor { at: at + width }
     }
 }

@@ -14,7 +14,7 @@ fn wide(x: u32) -> u64
     x as u64
 }
 
-// Writes the first count numbers of the list as fields of width bits, one after the other.
+// Writes the first count numbers of the list as fields of width bits, one after the other. Two at a time are put as one field of twice the width: each put waits for the one before it.
 pub fn put_fields(buf: &mut [u8], from: Cursor, width: usize, list: &[u32], count: usize) -> Cursor
     requires { ⌜ (count ≤ length (now list)) × FieldsFill (now buf) (from .at) width (take count (now list)) ⌝ }
     ensures { λ r. ⌜ FieldStored (now (buf .entry)) (from .at) (count * width)
@@ -22,9 +22,13 @@ pub fn put_fields(buf: &mut [u8], from: Cursor, width: usize, list: &[u32], coun
 {
     let mut c = from;
     let mut j = 0;
-    while j < count {
+    while count - j >= 2 {
+        let both = (wide(list[j]) << width) + wide(list[j + 1]);
+        c = c.put(buf, 2 * width, both);
+        j += 2;
+    }
+    if j < count {
         c = c.put(buf, width, wide(list[j]));
-        j += 1;
     }
     c
 }

@@ -3,6 +3,7 @@ use mathlib.Core.Path.{_≡_, refl, sym, ap, _∙_}
 use mathlib.Core.Bool.{Bool, true, false, cond}
 use mathlib.Core.List.{List, [], _∷_}
 use Prim.Native.Nat.{ℕ, zero, suc, _+_, _-_, _^_, _≤_, _<_}
+use native.Mathlib.Nat.{zero-add}
 use native.Mathlib.Decide.{ℕ-discrete}
 use native.Mathlib.Numerals.{add-one}
 use native.Mathlib.Omega.{arith}
@@ -16,8 +17,8 @@ use Rattle.text.specs.declared.Parting.{Parting}
 use Rattle.text.specs.declared.Parting.the-variants.{Fields}
 use Rattle.lines.specs.declared.Tally.{Tally}
 use Rattle.lines.specs.declared.Head.{Head}
-use Rattle.lines.specs.Lines.{semicolon, comma, onFirst, linesOf, contentLength, contentOf, sameUnit, digitUnit, blankUnit, begun, tallied, talliedAll, tallyStart, tallyOf, partingOf, separatorsIn, fieldsIn, headOf}
-use Rattle.lines.specs.Inner.{untilNewline, Low}
+use Rattle.lines.specs.Lines.{semicolon, comma, onFirst, cutAt, linesOf, contentLength, contentOf, sameUnit, digitUnit, counted, isBlank, filled, tallyOf, partingOf, separatorsIn, fieldsIn, headOf}
+use Rattle.lines.specs.Inner.{untilNewline, Low, blankUnit, begun, tallied}
 
 -- a text's first line, and the lines after it
 pub line-first : (b : ℕ) (r : List ℕ)
@@ -97,7 +98,7 @@ digit-low b = unit (b <? firstDigit or lastDigit <? b) .1
 
 pub blank-low : (b : ℕ) → blankUnit b ≤ 1
 unfolding blankUnit
-blank-low b = unit (b =? blank or b =? tab) .0
+blank-low b = unit (isBlank b) .0
 
 pub begun-low : (gap b : ℕ) → begun gap b ≤ gap
 unfolding begun
@@ -108,10 +109,54 @@ begun-low gap b = by-test (blankUnit b =? 0)
     by-test false = omega arith
 
 -- a byte more, as the code counts it
-pub tally-is : (t : Tally) (b k l m n w g : ℕ) → k ≡ sameUnit b tab → l ≡ sameUnit b semicolon → m ≡ sameUnit b comma → n ≡ digitUnit b → w ≡ begun (t .gap) b
-    → g ≡ blankUnit b
-    → record { tabs = t .tabs + k; semicolons = t .semicolons + l; commas = t .commas + m; digits = t .digits + n; words = t .words + w; gap = g } ≡ tallied t b
-tally-is t b k l m n w g e1 e2 e3 e4 e5 e6 = rw (e1, e2, e3, e4, e5, e6)
+pub tally-is : (t : Tally) (gap b k l m n w : ℕ) → k ≡ sameUnit b tab → l ≡ sameUnit b semicolon → m ≡ sameUnit b comma → n ≡ digitUnit b → w ≡ begun gap b
+    → record { tabs = t .tabs + k; semicolons = t .semicolons + l; commas = t .commas + m; digits = t .digits + n; words = t .words + w } ≡ tallied t gap b
+tally-is t gap b k l m n w e1 e2 e3 e4 e5 = rw (e1, e2, e3, e4, e5)
+
+-- two tallies that are the same count by count
+tally-same : (t u : Tally) → t .tabs ≡ u .tabs → t .semicolons ≡ u .semicolons → t .commas ≡ u .commas → t .digits ≡ u .digits → t .words ≡ u .words → t ≡ u
+tally-same t u e1 e2 e3 e4 e5 =
+    let made : ℕ → ℕ → ℕ → ℕ → ℕ → Tally = λ k l m n w. record { tabs = k; semicolons = l; commas = m; digits = n; words = w } in
+    let same : made (t .tabs) (t .semicolons) (t .commas) (t .digits) (t .words) ≡ u = rw (e1, e2, e3, e4, e5) in
+    same
+
+-- no more is counted than there are bytes
+counted-low : (unit : ℕ → ℕ) → ((b : ℕ) → unit b ≤ 1) → (l : List ℕ) → counted unit l ≤ length l
+counted-low unit low [] = omega arith
+counted-low unit low (b ∷ r) = omega (arith, low b, counted-low unit low r)
+
+filled-low : (l : List ℕ) → filled (cutAt isBlank l) ≤ length l
+filled-low [] = omega arith
+filled-low (b ∷ r) = by-test (isBlank b) (cutAt isBlank r) (filled-low r)
+  where
+    by-test : (t : Bool) (ls : List (List ℕ)) → filled ls ≤ length r → filled (cond t ([] ∷ ls) (onFirst b ls)) ≤ suc (length r)
+    by-test true ls h = omega arith
+    by-test false [] h = omega arith
+    by-test false ([] ∷ ls) h = omega arith
+    by-test false ((c ∷ l) ∷ ls) h = omega arith
+
+-- how many words begin in a line, after a gap or none
+abbrev beginning : ℕ → List ℕ → ℕ
+beginning gap [] = 0
+beginning gap (b ∷ r) = begun gap b + beginning (blankUnit b) r
+
+-- the parts after the first
+abbrev others : List (List ℕ) → List (List ℕ)
+others [] = []
+others (l ∷ ls) = ls
+
+-- after a gap all words begin; after none the first part is the end of a word that has begun
+words-begin : (l : List ℕ) → (beginning 1 l ≡ filled (cutAt isBlank l)) × (beginning 0 l ≡ filled (others (cutAt isBlank l)))
+unfolding _=?_ blankUnit begun
+words-begin [] = (refl, refl)
+words-begin (b ∷ r) = by-test (isBlank b) (cutAt isBlank r) (words-begin r)
+  where
+    by-test : (t : Bool) (ls : List (List ℕ)) → (beginning 1 r ≡ filled ls) × (beginning 0 r ≡ filled (others ls))
+        → (cond (cond t 1 0 =? 0) 1 0 + beginning (cond t 1 0) r ≡ filled (cond t ([] ∷ ls) (onFirst b ls)))
+        × (cond (cond t 1 0 =? 0) 0 0 + beginning (cond t 1 0) r ≡ filled (others (cond t ([] ∷ ls) (onFirst b ls))))
+    by-test true ls h = (omega (arith, h .0), omega (arith, h .0))
+    by-test false [] h = (omega (arith, h .1), omega (arith, h .1))
+    by-test false (l ∷ ls) h = (omega (arith, h .1), omega (arith, h .1))
 
 -- a separator more
 separators-low : (s : ℕ) (t : Tally) → Low t → separatorsIn s t + 1 < 2 ^ 64
@@ -123,77 +168,78 @@ separators-low s t low = by-test (s =? tab) (s =? semicolon)
     by-test false true = low .semicolons-low
     by-test false false = low .commas-low
 
--- counts that are at most the bytes counted
-pub record Within (n : ℕ) (t : Tally) : Type 0 where
-  pub tabs-in : t .tabs ≤ n
-  pub semicolons-in : t .semicolons ≤ n
-  pub commas-in : t .commas ≤ n
-  pub digits-in : t .digits ≤ n
-  pub words-in : t .words ≤ n
-  pub gap-in : t .gap ≤ 1
+-- the tally so far: with what is left of the line it is the whole line's
+pub record Tallies (line : List ℕ) (t : Tally) (gap i : ℕ) : Type 0 where
+  pub gap-low : gap ≤ 1
+  pub tabs-left : t .tabs + counted (λ b. sameUnit b tab) (drop i line) ≡ tallyOf line .tabs
+  pub semicolons-left : t .semicolons + counted (λ b. sameUnit b semicolon) (drop i line) ≡ tallyOf line .semicolons
+  pub commas-left : t .commas + counted (λ b. sameUnit b comma) (drop i line) ≡ tallyOf line .commas
+  pub digits-left : t .digits + counted digitUnit (drop i line) ≡ tallyOf line .digits
+  pub words-left : t .words + beginning gap (drop i line) ≡ tallyOf line .words
 
-pub within-start : Within 0 tallyStart
-within-start =
-    record {
-      tabs-in = omega arith;
-      semicolons-in = omega arith;
-      commas-in = omega arith;
-      digits-in = omega arith;
-      words-in = omega arith;
-      gap-in = omega arith;
-    }
-
-pub within-low : (n : ℕ) (t : Tally) → Within n t → n + 1 < 2 ^ 64 → Low t
-within-low n t w h =
-    record {
-      tabs-low = omega (arith, w .tabs-in);
-      semicolons-low = omega (arith, w .semicolons-in);
-      commas-low = omega (arith, w .commas-in);
-      digits-low = omega (arith, w .digits-in);
-      words-low = omega (arith, w .words-in, w .gap-in);
-    }
-
-within-on : (n : ℕ) (t : Tally) (b : ℕ) → Within n t → Within (n + 1) (tallied t b)
-within-on n t b w =
-    record {
-      tabs-in = omega (arith, w .tabs-in, same-low b tab);
-      semicolons-in = omega (arith, w .semicolons-in, same-low b semicolon);
-      commas-in = omega (arith, w .commas-in, same-low b comma);
-      digits-in = omega (arith, w .digits-in, digit-low b);
-      words-in = omega (arith, w .words-in, begun-low (t .gap) b, w .gap-in);
-      gap-in = blank-low b;
-    }
-
-within-all : (n : ℕ) (t : Tally) (l : List ℕ) → Within n t → Within (n + length l) (talliedAll t l)
-within-all n t [] w = let e : n + 0 ≡ n = omega arith in rw e w
-within-all n t (b ∷ r) w =
-    let e : n + suc (length r) ≡ n + 1 + length r = omega arith in
-    rw e (within-all (n + 1) (tallied t b) r (within-on n t b w))
-
-tally-low : (line : List ℕ) → length line + 1 < 2 ^ 64 → Low (tallyOf line)
-unfolding tallyOf
-tally-low line h =
-    let e : 0 + length line ≡ length line = omega arith in
-    within-low (length line) (talliedAll tallyStart line) (rw e at (within-all 0 tallyStart line within-start)) h
-
--- the tally so far
-pub record Tallies (line : List ℕ) (t : Tally) (i : ℕ) : Type 0 where
-  pub low : Within i t
-  pub left : tallyOf line ≡ talliedAll t (drop i line)
+abbrev pub tallyStart : Tally
+tallyStart = record { tabs = 0; semicolons = 0; commas = 0; digits = 0; words = 0 }
 
 module _ (line : List ℕ) where
-  pub tally-start : Tallies line tallyStart 0
+  tally-low : length line + 1 < 2 ^ 64 → Low (tallyOf line)
   unfolding tallyOf
-  tally-start = record { low = within-start; left = refl }
+  tally-low h =
+      record {
+        tabs-low = omega (arith, counted-low (λ b. sameUnit b tab) (λ b. same-low b tab) line);
+        semicolons-low = omega (arith, counted-low (λ b. sameUnit b semicolon) (λ b. same-low b semicolon) line);
+        commas-low = omega (arith, counted-low (λ b. sameUnit b comma) (λ b. same-low b comma) line);
+        digits-low = omega (arith, counted-low digitUnit digit-low line);
+        words-low = omega (arith, filled-low line);
+      }
 
-  module _ (t : Tally) (i : ℕ) (s : Tallies line t i) where
-    pub tally-next : (t′ : Tally) → i < length line → t′ ≡ tallied t (getD line i 0) → Tallies line t′ (i + 1)
-    tally-next t′ h e =
-        let byte : drop i line ≡ getD line i 0 ∷ drop (i + 1) line = rw (add-one i) (drop-cons line i 0 h) in
-        rw e (record { low = within-on i t (getD line i 0) (s .low); left = s .left ∙ ap (talliedAll t) byte })
+  pub tally-start : Tallies line tallyStart 1 0
+  unfolding tallyOf
+  tally-start =
+      record {
+        gap-low = omega arith;
+        tabs-left = zero-add _;
+        semicolons-left = zero-add _;
+        commas-left = zero-add _;
+        digits-left = zero-add _;
+        words-left = zero-add _ ∙ words-begin line .0;
+      }
+
+  module _ (t : Tally) (gap i : ℕ) (s : Tallies line t gap i) where
+    pub tally-room : length line + 1 < 2 ^ 64 → Low t
+    tally-room h =
+        let low = tally-low h in
+        record {
+          tabs-low = omega (arith, s .tabs-left, low .tabs-low);
+          semicolons-low = omega (arith, s .semicolons-left, low .semicolons-low);
+          commas-low = omega (arith, s .commas-left, low .commas-low);
+          digits-low = omega (arith, s .digits-left, low .digits-low);
+          words-low = omega (arith, s .words-left, low .words-low);
+        }
+
+    pub tally-next : (t′ : Tally) (gap′ : ℕ) → i < length line → t′ ≡ tallied t gap (getD line i 0) → gap′ ≡ blankUnit (getD line i 0)
+        → Tallies line t′ gap′ (i + 1)
+    tally-next t′ gap′ h e g =
+        let b : ℕ = getD line i 0 in
+        let byte : drop i line ≡ b ∷ drop (i + 1) line = rw (add-one i) (drop-cons line i 0 h) in
+        rw (e, g)
+        (record {
+          gap-low = blank-low b;
+          tabs-left = omega (arith, s .tabs-left, ap (counted (λ c. sameUnit c tab)) byte);
+          semicolons-left = omega (arith, s .semicolons-left, ap (counted (λ c. sameUnit c semicolon)) byte);
+          commas-left = omega (arith, s .commas-left, ap (counted (λ c. sameUnit c comma)) byte);
+          digits-left = omega (arith, s .digits-left, ap (counted digitUnit) byte);
+          words-left = omega (arith, s .words-left, ap (beginning gap) byte);
+        })
 
     pub tally-end : length line ≤ i → t ≡ tallyOf line
-    tally-end h = sym (s .left ∙ ap (talliedAll t) (drop-of-length-le line h))
+    tally-end h =
+        let none : drop i line ≡ [] = drop-of-length-le line h in
+        tally-same t (tallyOf line)
+        (omega (arith, s .tabs-left, ap (counted (λ c. sameUnit c tab)) none))
+        (omega (arith, s .semicolons-left, ap (counted (λ c. sameUnit c semicolon)) none))
+        (omega (arith, s .commas-left, ap (counted (λ c. sameUnit c comma)) none))
+        (omega (arith, s .digits-left, ap (counted digitUnit) none))
+        (omega (arith, s .words-left, ap (beginning gap) none))
 
 -- a line's head, as the code makes it
 pub head-is : (line : List ℕ) (t : Tally) (by : Parting) (fields : ℕ) → t ≡ tallyOf line → by ≡ partingOf t → fields ≡ fieldsIn t by

@@ -1,5 +1,5 @@
 -- The lines of a text, and what a table's line has (Spec 12.2).
-use mathlib.Core.Bool.{cond}
+use mathlib.Core.Bool.{Bool, cond}
 use mathlib.Core.List.{List, [], _∷_}
 use Prim.Native.Nat.{ℕ, suc, _+_, _-_}
 use lib.ListN.{length, getD, take}
@@ -22,10 +22,14 @@ abbrev pub onFirst : ℕ → List (List ℕ) → List (List ℕ)
 onFirst b [] = (b ∷ []) ∷ []
 onFirst b (l ∷ ls) = (b ∷ l) ∷ ls
 
+-- a text cut at the bytes that part it, which are left out
+abbrev pub cutAt : (ℕ → Bool) → List ℕ → List (List ℕ)
+cutAt parts [] = []
+cutAt parts (b ∷ r) = cond (parts b) ([] ∷ cutAt parts r) (onFirst b (cutAt parts r))
+
 -- the lines of a text, without their newlines
 abbrev pub linesOf : List ℕ → List (List ℕ)
-linesOf [] = []
-linesOf (b ∷ r) = cond (b =? newline) ([] ∷ linesOf r) (onFirst b (linesOf r))
+linesOf text = cutAt (λ b. b =? newline) text
 
 -- a line's content: a carriage return right before the newline belongs to the line's end
 unfoldable pub contentLength : List ℕ → ℕ
@@ -41,34 +45,31 @@ sameUnit b other = cond (b =? other) 1 0
 unfoldable pub digitUnit : ℕ → ℕ
 digitUnit b = cond (b <? firstDigit or lastDigit <? b) 0 1
 
-unfoldable pub blankUnit : ℕ → ℕ
-blankUnit b = cond (b =? blank or b =? tab) 1 0
+-- how many bytes of a line count
+abbrev pub counted : (ℕ → ℕ) → List ℕ → ℕ
+counted unit [] = 0
+counted unit (b ∷ r) = unit b + counted unit r
 
--- a word begins at a byte that is no blank, at the start or after a blank
-unfoldable pub begun : ℕ → ℕ → ℕ
-begun gap b = cond (blankUnit b =? 0) gap 0
+-- blanks and tabs part words
+abbrev pub isBlank : ℕ → Bool
+isBlank b = b =? blank or b =? tab
 
-abbrev pub tallied : Tally → ℕ → Tally
-tallied t b =
-    record {
-      tabs = t .tabs + sameUnit b tab;
-      semicolons = t .semicolons + sameUnit b semicolon;
-      commas = t .commas + sameUnit b comma;
-      digits = t .digits + digitUnit b;
-      words = t .words + begun (t .gap) b;
-      gap = blankUnit b;
-    }
+-- how many parts are not empty
+abbrev pub filled : List (List ℕ) → ℕ
+filled [] = 0
+filled ([] ∷ ls) = filled ls
+filled ((b ∷ l) ∷ ls) = suc (filled ls)
 
-abbrev pub talliedAll : Tally → List ℕ → Tally
-talliedAll t [] = t
-talliedAll t (b ∷ r) = talliedAll (tallied t b) r
-
-abbrev pub tallyStart : Tally
-tallyStart = record { tabs = 0; semicolons = 0; commas = 0; digits = 0; words = 0; gap = 1 }
-
--- what a line has
+-- what a line has; its words are the parts between blanks that are not empty
 unfoldable pub tallyOf : List ℕ → Tally
-tallyOf line = talliedAll tallyStart line
+tallyOf line =
+    record {
+      tabs = counted (λ b. sameUnit b tab) line;
+      semicolons = counted (λ b. sameUnit b semicolon) line;
+      commas = counted (λ b. sameUnit b comma) line;
+      digits = counted digitUnit line;
+      words = filled (cutAt isBlank line);
+    }
 
 -- a first line's separator: a tab, else a semicolon, else a comma, else blanks
 unfoldable pub partingOf : Tally → Parting

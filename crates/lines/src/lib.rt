@@ -2,8 +2,8 @@
 ghost use mathlib.Core.Path.{_≡_};
 ghost use Prim.Native.Nat.{_+_, _≤_};
 ghost use lib.ListN.{length, drop};
-ghost use Rattle.lines.specs.Lines.{contentLength, contentOf, sameUnit, digitUnit, blankUnit, begun, tallied, tallyOf, partingOf, separatorsIn, fieldsIn, headOf};
-ghost use Rattle.lines.specs.Inner.{untilNewline, Low};
+ghost use Rattle.lines.specs.Lines.{contentLength, contentOf, sameUnit, digitUnit, tallyOf, partingOf, separatorsIn, fieldsIn, headOf};
+ghost use Rattle.lines.specs.Inner.{untilNewline, Low, blankUnit, begun, tallied};
 use text::Parting;
 
 // Where the line from a place on ends: its newline, or the text's end.
@@ -35,14 +35,13 @@ pub fn content_length(line: &[u8]) -> usize
     n
 }
 
-// What a line has so far: tabs, semicolons, commas, digits and words, and 1 where a word may begin, at the start and after a blank, else 0.
+// What a line has so far.
 struct Tally {
     tabs: usize,
     semicolons: usize,
     commas: usize,
     digits: usize,
     words: usize,
-    gap: usize,
 }
 
 // A table's first line: how its fields are parted, how many fields and how many digits it has, and where it ends.
@@ -87,7 +86,7 @@ fn blank(b: u8) -> usize
     0
 }
 
-// The gap before a byte, where it begins a word.
+// The gap before a byte, where it begins a word. A gap is 1 where a word may begin, at the start and after a blank, else 0.
 fn begins(gap: usize, b: u8) -> usize
     ensures { λ r. ⌜ r ≡ begun gap b ⌝ }
 {
@@ -98,17 +97,16 @@ fn begins(gap: usize, b: u8) -> usize
 }
 
 // A byte more.
-fn count(tally: Tally, b: u8) -> Tally
-    requires { ⌜ Low tally ⌝ }
-    ensures { λ r. ⌜ r ≡ tallied tally b ⌝ }
+fn count(tally: Tally, gap: usize, b: u8) -> Tally
+    requires { ⌜ Low tally × (gap ≤ 1) ⌝ }
+    ensures { λ r. ⌜ r ≡ tallied tally gap b ⌝ }
 {
     Tally {
         tabs: tally.tabs + same(b, b'\t'),
         semicolons: tally.semicolons + same(b, b';'),
         commas: tally.commas + same(b, b','),
         digits: tally.digits + digit(b),
-        words: tally.words + begins(tally.gap, b),
-        gap: blank(b),
+        words: tally.words + begins(gap, b),
     }
 }
 
@@ -122,11 +120,13 @@ fn tally_of(line: &[u8]) -> Tally
         commas: 0,
         digits: 0,
         words: 0,
-        gap: 1,
     };
+    let mut gap: usize = 1;
     let mut i: usize = 0;
     while i < line.len() {
-        so_far = count(so_far, line[i]);
+        let b = line[i];
+        so_far = count(so_far, gap, b);
+        gap = blank(b);
         i += 1;
     }
     so_far

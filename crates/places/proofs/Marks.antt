@@ -34,6 +34,9 @@ module _ (text : List ℕ) where
       by-size (yes h) = omega (arith, mark-short h)
       by-size (no h) = omega (arith, most)
 
-  -- the text from its mark's end on, as the code cuts it
+  -- where the mark ends, as the code has it, and the text from there on
+  pub start-within : (start : ℕ) → start ≡ markLength text → start ≤ length text
+  start-within start e = omega (arith, mark-within)
+
   pub body-part : (start : ℕ) → start ≡ markLength text → take (length text - start) (drop start text) ≡ bodyOf text
   body-part start e = rw e (take-all (length text - markLength text) (drop (markLength text) text) (omega (arith, length-drop (markLength text) text)))

@@ -6,7 +6,7 @@ use Rattle.chain.specs.Tests.{_<?_, _=?_, _≠?_, _or_}
 use Rattle.places.specs.declared.Read.the-variants.{Values, Refused}
 use Rattle.places.specs.Places.{afterByte, spotOf, markLength, isCut, cutText}
 use Rattle.text.specs.Text.{faultOf, plainKind, wordKind, freeKind, fieldKind, grown, begun, before, follow, readFrom, readText, outcome}
-use Rattle.lines.specs.Lines.{contentLength, sameUnit, digitUnit, blankUnit, begun as wordBegun, tallyOf, partingOf, separatorsIn, headOf}
+use Rattle.lines.specs.Lines.{contentLength, sameUnit, digitUnit, tallyOf, partingOf, separatorsIn, headOf}
 use Rattle.table.specs.Table.{rowFound, joined, afterRow, rowsEnd, rowsFrom, headed, tableLines, tableIn, tableOf}
 
 -- so many lines "7\n"
@@ -142,7 +142,7 @@ pub record Samples : Type 0 where
   pub overMost : tableOf (sevens 65) 99 .answer ≡ Refused 1 65 1 65 64
 
 pub samples-hold : Samples
-unfolding _<?_ _=?_ _≠?_ _or_ faultOf plainKind wordKind freeKind fieldKind grown begun before follow readFrom readText afterByte spotOf markLength isCut cutText contentLength sameUnit digitUnit blankUnit wordBegun tallyOf partingOf separatorsIn headOf rowFound joined afterRow rowsEnd rowsFrom headed tableLines tableIn
+unfolding _<?_ _=?_ _≠?_ _or_ faultOf plainKind wordKind freeKind fieldKind grown begun before follow readFrom readText afterByte spotOf markLength isCut cutText contentLength sameUnit digitUnit tallyOf partingOf separatorsIn headOf rowFound joined afterRow rowsEnd rowsFrom headed tableLines tableIn
 samples-hold =
     record {
       tabs = refl;

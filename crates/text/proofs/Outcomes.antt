@@ -2,16 +2,17 @@
 use mathlib.Core.Path.{_≡_, refl, sym, ap, _∙_}
 use mathlib.Core.Bool.{Bool, true, false}
 use mathlib.Core.List.{List, []}
-use Prim.Native.Nat.{ℕ}
-use lib.ListN.{length}
+use Prim.Native.Nat.{ℕ, _-_}
+use lib.ListN.{length, take, drop}
 use Rattle.chain.specs.Written.{over, laid}
 use Rattle.chain.proofs.Written.{over-laid, laid-nil}
 use Rattle.text.specs.declared.Parting.the-variants.{Free}
 use Rattle.text.specs.declared.Parsed.{Parsed}
 use Rattle.places.specs.declared.Read.{Read}
-use Rattle.places.specs.Places.{isCut, cutText, numberTold, wordsTold}
+use Rattle.places.specs.Places.{markLength, bodyOf, isCut, cutText, numberTold, wordsTold}
 use Rattle.text.specs.Text.{readText, toldNumbers, numbersFound, outcome, Outcome, numbersIn}
 use Rattle.places.specs.Inner.{ReadTold}
+use Rattle.places.proofs.Marks.{body-part}
 use Rattle.text.specs.Inner.{FoundTo, ReadTo}
 
 -- nothing is stored
@@ -41,12 +42,10 @@ module _ (text : List ℕ) (t : Bool) (told : t ≡ isCut text) where
         read-same _ _ old a new numbers-on
         (record { answered = e ∙ ap (toldNumbers text) (r .answered); stored = r .stored ∙ sym (over-laid _ old) })
 
--- what a text comes to, where the text is another one
-pub read-of : (f : List ℕ → ℕ → Outcome) (t t′ : List ℕ) (n : ℕ) (old : List ℕ) (a : Read) (new : List ℕ) → t ≡ t′ → ReadTo (f t n) old a new → ReadTo (f t′ n) old a new
-read-of f t t′ n old a new e r = rw e at r
-
--- what was read is told
-pub read-told : (o : Outcome) (old : List ℕ) (a : Read) (new : List ℕ) (number : ℕ) (words : List ℕ) → ReadTo o old a new → ReadTold a number words
-    → (number ≡ numberTold (o .answer)) × ((words ≡ wordsTold (o .answer)) × (new ≡ over (o .numbers) old))
-read-told o old a new number words r t =
-    (t .number-is ∙ ap numberTold (r .answered), (t .words-are ∙ ap wordsTold (r .answered), r .stored))
+-- what is read of the text after its mark is told
+pub body-told : (f : List ℕ → ℕ → Outcome) (text : List ℕ) (start n : ℕ) (old : List ℕ) (a : Read) (new : List ℕ) (number : ℕ) (words : List ℕ)
+    → start ≡ markLength text → ReadTo (f (take (length text - start) (drop start text)) n) old a new → ReadTold a number words
+    → let o = f (bodyOf text) n in (number ≡ numberTold (o .answer)) × ((words ≡ wordsTold (o .answer)) × (new ≡ over (o .numbers) old))
+body-told f text start n old a new number words e r t =
+    let s = read-same _ _ old a new (ap (λ (b : List ℕ). f b n) (body-part text start e)) r in
+    (t .number-is ∙ ap numberTold (s .answered), (t .words-are ∙ ap wordsTold (s .answered), s .stored))

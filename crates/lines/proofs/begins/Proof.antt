@@ -1,7 +1,7 @@
 -- The gap, where the byte is no blank.
 use borrow.Author.Needs.{needs}
 use mathlib.Core.Path.{_≡_, sym, _∙_}
-use Rattle.lines.specs.Lines.{blankUnit, begun}
+use Rattle.lines.specs.Inner.{blankUnit, begun}
 use Rattle.decimal.proofs.Choices.{choosing}
 use Rattle.lines.proofs.begins.Statement.{statement}
 use Rattle.lines.proofs.begins.Tie as tie

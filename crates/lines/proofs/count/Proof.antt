@@ -10,52 +10,60 @@ use Rattle.lines.proofs.count.Tie as tie
 same-requires : tie.Need-same-requires
 same-requires c κs = search needs
 
-add-t4 : tie.Need-add-t4
-add-t4 c = omega (arith, c .before .same .ensures, same-low (c .before .before .args .b) tab, c .before .before .pre .tabs-low)
+add-t5 : tie.Need-add-t5
+add-t5 c = let s = c .before .before in omega (arith, c .before .same .ensures, same-low (s .args .b) tab, s .pre .0 .tabs-low)
 
 same-requires-2 : tie.Need-same-requires-2
 same-requires-2 c κs = search needs
 
-add-t6 : tie.Need-add-t6
-add-t6 c = omega (arith, c .before .same2 .ensures, same-low (c .before .before .before .before .args .b) semicolon, c .before .before .before .before .pre .semicolons-low)
+add-t7 : tie.Need-add-t7
+add-t7 c = let s = c .before .before .before .before in omega (arith, c .before .same2 .ensures, same-low (s .args .b) semicolon, s .pre .0 .semicolons-low)
 
 same-requires-3 : tie.Need-same-requires-3
 same-requires-3 c κs = search needs
 
-add-t8 : tie.Need-add-t8
-add-t8 c = omega (arith, c .before .same3 .ensures, same-low (c .before .before .before .before .before .before .args .b) comma, c .before .before .before .before .before .before .pre .commas-low)
+add-t9 : tie.Need-add-t9
+add-t9 c =
+    let s = c .before .before .before .before .before .before in
+    omega (arith, c .before .same3 .ensures, same-low (s .args .b) comma, s .pre .0 .commas-low)
 
 digit-requires : tie.Need-digit-requires
 digit-requires c κs = search needs
 
-add-t10 : tie.Need-add-t10
-add-t10 c = omega (arith, c .before .digit .ensures, digit-low (c .before .before .before .before .before .before .before .before .args .b), c .before .before .before .before .before .before .before .before .pre .digits-low)
+add-t11 : tie.Need-add-t11
+add-t11 c =
+    let s = c .before .before .before .before .before .before .before .before in
+    omega (arith, c .before .digit .ensures, digit-low (s .args .b), s .pre .0 .digits-low)
 
 begins-requires : tie.Need-begins-requires
 begins-requires c κs = search needs
 
-add-t12 : tie.Need-add-t12
-add-t12 c = omega (arith, c .before .begins .ensures, begun-low (c .before .before .before .before .before .before .before .before .before .before .args .tally .gap) (c .before .before .before .before .before .before .before .before .before .before .args .b), c .before .before .before .before .before .before .before .before .before .before .pre .words-low)
-
-blank-requires : tie.Need-blank-requires
-blank-requires c κs = search needs
+add-t13 : tie.Need-add-t13
+add-t13 c =
+    let s = c .before .before .before .before .before .before .before .before .before .before in
+    omega (arith, c .before .begins .ensures, begun-low (s .args .gap) (s .args .b), s .pre .1, s .pre .0 .words-low)
 
 returns : tie.Need-returns
-returns c = tally-is _ _ _ _ _ _ _ _ (c .before .before .before .before .before .before .before .before .before .before .same .ensures) (c .before .before .before .before .before .before .before .before .same2 .ensures) (c .before .before .before .before .before .before .same3 .ensures) (c .before .before .before .before .digit .ensures) (c .before .before .begins .ensures) (c .blank .ensures)
+returns c =
+    let words = c .before in
+    let digits = words .before .before in
+    let commas = digits .before .before in
+    let semicolons = commas .before .before in
+    let tabs = semicolons .before .before in
+    tally-is _ _ _ _ _ _ _ _ (tabs .same .ensures) (semicolons .same2 .ensures) (commas .same3 .ensures) (digits .digit .ensures) (words .begins .ensures)
 
 pub count-spec : {M : Type 1} → statement M
 count-spec =
     tie.close
     (tie.spec
     same-requires
-    add-t4
+    add-t5
     same-requires-2
-    add-t6
+    add-t7
     same-requires-3
-    add-t8
+    add-t9
     digit-requires
-    add-t10
+    add-t11
     begins-requires
-    add-t12
-    blank-requires
+    add-t13
     returns)

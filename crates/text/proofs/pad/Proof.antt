@@ -6,25 +6,8 @@ use Rattle.places.proofs.Cases.{case}
 use Rattle.text.proofs.pad.Statement.{statement}
 use Rattle.text.proofs.pad.Tie as tie
 
-enum-told : tie.Need-enum-told
-enum-told c = search needs
-
-enum-known-making : tie.Need-enum-known-making
-enum-known-making c = search needs
-
-enum-known-making-2 : tie.Need-enum-known-making-2
-enum-known-making-2 c = search needs
-
-returns : tie.Need-returns
-returns c = case padded _ _ _ (c .enum-told .given .1) refl
-
-returns-2 : tie.Need-returns-2
-returns-2 c = case padded _ _ _ (c .before .making .given .1) refl
-
-returns-3 : tie.Need-returns-3
-returns-3 c = case padded _ _ _ (c .before .making2 .given .1) refl
-
 pub pad-spec : {M : Type 1} → statement M
 pad-spec =
     tie.close
-    (tie.spec enum-told enum-known-making enum-known-making-2 returns returns-2 returns-3)
+    (tie.spec (λ c. search needs) (λ c. search needs) (λ c. search needs) (λ c. case padded _ _ _ (c .enum-told .given .1) refl)
+    (λ c. case padded _ _ _ (c .before .making .given .1) refl) (λ c. case padded _ _ _ (c .before .making2 .given .1) refl))

@@ -23,24 +23,24 @@ shr-head c = search needs
 shl-head : tie.Need-shl-head
 shl-head c = search needs
 
-add-scatter : tie.Need-add-scatter
-add-scatter c = search needs
+add-scatter-wide : tie.Need-add-scatter-wide
+add-scatter-wide c = search needs
 
-sub-scatter : tie.Need-sub-scatter
-sub-scatter c = search needs
+sub-scatter-wide : tie.Need-sub-scatter-wide
+sub-scatter-wide c = search needs
 
-shl-scatter : tie.Need-shl-scatter
-shl-scatter c = search needs
+shl-scatter-wide : tie.Need-shl-scatter-wide
+shl-scatter-wide c = search needs
 
-scatter-requires : tie.Need-scatter-requires
-scatter-requires c κs =
+scatter-wide-requires : tie.Need-scatter-wide-requires
+scatter-wide-requires c κs =
     let w = c .before in
     let s = w .before .before in
-    let room = s .before .pre .room in (
-      omega (arith, s .before .pre .some),
-      omega (arith, room .narrow),
-      omega (arith, room .within),
-      head-low _ _ _ _ _ (λ k. s .slice-known .given k .fits) (s .before .pre) (w .wide .ensures),
+    let fill = s .before .pre in (
+      omega (arith, fill .some),
+      omega (arith, fill .narrow),
+      omega (arith, fill .within),
+      head-low _ _ _ _ _ (λ k. s .slice-known .given k .fits) fill (w .wide .ensures),
     )
 
 add-t10 : tie.Need-add-t10
@@ -53,7 +53,7 @@ returns : tie.Need-returns
 returns c =
     let w = c .before .before .before .before in
     let s = w .before .before in
-    put-stored _ _ _ _ _ (λ k. s .slice-known .given k .fits) (s .before .pre) (w .wide .ensures) _ (c .before .before .scatter .ensures)
+    put-stored _ _ _ _ _ (λ k. s .slice-known .given k .fits) (s .before .pre) (w .wide .ensures) _ (c .before .before .scatter-wide .ensures)
 
 pub put-spec : {M : Type 1} → statement M
 put-spec =
@@ -65,10 +65,10 @@ put-spec =
     wide-requires
     shr-head
     shl-head
-    add-scatter
-    sub-scatter
-    shl-scatter
-    scatter-requires
+    add-scatter-wide
+    sub-scatter-wide
+    shl-scatter-wide
+    scatter-wide-requires
     add-t10
     same-length
     returns)

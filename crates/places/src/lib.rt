@@ -1,8 +1,7 @@
-// Where a place of a text is, what stands before and at the end of a text, and how what a text answers crosses the C interface.
+// What a text answers, and where a place of a text is.
 ghost use mathlib.Core.Path.{_≡_};
 ghost use Prim.Native.Nat.{_+_, _^_, _<_};
-ghost use Rattle.places.specs.Places.{afterByte, spotOf, markLength, isCut, cutText, refusedAt};
-ghost use Rattle.places.specs.Inner.{ReadTold};
+ghost use Rattle.places.specs.Places.{afterByte, spotOf, cutText, refusedAt};
 
 // The numbers of the refusals.
 pub const OUT_OF_RANGE: u32 = 1;
@@ -73,55 +72,9 @@ pub fn refuse(text: &[u8], fault: u32, place: usize, found: usize, wanted: usize
     Read::Refused(fault, spot.line, spot.column, found, wanted)
 }
 
-// Whether a text has bytes and does not end with a newline.
-pub fn is_cut(text: &[u8]) -> bool
-    ensures { λ r. ⌜ r ≡ isCut (now (text .entry)) ⌝ }
-{
-    let n = text.len();
-    if n == 0 {
-        return false;
-    }
-    text[n - 1] != b'\n'
-}
-
 // The refusal of a text that was cut off.
 pub fn cut_text(text: &[u8]) -> Read
     ensures { λ r. ⌜ r ≡ cutText (now (text .entry)) ⌝ }
 {
     refuse(text, CUT_OFF, text.len() + 1, 0, 0)
-}
-
-// How many bytes of a text are its byte order mark.
-pub fn mark_length(text: &[u8]) -> usize
-    ensures { λ r. ⌜ r ≡ markLength (now (text .entry)) ⌝ }
-{
-    if text.len() < 3 {
-        return 0;
-    }
-    if text[0] != 239 {
-        return 0;
-    }
-    if text[1] != 187 {
-        return 0;
-    }
-    if text[2] != 191 {
-        return 0;
-    }
-    3
-}
-
-// How an answer crosses the C interface: the refusal's number is returned, 0 for none, and four words are written.
-pub fn tell(read: Read, answer: &mut [u64; 4]) -> u32
-    ensures { λ r. ⌜ ReadTold read r (now (answer .exit)) ⌝ }
-{
-    match read {
-        Read::Values(a, b) => {
-            *answer = [a as u64, b as u64, 0, 0];
-            0
-        }
-        Read::Refused(fault, line, column, found, wanted) => {
-            *answer = [line as u64, column as u64, found as u64, wanted as u64];
-            fault
-        }
-    }
 }

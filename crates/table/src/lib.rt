@@ -133,7 +133,7 @@ fn read_headed(head: Head, end: usize, text: &[u8], amounts: &mut [u32]) -> Read
 fn read_table(text: &[u8], amounts: &mut [u32]) -> Read
     ensures { λ r. ⌜ ReadTo (tableIn (now (text .entry)) (length (now (amounts .entry)))) (now (amounts .entry)) r (now (amounts .exit)) ⌝ }
 {
-    if places::is_cut(text) {
+    if ends::is_cut(text) {
         return places::cut_text(text);
     }
     if text.len() == 0 {
@@ -150,7 +150,7 @@ pub fn table(text: &[u8], amounts: &mut [u32], answer: &mut [u64; 4]) -> u32
     ensures { λ r. ⌜ now (answer .exit) ≡ wordsTold (tableOf (now (text .entry)) (length (now (amounts .entry))) .answer) ⌝ }
     ensures { λ r. ⌜ now (amounts .exit) ≡ over (tableOf (now (text .entry)) (length (now (amounts .entry))) .numbers) (now (amounts .entry)) ⌝ }
 {
-    let start = places::mark_length(text);
+    let start = ends::mark_length(text);
     let read = read_table(&text[start..], amounts);
-    places::tell(read, answer)
+    tell_text::tell_text(read, answer)
 }

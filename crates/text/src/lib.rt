@@ -282,7 +282,7 @@ fn tell_parsed(text: &[u8], parsed: Parsed) -> Read
 fn read_numbers(text: &[u8], numbers: &mut [u32]) -> Read
     ensures { λ r. ⌜ ReadTo (numbersIn (now (text .entry)) (length (now (numbers .entry)))) (now (numbers .entry)) r (now (numbers .exit)) ⌝ }
 {
-    if places::is_cut(text) {
+    if ends::is_cut(text) {
         return places::cut_text(text);
     }
     let parsed = parse(Parting::Free, text, 0, numbers.len(), numbers);
@@ -295,7 +295,7 @@ pub fn numbers(text: &[u8], numbers: &mut [u32], answer: &mut [u64; 4]) -> u32
     ensures { λ r. ⌜ now (answer .exit) ≡ wordsTold (numbersOf (now (text .entry)) (length (now (numbers .entry))) .answer) ⌝ }
     ensures { λ r. ⌜ now (numbers .exit) ≡ over (numbersOf (now (text .entry)) (length (now (numbers .entry))) .numbers) (now (numbers .entry)) ⌝ }
 {
-    let start = places::mark_length(text);
+    let start = ends::mark_length(text);
     let read = read_numbers(&text[start..], numbers);
-    places::tell(read, answer)
+    tell_text::tell_text(read, answer)
 }

@@ -13,4 +13,4 @@ table-spec =
     (λ c. search needs) (λ c κs. search needs) (λ c κs. search needs) (λ c. search needs)
     (λ c.
     let k = c .before .before .before .before in
-    body-told tableIn _ _ _ _ _ _ _ _ (k .before .before .before .mark-length .ensures) (k .read-table .ensures) (c .tell .ensures)))
+    body-told tableIn _ _ _ _ _ _ _ _ (k .before .before .before .mark-length .ensures) (k .read-table .ensures) (c .tell-text .ensures)))

@@ -13,4 +13,4 @@ numbers-spec =
     (λ c. search needs) (λ c κs. search needs) (λ c κs. search needs) (λ c. search needs)
     (λ c.
     let k = c .before .before .before .before in
-    body-told numbersIn _ _ _ _ _ _ _ _ (k .before .before .before .mark-length .ensures) (k .read-numbers .ensures) (c .tell .ensures)))
+    body-told numbersIn _ _ _ _ _ _ _ _ (k .before .before .before .mark-length .ensures) (k .read-numbers .ensures) (c .tell-text .ensures)))

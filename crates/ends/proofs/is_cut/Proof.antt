@@ -1,10 +1,10 @@
 -- Each return is one case of the tests.
 use borrow.Author.Needs.{needs}
 use Rattle.chain.specs.Tests.{_≠?_}
 use Rattle.places.specs.Places.{isCut}
 use Rattle.decimal.proofs.Choices.{choosing}
-use Rattle.places.proofs.is_cut.Statement.{statement}
-use Rattle.places.proofs.is_cut.Tie as tie
+use Rattle.ends.proofs.is_cut.Statement.{statement}
+use Rattle.ends.proofs.is_cut.Tie as tie
 
 returns : tie.Need-returns
 unfolding isCut

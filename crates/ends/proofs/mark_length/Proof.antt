@@ -1,10 +1,10 @@
 -- Each return is one test of the definition, decided.
 use borrow.Author.Needs.{needs}
 use Rattle.places.proofs.Marks.{mark-short}
 use Rattle.places.specs.Places.{markLength}
 use Rattle.decimal.proofs.Choices.{choosing}
-use Rattle.places.proofs.mark_length.Statement.{statement}
-use Rattle.places.proofs.mark_length.Tie as tie
+use Rattle.ends.proofs.mark_length.Statement.{statement}
+use Rattle.ends.proofs.mark_length.Tie as tie
 
 returns : tie.Need-returns
 returns c = search mark-short

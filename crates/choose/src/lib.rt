@@ -1,10 +1,10 @@
-// The choice between two files.
+// The choice between two files, by number.
 ghost use mathlib.Core.Path.{_≡_};
 ghost use Prim.Native.Nat.{_/_};
 ghost use lib.ListN.{length};
 ghost use Rattle.chain.specs.Judgement as judgement;
 ghost use Rattle.answers.specs.Answers.{choiceOf};
-ghost use Rattle.choose.specs.Choose.{better, chooseRule, choice, Handed};
+ghost use Rattle.choose.specs.Choose.{better, chooseRule, choice};
 ghost use Rattle.choose.specs.Answers.{verdictOf, countOf};
 ghost use Rattle.choose.specs.Inner.{Enough, FileJudged};
 use answers::Chosen;
@@ -68,7 +68,7 @@ fn better(x: Judged, y: Judged) -> Chosen
 }
 
 // Whether the file in the lent bytes reads and makes the sheet. The lent slices are large enough for any file.
-pub fn judge_file(
+fn judge_file(
     p: usize,
     q: usize,
     amounts: &[u32],
@@ -121,37 +121,6 @@ pub fn decide(
             let x = judge_file(p, q, amounts, a, steps, outputs, numbers);
             let y = judge_file(p, q, amounts, b, steps, outputs, numbers);
             better(x, y)
-        }
-    }
-}
-
-// The better of two files that make the sheet, the shorter chain first and else the first file: that very slice, with number and place 0. Where neither
-// will do, an empty part, and the first file's refusal by number and place.
-pub fn choose<'a>(
-    p: usize,
-    q: usize,
-    amounts: &[u32],
-    a: &'a [u8],
-    b: &'a [u8],
-    steps: &mut [u32],
-    outputs: &mut [u32],
-    numbers: &mut [u32],
-    number: &mut u32,
-    place: &mut usize,
-) -> &'a [u8]
-    ensures { λ r. ⌜ Handed (choice p q (now (amounts .entry)) (now (a .entry)) (now (b .entry))
-        (length (now (steps .entry)) / 2) (length (now (outputs .entry))) (length (now (numbers .entry)))) (a .entry)
-        (b .entry) r (now (number .exit)) (now (place .exit)) ⌝ }
-{
-    *number = 0;
-    *place = 0;
-    match decide(p, q, amounts, a, b, steps, outputs, numbers) {
-        Chosen::First => a,
-        Chosen::Second => b,
-        Chosen::Neither(k, s) => {
-            *number = k;
-            *place = s;
-            &a[..0]
         }
     }
 }

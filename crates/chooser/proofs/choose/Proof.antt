@@ -4,11 +4,11 @@ use mathlib.Core.Path.{_≡_, refl, sym, ap, _∙_}
 use Prim.Native.Nat.{_/_}
 use lib.ListN.{length}
 use denote.Ref.{now}
 use Rattle.choose.specs.Choose.{choice}
 use Rattle.answers.specs.Answers.{choiceOf}
 use Rattle.choose.proofs.Choices.{handed}
-use Rattle.choose.proofs.choose.Statement.{statement}
-use Rattle.choose.proofs.choose.Tie as tie
+use Rattle.chooser.proofs.choose.Statement.{statement}
+use Rattle.chooser.proofs.choose.Tie as tie
 
 -- the choice that was found
 chosen : (c : tie.After-decide)

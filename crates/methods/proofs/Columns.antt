@@ -7,10 +7,13 @@ use native.Mathlib.Omega.{arith}
 use lib.ListN.{length, getD}
 use Rattle.chain.specs.declared.Step.{Step}
 use Rattle.chain.proofs.Rules.{eq-yes, eq-no}
-use Rattle.digits.specs.Range.{maxTo}
+use Rattle.chain.specs.Written.{over}
+use Rattle.digits.specs.Range.{maxTo, listTo}
 use Rattle.sheet.specs.Sheet.{amount}
 use Rattle.products.specs.Product.{made, squared}
 use Rattle.methods.specs.Powers.{largestIn, countsOf, squarings, powerAt}
+use Rattle.methods.specs.Inner.{Largest}
+use Rattle.methods.proofs.Filling.{fill-end, filled-at}
 use Rattle.products.specs.Inner.{stepsIn, StepsRoom, StepsStored, Emitted}
 use Rattle.products.proofs.Sound.{Begins, begins-rise}
 use Rattle.products.proofs.Product.{squared-begins}
@@ -35,6 +38,12 @@ module _ (p : ℕ) (amounts : List ℕ) (c : ℕ) where
   column-end q i most h g e = let last : q ≡ i = omega arith in rw last e
 
 pub ruleset finding-largest = (column-start, column-on, column-end)
+
+-- filled column by column, cells hold the largest amount of each
+pub all-largest : (p q : ℕ) (amounts old cells : List ℕ) (c : ℕ) → c ≤ p → p ≤ c → p ≤ length cells → cells ≡ over (listTo c (largestIn p q amounts)) old
+    → Largest p q amounts cells
+all-largest p q amounts old cells c h g room e =
+    record { there = room; are = filled-at (largestIn p q amounts) old p cells (fill-end (largestIn p q amounts) old p c cells h g e) }
 
 -- the number of a power: the base itself, or one of the values made
 module _ (c first j : ℕ) where

@@ -1,14 +1,15 @@
-// What the methods share: the largest amount of a column, and the powers of the bases.
+// What the methods share: the largest amount of each column, and the powers of the bases.
 ghost use mathlib.Core.Path.{_≡_};
 ghost use Prim.Native.Nat.{_+_, _*_, _^_, _≤_, _<_};
 ghost use lib.ListN.{length};
 ghost use Rattle.chain.specs.Chain.{mostColumns};
 ghost use Rattle.products.specs.Inner.{StepsRoom, StepsStored};
 ghost use Rattle.methods.specs.Powers.{largestIn, countsOf, squarings, powerAt};
+ghost use Rattle.methods.specs.Inner.{Largest};
 use products::PartialProduct;
 
 // The largest amount of column c over all payslips.
-pub fn largest_in(p: usize, q: usize, amounts: &[u32], c: usize) -> u32
+fn largest_in(p: usize, q: usize, amounts: &[u32], c: usize) -> u32
     requires { ⌜ (c < p) × (length (now amounts) ≡ p * q) ⌝ }
     ensures { λ r. ⌜ r ≡ largestIn p q (now (amounts .entry)) c ⌝ }
 {
@@ -19,6 +20,18 @@ pub fn largest_in(p: usize, q: usize, amounts: &[u32], c: usize) -> u32
         i += 1;
     }
     most
+}
+
+// The largest amount of each column into its cell: the one pass over the amounts before a method counts and emits.
+pub fn measure_columns(p: usize, q: usize, amounts: &[u32], cells: &mut [u32])
+    requires { ⌜ (p ≤ length (now cells)) × (length (now amounts) ≡ p * q) ⌝ }
+    ensures { λ r. ⌜ Largest p q (now (amounts .entry)) (now (cells .exit)) ⌝ }
+{
+    let mut c: usize = 0;
+    while c < p {
+        cells[c] = largest_in(p, q, amounts, c);
+        c += 1;
+    }
 }
 
 // The value number of the base of column c after j squarings, which are made after value first.

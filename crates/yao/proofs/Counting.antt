@@ -14,14 +14,8 @@ use Rattle.digits.proofs.Count.{count-high}
 use Rattle.digits.proofs.Range.{sum-on, max-on, sign-low, signs-low, max-low}
 use Rattle.digits.proofs.Vector.{digit-low}
 use Rattle.sheet.specs.Sheet.{amount}
-use Rattle.methods.specs.Powers.{largestIn}
 use Rattle.yao.specs.Yao.{yaoDigits, yaoSquarings, amountCount, yaoPayslipCount, yaoCount, yaoMost}
 use Rattle.yao.specs.Inner.{squaringsMost, amountMost}
-
--- the digits of a column
-pub digits-are : (p q : ℕ) (amounts : List ℕ) (k c x r : ℕ) → x ≡ largestIn p q amounts c → r ≡ digitCount k x → r ≡ yaoDigits p q amounts k c
-unfolding yaoDigits
-digits-are p q amounts k c x r e f = f ∙ ap (digitCount k) e
 
 -- a number of 32 bits has no digit that begins past them
 pub digits-few : (k x r : ℕ) → 0 < k → x < 2 ^ 32 → r ≡ digitCount k x → k * r ≤ 31 + k

@@ -8,13 +8,15 @@ use native.Mathlib.Omega.{arith}
 use lib.ListN.{length, getD, set, length-set}
 use lib.Seq.{getD-set-same, getD-set-other}
 use Rattle.chain.specs.Chain.{mostColumns}
+use Rattle.digits.specs.Digits.{digitCount}
 use Rattle.digits.specs.Range.{sumTo, listTo}
 use Rattle.digits.proofs.Range.{sum-same, sum-on}
 use Rattle.digits.proofs.Listed.{length-list, getD-list}
 use Rattle.methods.specs.Powers.{countsOf, squarings}
+use Rattle.methods.specs.Inner.{Largest}
 use Rattle.methods.proofs.Columns.{squarings-same}
 use Rattle.yao.specs.Yao.{yaoDigits, yaoSquarings}
-use Rattle.yao.specs.Inner.{DigitsFew, Measured, squaringsIn}
+use Rattle.yao.specs.Inner.{DigitsFew, DigitsOf, Measured, squaringsIn}
 use Rattle.yao.proofs.Counting.{squarings-few}
 
 -- a column's digits are few
@@ -22,19 +24,19 @@ pub digits-word : (k d : ℕ) → 0 < k → k * d ≤ 31 + k → d < 64
 digits-word k d some room = omega (arith, squarings-few k d room, mul-le-mul-left (d - 1) some, mul-one (d - 1))
 
 -- measured one after the other
-module _ (p q : ℕ) (amounts : List ℕ) (k : ℕ) (cells : List ℕ) where
-  pub measured-none : Measured p q amounts k 0 cells
-  measured-none = record { narrow = record { there = omega arith; few = λ c h. absurd (omega arith) }; are = λ c h. absurd (omega arith) }
+module _ (k : ℕ) (numbers cells : List ℕ) where
+  pub digits-none : DigitsOf k 0 numbers cells
+  digits-none = record { narrow = record { there = omega arith; few = λ c h. absurd (omega arith) }; are = λ c h. absurd (omega arith) }
 
-  pub measured-on : (c d : ℕ) → Measured p q amounts k c cells → c < length cells → d ≡ yaoDigits p q amounts k c → k * d ≤ 31 + k
-      → Measured p q amounts k (c + 1) (set cells c d)
-  measured-on c d m there is low =
+  pub digits-on : (c d : ℕ) → DigitsOf k c numbers cells → c < length cells → d ≡ digitCount k (getD numbers c 0) → k * d ≤ 31 + k
+      → DigitsOf k (c + 1) numbers (set cells c d)
+  digits-on c d m there is low =
       record {
         narrow = record { there = omega (arith, length-set cells c d); few = λ b h. each-few b (decLt b c) h };
         are = λ b h. each-is b (decLt b c) h;
       }
     where
-      each-is : (b : ℕ) → Dec (b < c) → b < c + 1 → getD (set cells c d) b 0 ≡ yaoDigits p q amounts k b
+      each-is : (b : ℕ) → Dec (b < c) → b < c + 1 → getD (set cells c d) b 0 ≡ digitCount k (getD numbers b 0)
       each-is b (yes lt) h = getD-set-other cells c b d 0 (omega arith) ∙ m .are b lt
       each-is b (no ge) h =
           let last : b ≡ c = omega arith in
@@ -46,10 +48,15 @@ module _ (p q : ℕ) (amounts : List ℕ) (k : ℕ) (cells : List ℕ) where
           let last : b ≡ c = omega arith in
           rw (last, getD-set-same cells c d 0 there) low
 
-  pub measured-end : (c : ℕ) → c ≤ p → p ≤ c → Measured p q amounts k c cells → Measured p q amounts k p cells
-  measured-end c h g m =
+  pub digits-end : (p c : ℕ) → c ≤ p → p ≤ c → DigitsOf k c numbers cells → DigitsOf k p numbers cells
+  digits-end p c h g m =
       let last : c ≡ p = omega arith in
-      subst (λ (n : ℕ). Measured p q amounts k n cells) last m
+      subst (λ (n : ℕ). DigitsOf k n numbers cells) last m
+
+  -- the digits of the largest amounts are the columns'
+  pub columns-measured : (p q : ℕ) (amounts : List ℕ) → Largest p q amounts numbers → DigitsOf k p numbers cells → Measured p q amounts k cells
+  unfolding yaoDigits
+  columns-measured p q amounts l m = record { narrow = m .narrow; are = λ c h. m .are c h ∙ ap (digitCount k) (l .are c h) }
 
 -- read again
 pub column-few : (k n : ℕ) (cells : List ℕ) (c : ℕ) → DigitsFew k n cells → c < n → k * getD cells c 0 ≤ 31 + k
@@ -65,7 +72,7 @@ module _ (k : ℕ) (cells : List ℕ) where
       let last : c ≡ p = omega arith in
       e ∙ ap (λ (m : ℕ). sumTo m (squaringsIn k cells)) last
 
-module _ (p q : ℕ) (amounts : List ℕ) (k : ℕ) (cells : List ℕ) (m : Measured p q amounts k p cells) where
+module _ (p q : ℕ) (amounts : List ℕ) (k : ℕ) (cells : List ℕ) (m : Measured p q amounts k cells) where
   pub column-is : (c : ℕ) → c < p → getD cells c 0 ≡ yaoDigits p q amounts k c
   column-is = m .are
 

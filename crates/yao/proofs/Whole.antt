@@ -16,7 +16,7 @@ use Rattle.yao.proofs.Measuring.{squared-as}
 use Rattle.yao.proofs.Paying.{slip-begins}
 use Rattle.yao.proofs.Yao.{yao-count}
 
-module _ {p q : ℕ} {amounts : List ℕ} {k : ℕ} (asked : Asked yaoMost p q amounts k) {cells : List ℕ} (measured : Measured p q amounts k p cells) {counts : List ℕ}
+module _ {p q : ℕ} {amounts : List ℕ} {k : ℕ} (asked : Asked yaoMost p q amounts k) {cells : List ℕ} (measured : Measured p q amounts k cells) {counts : List ℕ}
     (is : counts ≡ listTo p (squaringsIn k cells)) where
   abbrev Squared : List Step
   Squared = squarings p (countsOf counts) (length counts)

@@ -5,6 +5,7 @@ use Prim.Native.Nat.{ℕ, _+_, _-_, _*_, _^_, _≤_, _<_}
 use lib.ListN.{length, getD}
 use Rattle.chain.specs.Chain.{mostColumns}
 use Rattle.chain.specs.declared.Step.{Step}
+use Rattle.digits.specs.Digits.{digitCount}
 use Rattle.products.specs.Product.{Made, made, times}
 use Rattle.products.specs.Inner.{StepsStored}
 use Rattle.methods.specs.Powers.{powerAt}
@@ -46,9 +47,15 @@ pub record DigitsFew (k n : ℕ) (cells : List ℕ) : Type 0 where
   pub there : n ≤ length cells
   pub few : (c : ℕ) → c < n → k * getD cells c 0 ≤ 31 + k
 
-pub record Measured (p q : ℕ) (amounts : List ℕ) (k n : ℕ) (cells : List ℕ) : Type 0 where
+-- they are the digits of these numbers
+pub record DigitsOf (k n : ℕ) (numbers cells : List ℕ) : Type 0 where
   pub narrow : DigitsFew k n cells
-  pub are : (c : ℕ) → c < n → getD cells c 0 ≡ yaoDigits p q amounts k c
+  pub are : (c : ℕ) → c < n → getD cells c 0 ≡ digitCount k (getD numbers c 0)
+
+-- they are those of a sheet's columns
+pub record Measured (p q : ℕ) (amounts : List ℕ) (k : ℕ) (cells : List ℕ) : Type 0 where
+  pub narrow : DigitsFew k p cells
+  pub are : (c : ℕ) → c < p → getD cells c 0 ≡ yaoDigits p q amounts k c
 
 -- how often column c is squared, by such cells
 abbrev pub squaringsIn : ℕ → List ℕ → ℕ → ℕ

@@ -7,9 +7,9 @@ ghost use Rattle.chain.specs.Written.{over};
 ghost use Rattle.digits.specs.Range.{sumTo, listTo};
 ghost use Rattle.products.specs.Product.{payslips};
 ghost use Rattle.products.specs.Inner.{stepsIn, productIn, StepsRoom, Emitted};
-ghost use Rattle.methods.specs.Inner.{Asked, ChainRoom, ChainStored};
-ghost use Rattle.yao.specs.Yao.{yaoDigits, gatherOne, yaoPayslip, yao, amountCount, yaoPayslipCount, yaoCount, yaoMost};
-ghost use Rattle.yao.specs.Inner.{Reach, gatherIn, sweepIn, joined, SweepEmitted, DigitsFew, Measured, squaringsIn, yaoSlip};
+ghost use Rattle.methods.specs.Inner.{Asked, Largest, ChainRoom, ChainStored};
+ghost use Rattle.yao.specs.Yao.{gatherOne, yaoPayslip, yao, amountCount, yaoPayslipCount, yaoCount, yaoMost};
+ghost use Rattle.yao.specs.Inner.{Reach, gatherIn, sweepIn, joined, SweepEmitted, DigitsFew, DigitsOf, Measured, squaringsIn, yaoSlip};
 ghost use Rattle.yao.specs.Inner.{squaringsMost, amountMost, yaoPayslipMost};
 use products::PartialProduct;
 
@@ -107,22 +107,14 @@ fn sweep_column(column: Column, n: usize, steps: &mut [u32]) -> Pair
     s
 }
 
-// How many digits the largest amount of column c has.
-fn column_digits(p: usize, q: usize, amounts: &[u32], k: usize, c: usize) -> usize
-    requires { ⌜ (c < p) × (length (now amounts) ≡ p * q) × (0 < k) × (k < 32) ⌝ }
-    ensures { λ r. ⌜ (r ≡ yaoDigits p q (now (amounts .entry)) k c) × (k * r ≤ 31 + k) ⌝ }
-{
-    digits::digit_count(k, methods::largest_in(p, q, amounts, c))
-}
-
-// How many digits each column has: the one pass over the amounts before the payslips.
-fn measure_columns(p: usize, q: usize, amounts: &[u32], k: usize, columns: &mut [u32])
-    requires { ⌜ Asked yaoMost p q (now amounts) k × (p ≤ length (now columns)) ⌝ }
-    ensures { λ r. ⌜ Measured p q (now (amounts .entry)) k p (now (columns .exit)) ⌝ }
+// How many digits each column has, by its largest amount.
+fn measure_digits(p: usize, k: usize, largest: &[u32], columns: &mut [u32])
+    requires { ⌜ (0 < k) × (k ≤ yaoMost) × (p ≤ length (now largest)) × (p ≤ length (now columns)) ⌝ }
+    ensures { λ r. ⌜ DigitsOf k p (now (largest .entry)) (now (columns .exit)) ⌝ }
 {
     let mut c: usize = 0;
     while c < p {
-        columns[c] = column_digits(p, q, amounts, k, c) as u32;
+        columns[c] = digits::digit_count(k, largest[c]) as u32;
         c += 1;
     }
 }
@@ -175,7 +167,7 @@ fn amount_count(k: usize, digits: usize, x: u32) -> usize
 
 // The steps of payslip i.
 fn payslip_count(p: usize, q: usize, amounts: &[u32], k: usize, columns: &[u32], i: usize) -> usize
-    requires { ⌜ Asked yaoMost p q (now amounts) k × (i < q) × Measured p q (now amounts) k p (now columns) ⌝ }
+    requires { ⌜ Asked yaoMost p q (now amounts) k × (i < q) × Measured p q (now amounts) k (now columns) ⌝ }
     ensures { λ r. ⌜ (r ≡ yaoPayslipCount p q (now (amounts .entry)) k i) × (r ≤ yaoPayslipMost) ⌝ }
 {
     let mut n: usize = 0;
@@ -196,7 +188,7 @@ fn payslip_count(p: usize, q: usize, amounts: &[u32], k: usize, columns: &[u32],
 
 // The squarings, and the steps of the payslips.
 fn chain_count(p: usize, q: usize, amounts: &[u32], k: usize, columns: &[u32]) -> usize
-    requires { ⌜ Asked yaoMost p q (now amounts) k × Measured p q (now amounts) k p (now columns) ⌝ }
+    requires { ⌜ Asked yaoMost p q (now amounts) k × Measured p q (now amounts) k (now columns) ⌝ }
     ensures { λ r. ⌜ r ≡ yaoCount p q (now (amounts .entry)) k ⌝ }
 {
     let mut n = squaring_count(p, k, columns);
@@ -209,12 +201,13 @@ fn chain_count(p: usize, q: usize, amounts: &[u32], k: usize, columns: &[u32]) -
 }
 
 // The number of steps of the chain.
-pub fn count(p: usize, q: usize, amounts: &[u32], k: usize) -> usize
+pub fn count(p: usize, q: usize, amounts: &[u32], k: usize, largest: &[u32]) -> usize
     requires { ⌜ Asked yaoMost p q (now amounts) k ⌝ }
+    requires { ⌜ Largest p q (now amounts) (now largest) ⌝ }
     ensures { λ r. ⌜ r ≡ yaoCount p q (now (amounts .entry)) k ⌝ }
 {
     let mut columns = [0u32; chain::MOST_COLUMNS];
-    measure_columns(p, q, amounts, k, &mut columns);
+    measure_digits(p, k, largest, &mut columns);
     chain_count(p, q, amounts, k, &columns)
 }
 
@@ -254,7 +247,7 @@ fn make_payslip(
     n: usize,
     steps: &mut [u32],
 ) -> PartialProduct
-    requires { ⌜ Asked yaoMost p q (now amounts) k × (i < q) × Measured p q (now amounts) k p (now columns) ⌝ }
+    requires { ⌜ Asked yaoMost p q (now amounts) k × (i < q) × Measured p q (now amounts) k (now columns) ⌝ }
     requires { ⌜ StepsRoom p (now steps) n (yaoPayslip p q (now amounts) k i (stepsIn (now steps) n) p .steps) ⌝ }
     ensures { λ r. ⌜ Emitted (now (steps .entry)) (now (steps .exit)) (r .n) (r .value)
         (yaoPayslip p q (now (amounts .entry)) k i (stepsIn (now (steps .entry)) n) p) ⌝ }
@@ -290,7 +283,7 @@ fn make_payslips(
     steps: &mut [u32],
     outputs: &mut [u32],
 )
-    requires { ⌜ Asked yaoMost p q (now amounts) k × Measured p q (now amounts) k p (now columns) × (q ≤ length (now outputs)) ⌝ }
+    requires { ⌜ Asked yaoMost p q (now amounts) k × Measured p q (now amounts) k (now columns) × (q ≤ length (now outputs)) ⌝ }
     requires { ⌜ StepsRoom p (now steps) n (payslips (yaoSlip p q (now amounts) k) (stepsIn (now steps) n) q .steps) ⌝ }
     ensures { λ r. ⌜ ChainStored (now (steps .entry)) (now (outputs .entry)) (now (steps .exit)) (now (outputs .exit))
         (payslips (yaoSlip p q (now (amounts .entry)) k) (stepsIn (now (steps .entry)) n) q) ⌝ }
@@ -316,7 +309,7 @@ fn make_chain(
     steps: &mut [u32],
     outputs: &mut [u32],
 )
-    requires { ⌜ Asked yaoMost p q (now amounts) k × Measured p q (now amounts) k p (now columns) × (now counts ≡ listTo p (squaringsIn k (now columns))) ⌝ }
+    requires { ⌜ Asked yaoMost p q (now amounts) k × Measured p q (now amounts) k (now columns) × (now counts ≡ listTo p (squaringsIn k (now columns))) ⌝ }
     requires { ⌜ ChainRoom q (yaoCount p q (now amounts) k) (now steps) (now outputs) ⌝ }
     ensures { λ r. ⌜ ChainStored (now (steps .entry)) (now (outputs .entry)) (now (steps .exit)) (now (outputs .exit)) (yao p q (now (amounts .entry)) k) ⌝ }
 {
@@ -325,13 +318,22 @@ fn make_chain(
 }
 
 // The chain: its steps, first and second in turn, and its outputs.
-pub fn emit(p: usize, q: usize, amounts: &[u32], k: usize, steps: &mut [u32], outputs: &mut [u32])
+pub fn emit(
+    p: usize,
+    q: usize,
+    amounts: &[u32],
+    k: usize,
+    largest: &[u32],
+    steps: &mut [u32],
+    outputs: &mut [u32],
+)
     requires { ⌜ Asked yaoMost p q (now amounts) k ⌝ }
+    requires { ⌜ Largest p q (now amounts) (now largest) ⌝ }
     requires { ⌜ ChainRoom q (yaoCount p q (now amounts) k) (now steps) (now outputs) ⌝ }
     ensures { λ r. ⌜ ChainStored (now (steps .entry)) (now (outputs .entry)) (now (steps .exit)) (now (outputs .exit)) (yao p q (now (amounts .entry)) k) ⌝ }
 {
     let mut columns = [0u32; chain::MOST_COLUMNS];
-    measure_columns(p, q, amounts, k, &mut columns);
+    measure_digits(p, k, largest, &mut columns);
     let mut counts = [0u32; chain::MOST_COLUMNS];
     all_squarings(p, k, &columns, &mut counts);
     make_chain(p, q, amounts, k, &columns, &counts[..p], steps, outputs);

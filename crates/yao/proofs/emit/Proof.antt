@@ -1,14 +1,15 @@
--- The columns are measured once; the squarings come from what was measured, and their first p cells are the chain's counts.
+-- The columns' digits are those of their largest amounts; the squarings come from them, and their first p cells are the chain's counts.
 use borrow.Author.Needs.{needs}
 use Rattle.methods.proofs.Filling.{filled-front, filled-length}
+use Rattle.yao.proofs.Measuring.{columns-measured}
 use Rattle.yao.proofs.emit.Statement.{statement}
 use Rattle.yao.proofs.emit.Tie as tie
 
-slice-aggregate-measure-columns : tie.Need-slice-aggregate-measure-columns
-slice-aggregate-measure-columns c = search needs
+slice-aggregate-measure-digits : tie.Need-slice-aggregate-measure-digits
+slice-aggregate-measure-digits c = search needs
 
-measure-columns-requires : tie.Need-measure-columns-requires
-measure-columns-requires c κs = search needs
+measure-digits-requires : tie.Need-measure-digits-requires
+measure-digits-requires c κs = search needs
 
 slice-aggregate-all-squarings : tie.Need-slice-aggregate-all-squarings
 slice-aggregate-all-squarings c = search needs
@@ -31,8 +32,11 @@ slice-aggregate-make-chain-2 c = filled-length _ _ _ _ (c .before .before .befor
 make-chain-requires : tie.Need-make-chain-requires
 make-chain-requires c κs =
     let squared = c .before .before .before .before .before in
-    let s = squared .before .before .before .before .before .before .before .before .before in
-    ((search needs, search needs, filled-front _ _ (s .args .p) _ (squared .all-squarings .ensures)), search needs)
+    let told = squared .before .before .before .before in
+    let s = told .before .before .before .before .before .before in (
+      (s .pre .0, columns-measured _ _ _ _ _ _ (s .pre .1 .0) (told .measure-digits .ensures), filled-front _ _ (s .args .p) _ (squared .all-squarings .ensures)),
+      search needs,
+    )
 
 same-length : tie.Need-same-length
 same-length c = search needs
@@ -47,8 +51,8 @@ pub emit-spec : {M : Type 1} → statement M
 emit-spec =
     tie.close
     (tie.spec
-    slice-aggregate-measure-columns
-    measure-columns-requires
+    slice-aggregate-measure-digits
+    measure-digits-requires
     slice-aggregate-all-squarings
     slice-aggregate-all-squarings-2
     all-squarings-requires

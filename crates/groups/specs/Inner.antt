@@ -5,7 +5,7 @@ use Prim.Native.Nat.{ℕ, _+_, _-_, _*_, _/_, _^_, _≤_, _<_}
 use lib.ListN.{length, getD}
 use Rattle.chain.specs.Chain.{mostColumns, mostSteps}
 use Rattle.chain.specs.Written.{over, laid}
-use Rattle.digits.specs.Digits.{digit}
+use Rattle.digits.specs.Digits.{bitLength, digit}
 use Rattle.digits.specs.Range.{sumTo, listTo}
 use Rattle.products.specs.Inner.{stepsIn, StepsRoom, StepsStored}
 use Rattle.methods.specs.Inner.{SheetSized}
@@ -20,6 +20,10 @@ use Rattle.groups.specs.Groups.{selection, squaringCount, weigh}
 pub record Bounded (r x most : ℕ) : Type 0 where
   pub is : r ≡ x
   pub low : r ≤ most
+
+-- the bits of one of some numbers
+abbrev pub bitsAt : List ℕ → ℕ → ℕ
+bitsAt numbers col = bitLength (getD numbers col 0)
 
 -- the bits of columns less some each, as far as they go
 abbrev pub bitsLess : List ℕ → ℕ → ℕ → ℕ
@@ -46,6 +50,16 @@ pub record Cuts (s : Grouping) : Type 0 where
   pub inputs-few : s .inputs ≤ mostInputs
   pub groups-few : s .groups ≤ mostInputs
   pub squarings-few : s .squarings ≤ mostInputs
+
+-- they are those of columns with these largest amounts and bits
+pub record GroupedBy (p q c : ℕ) (largest bits : List ℕ) (s : Grouping) : Type 0 where
+  pub cuts : Cuts s
+  pub bits-are : bits ≡ listTo p (bitsAt largest)
+  pub inputs-are : s .inputs ≡ sumTo (length bits) (bitsLess bits 0)
+  pub squarings-are : s .squarings ≡ sumTo (length bits) (bitsLess bits 1)
+  pub same-p : s .p ≡ p
+  pub same-q : s .q ≡ q
+  pub same-c : s .c ≡ c
 
 -- they are those of a sheet, whose columns have these bits
 pub record Grouped (s : Grouping) (amounts bits : List ℕ) : Type 0 where

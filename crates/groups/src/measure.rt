@@ -1,30 +1,22 @@
 // The columns' bits, and what they add up to.
 use crate::Grouping;
 ghost use mathlib.Core.Path.{_≡_};
-ghost use Prim.Native.Nat.{_*_, _≤_, _<_};
+ghost use Prim.Native.Nat.{_≤_};
 ghost use lib.ListN.{length, take};
+ghost use Rattle.chain.specs.Chain.{mostColumns};
 ghost use Rattle.chain.specs.Written.{over};
 ghost use Rattle.digits.specs.Range.{sumTo, listTo};
-ghost use Rattle.methods.specs.Inner.{Asked};
-ghost use Rattle.groups.specs.Groups.{columnBits, groupCount, mostInputs, mostMembers};
-ghost use Rattle.groups.specs.Inner.{Bounded, GroupedFor, Narrow, bitsLess};
+ghost use Rattle.groups.specs.Groups.{groupCount, mostInputs, mostMembers};
+ghost use Rattle.groups.specs.Inner.{Bounded, GroupedBy, Narrow, bitsAt, bitsLess};
 
-// The bits of the largest amount of column col.
-fn column_bits(p: usize, q: usize, amounts: &[u32], col: usize) -> usize
-    requires { ⌜ (col < p) × (length (now amounts) ≡ p * q) ⌝ }
-    ensures { λ r. ⌜ Bounded r (columnBits p q (now (amounts .entry)) col) 32 ⌝ }
-{
-    digits::digit_count(1, methods::largest_in(p, q, amounts, col))
-}
-
-// Each column's bits, one after the other.
-fn measure_columns(p: usize, q: usize, amounts: &[u32], cells: &mut [u32])
-    requires { ⌜ (p ≤ length (now cells)) × (length (now amounts) ≡ p * q) ⌝ }
-    ensures { λ r. ⌜ now (cells .exit) ≡ over (listTo p (columnBits p q (now (amounts .entry)))) (now (cells .entry)) ⌝ }
+// Each column's bits, those of its largest amount, one after the other.
+fn measure_bits(p: usize, largest: &[u32], cells: &mut [u32])
+    requires { ⌜ (p ≤ length (now largest)) × (p ≤ length (now cells)) ⌝ }
+    ensures { λ r. ⌜ now (cells .exit) ≡ over (listTo p (bitsAt (now (largest .entry)))) (now (cells .entry)) ⌝ }
 {
     let mut col: usize = 0;
     while col < p {
-        cells[col] = column_bits(p, q, amounts, col) as u32;
+        cells[col] = digits::digit_count(1, largest[col]) as u32;
         col += 1;
     }
 }
@@ -51,12 +43,12 @@ fn group_count(c: usize, w: usize) -> usize
     (w + c - 1) / c
 }
 
-// The sheet's columns measured into cells, and its inputs in groups.
-pub fn group_sheet(p: usize, q: usize, amounts: &[u32], c: usize, cells: &mut [u32]) -> Grouping
-    requires { ⌜ Asked mostMembers p q (now amounts) c × (p ≤ length (now cells)) ⌝ }
-    ensures { λ r. ⌜ GroupedFor p q (now (amounts .entry)) c (take p (now (cells .exit))) r ⌝ }
+// The columns' bits into cells, by their largest amounts, and the inputs in groups.
+pub fn group_columns(p: usize, q: usize, c: usize, largest: &[u32], cells: &mut [u32]) -> Grouping
+    requires { ⌜ (p ≤ mostColumns) × (1 ≤ c) × (c ≤ mostMembers) × (p ≤ length (now largest)) × (p ≤ length (now cells)) ⌝ }
+    ensures { λ r. ⌜ GroupedBy p q c (now (largest .entry)) (take p (now (cells .exit))) r ⌝ }
 {
-    measure_columns(p, q, amounts, cells);
+    measure_bits(p, largest, cells);
     let w = column_sum(&cells[..p], 0);
     let groups = group_count(c, w);
     let squarings = column_sum(&cells[..p], 1);

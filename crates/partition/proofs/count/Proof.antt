@@ -1,38 +1,45 @@
 -- The count of the grouped sheet, whose columns, payslips and parameter are those given.
 use borrow.Author.Needs.{needs}
 use mathlib.Core.Path.{sym, _∙_}
-use Rattle.groups.proofs.Measured.{grouped-long}
+use Rattle.groups.proofs.Measured.{grouped-long, sheet-grouped}
 use Rattle.partition.proofs.Whole.{count-given}
 use Rattle.partition.proofs.count.Statement.{statement}
 use Rattle.partition.proofs.count.Tie as tie
 
-slice-aggregate-group-sheet : tie.Need-slice-aggregate-group-sheet
-slice-aggregate-group-sheet c = search needs
+slice-aggregate-group-columns : tie.Need-slice-aggregate-group-columns
+slice-aggregate-group-columns c = search needs
 
-group-sheet-requires : tie.Need-group-sheet-requires
-group-sheet-requires c κs = search needs
+group-columns-requires : tie.Need-group-columns-requires
+group-columns-requires c κs = search needs
 
 array-share-prefix-bits : tie.Need-array-share-prefix-bits
 array-share-prefix-bits c = search needs
 
 slice-aggregate-chain-count : tie.Need-slice-aggregate-chain-count
 slice-aggregate-chain-count c =
-    let told = c .before .before .group-sheet .ensures in
+    let g = c .before .before in
+    let s = g .before .before .before .before in
+    let told = sheet-grouped (s .pre .0 .sheet) (s .pre .1) (g .group-columns .ensures) in
     sym (grouped-long (told .grouped) ∙ told .same-p)
 
 chain-count-requires : tie.Need-chain-count-requires
-chain-count-requires c κs = search needs
+chain-count-requires c κs =
+    let g = c .before .before in
+    let s = g .before .before .before .before in
+    sheet-grouped (s .pre .0 .sheet) (s .pre .1) (g .group-columns .ensures) .grouped
 
 returns : tie.Need-returns
 returns c =
-    count-given (c .before .before .before .group-sheet .ensures) (c .chain-count .ensures)
+    let g = c .before .before .before in
+    let s = g .before .before .before .before in
+    count-given (sheet-grouped (s .pre .0 .sheet) (s .pre .1) (g .group-columns .ensures)) (c .chain-count .ensures)
 
 pub count-spec : {M : Type 1} → statement M
 count-spec =
     tie.close
     (tie.spec
-    slice-aggregate-group-sheet
-    group-sheet-requires
+    slice-aggregate-group-columns
+    group-columns-requires
     array-share-prefix-bits
     slice-aggregate-chain-count
     chain-count-requires

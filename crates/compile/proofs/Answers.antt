@@ -13,7 +13,8 @@ use Rattle.chain.proofs.Rules.{not-fine, told-fine, told-refused, pass, stop, r
 use Rattle.chain.proofs.Told.{verdictIn, told, told-values}
 use Rattle.sheet.specs.Sheet.{sheetRule}
 use Rattle.methods.specs.Inner.{ChainStored}
-use Rattle.compile.specs.Compile.{methodRule, chainOf, count, acceptedRule, compileRule, compileAnswer, compileSteps, compileOutputs}
+use Rattle.parameters.specs.Parameters.{methodRule}
+use Rattle.compile.specs.Compile.{chainOf, count, acceptedRule, compileRule, compileAnswer, compileSteps, compileOutputs}
 use Rattle.answers.specs.Answers.{compiledOf}
 use Rattle.answers.specs.declared.Compiled.{Compiled}
 use Rattle.answers.specs.declared.Compiled.the-variants.{Steps, Refused}

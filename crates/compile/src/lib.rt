@@ -4,38 +4,15 @@ ghost use mathlib.Core.List.{[], _∷_};
 ghost use Prim.Native.Nat.{_*_, _/_, _≤_};
 ghost use lib.ListN.{length};
 ghost use Rattle.chain.specs.Chain.{mostColumns};
-ghost use Rattle.chain.specs.Judgement.{verdictOf};
 ghost use Rattle.chain.specs.Verdict.{fine, answer};
 ghost use Rattle.sheet.specs.Sheet.{sheetRule};
 ghost use Rattle.methods.specs.Inner.{ChainStored};
-ghost use Rattle.compile.specs.Compile.{methodRule, chainOf, count, acceptedRule, compileAnswer, compileSteps, compileOutputs};
+ghost use Rattle.parameters.specs.Parameters.{methodRule};
+ghost use Rattle.compile.specs.Compile.{chainOf, count, acceptedRule, compileAnswer, compileSteps, compileOutputs};
 ghost use Rattle.compile.specs.Inner.{MeasuredFor};
 ghost use Rattle.answers.specs.Answers.{compiledOf};
 use answers::Compiled;
 use chain::Judgement;
-
-// 3: the number of a method, and its own range of parameters.
-fn judge_method(p: usize, method: usize, k: usize) -> Judgement
-    requires { ⌜ p ≤ mostColumns ⌝ }
-    ensures { λ r. ⌜ verdictOf r ≡ methodRule p method k ⌝ }
-{
-    match method {
-        1 => match k {
-            1..=5 => {
-                if 10 < p * k {
-                    return Judgement::Refused(3, 0);
-                }
-                Judgement::Fine
-            }
-            _ => Judgement::Refused(3, 0),
-        },
-        2 | 3 => match k {
-            1..=8 => Judgement::Fine,
-            _ => Judgement::Refused(3, 0),
-        },
-        _ => Judgement::Refused(3, 0),
-    }
-}
 
 // The largest amount of each column, for the methods that go by it: all but Straus.
 fn measure(p: usize, q: usize, amounts: &[u32], method: usize, largest: &mut [u32])
@@ -85,7 +62,7 @@ fn judge_accepted(
         }
         Judgement::Fine => {}
     }
-    match judge_method(p, method, k) {
+    match parameters::judge_method(p, method, k) {
         Judgement::Refused(number, place) => {
             return Compiled::Refused(number, place);
         }

@@ -7,7 +7,8 @@ use Rattle.chain.specs.Verdict.{fine}
 use Rattle.chain.proofs.Rules.{judging, then-fine, told-fine}
 use Rattle.chain.proofs.Sizes.{sizes-fit}
 use Rattle.sheet.specs.Sheet.{sheetRule}
-use Rattle.compile.specs.Compile.{acceptedRule, methodRule}
+use Rattle.parameters.specs.Parameters.{methodRule}
+use Rattle.compile.specs.Compile.{acceptedRule}
 use Rattle.compile.proofs.Answers.{all-accepted, stopped, too-long}
 use Rattle.compile.proofs.Fits.{in-range}
 use Rattle.compile.proofs.judge_accepted.Statement.{statement}

@@ -9,7 +9,7 @@ use Rattle.chain.specs.Verdict.{fine, refused, refuseIf}
 use Rattle.chain.proofs.Rules.{refuse-yes, refuse-no, lt-yes, lt-no, or-left, or-right, or-none, eq-yes, eq-no}
 use Rattle.straus.specs.Straus.{strausMost, strausMostBits}
 use Rattle.yao.specs.Yao.{yaoMost}
-use Rattle.compile.specs.Compile.{outside, methodRule}
+use Rattle.parameters.specs.Parameters.{outside, methodRule}
 
 module _ (p method k : ℕ) where
   pub is-one : method ≡ 1 → methodRule p method k ≡ refuseIf (outside 1 strausMost k or strausMostBits <? p * k) 3 0

@@ -1,9 +1,9 @@
 -- Each return is an arm of the match, whose numbers choose the line of the rule.
 use native.Mathlib.Nat.{mul-le-mul-right}
 use native.Mathlib.Omega.{arith}
-use Rattle.compile.proofs.Method.{first-fits, first-low, first-high, first-wide, second-fits, second-low, second-high, below-all, above-all}
-use Rattle.compile.proofs.judge_method.Statement.{statement}
-use Rattle.compile.proofs.judge_method.Tie as tie
+use Rattle.parameters.proofs.Method.{first-fits, first-low, first-high, first-wide, second-fits, second-low, second-high, below-all, above-all}
+use Rattle.parameters.proofs.judge_method.Statement.{statement}
+use Rattle.parameters.proofs.judge_method.Tie as tie
 
 mul-if3 : tie.Need-mul-if3
 mul-if3 c = let s = c .before .before .before in omega (arith, mul-le-mul-right (s .args .k) (s .pre))

@@ -4,8 +4,7 @@ use mathlib.Core.Path.{_≡_}
 use Prim.Native.Nat.{_+_, _*_, _≤_, _-_}
 use lib.ListN.{length, length-set}
 use Rattle.yao.specs.Inner.{DigitsOf}
-use Rattle.yao.proofs.Counting.{digits-few}
-use Rattle.yao.proofs.Measuring.{digits-word, digits-none, digits-on, digits-end}
+use Rattle.yao.proofs.Measuring.{digits-few, digits-word, digits-none, digits-on, digits-end}
 use Rattle.yao.proofs.measure_digits.Statement.{statement}
 use Rattle.yao.proofs.measure_digits.Tie as tie
 

@@ -39,7 +39,7 @@ fn step_count(
     match method {
         1 => straus::count(p, q, amounts, k),
         2 => yao_count::count(p, q, amounts, k, largest),
-        _ => partition::count(p, q, amounts, k, largest),
+        _ => partition_count::count(p, q, amounts, k, largest),
     }
 }
 
@@ -95,7 +95,7 @@ fn emit(
     match method {
         1 => straus::emit(p, q, amounts, k, steps, outputs),
         2 => yao_emit::emit(p, q, amounts, k, largest, steps, outputs),
-        _ => partition::emit(p, q, amounts, k, largest, steps, outputs),
+        _ => partition_emit::emit(p, q, amounts, k, largest, steps, outputs),
     }
 }
 

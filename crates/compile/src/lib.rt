@@ -37,7 +37,7 @@ fn step_count(
     ensures { λ r. ⌜ r ≡ count p q (now (amounts .entry)) method k ⌝ }
 {
     match method {
-        1 => straus::count(p, q, amounts, k),
+        1 => straus_count::count(p, q, amounts, k),
         2 => yao_count::count(p, q, amounts, k, largest),
         _ => partition_count::count(p, q, amounts, k, largest),
     }
@@ -93,7 +93,7 @@ fn emit(
         (chainOf p q (now (amounts .entry)) method k) ⌝ }
 {
     match method {
-        1 => straus::emit(p, q, amounts, k, steps, outputs),
+        1 => straus_emit::emit(p, q, amounts, k, steps, outputs),
         2 => yao_emit::emit(p, q, amounts, k, largest, steps, outputs),
         _ => partition_emit::emit(p, q, amounts, k, largest, steps, outputs),
     }

@@ -21,7 +21,7 @@ use Rattle.groups.proofs.Measured.{grouped-count, numbers-long}
 use Rattle.groups.proofs.Members.{members-count, selection-two}
 use Rattle.groups.proofs.Parts.{part-number}
 use Rattle.groups.proofs.Prepared.{selection-long}
-use Rattle.subsets.proofs.Tabling.{table-place}
+use Rattle.subsets.proofs.Places.{table-place}
 use Rattle.partition_emit.specs.Inner.{Numbered, Ready, partsBy, payslipOf}
 use Rattle.partition.specs.Partition.{partitionPayslip, parts}
 use Rattle.partition.proofs.Parts.{parts-begin}

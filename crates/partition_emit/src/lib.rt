@@ -89,7 +89,7 @@ fn make_chain(
     ensures { λ r. ⌜ ChainStored (now (steps .entry)) (now (outputs .entry)) (now (steps .exit)) (now (outputs .exit))
         (partition (s .p) (s .q) (now (amounts .entry)) (s .c)) ⌝ }
 {
-    let n = subsets::make_groups(s, bits, members, steps);
+    let n = group_tables::make_groups(s, bits, members, steps);
     let w = s.inputs;
     make_payslips(s, amounts, bits, &members[..w], n, cells, steps, outputs);
 }

@@ -18,7 +18,7 @@ use Rattle.digits.proofs.Listed.{getD-list}
 use Rattle.groups.specs.Inner.{GroupsMade, GroupsRoom, InputsRoom, TablesRoom, bitInputs, bitSquarings, bitTables, bitsLess}
 use Rattle.groups.specs.Inner.{tablesAfter}
 use Rattle.groups.proofs.Inputs.{length-over}
-use Rattle.subsets.proofs.Tabling.{tables-begin}
+use Rattle.group_tables.proofs.Tabling.{tables-begin}
 
 -- how often each column is squared, in the front of cells
 module _ (bits old cells : List ℕ) (e : cells ≡ over (listTo (length bits) (bitsLess bits 1)) old) where

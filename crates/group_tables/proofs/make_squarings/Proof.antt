@@ -1,9 +1,9 @@
 -- The counted squarings are those of the bits; what they make is stored as square_columns promises.
 use borrow.Author.Needs.{needs}
 use native.Mathlib.Omega.{arith}
-use Rattle.subsets.proofs.Making.{counted-long, counted-squarings}
-use Rattle.subsets.proofs.make_squarings.Statement.{statement}
-use Rattle.subsets.proofs.make_squarings.Tie as tie
+use Rattle.group_tables.proofs.Making.{counted-long, counted-squarings}
+use Rattle.group_tables.proofs.make_squarings.Statement.{statement}
+use Rattle.group_tables.proofs.make_squarings.Tie as tie
 
 slice-aggregate-count-squarings : tie.Need-slice-aggregate-count-squarings
 slice-aggregate-count-squarings c = search needs

@@ -1,8 +1,8 @@
 -- The inputs are laid, the squarings stored, and the tables after them, each where the room for all leaves room for it.
 use borrow.Author.Needs.{needs}
-use Rattle.subsets.proofs.Making.{groups-made, inputs-room, listed-long, squares-room, tables-room}
-use Rattle.subsets.proofs.make_groups.Statement.{statement}
-use Rattle.subsets.proofs.make_groups.Tie as tie
+use Rattle.group_tables.proofs.Making.{groups-made, inputs-room, listed-long, squares-room, tables-room}
+use Rattle.group_tables.proofs.make_groups.Statement.{statement}
+use Rattle.group_tables.proofs.make_groups.Tie as tie
 
 number-inputs-requires : tie.Need-number-inputs-requires
 number-inputs-requires c κs =

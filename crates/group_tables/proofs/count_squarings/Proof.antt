@@ -9,8 +9,8 @@ use native.Mathlib.Omega.{arith}
 use Rattle.methods.proofs.Filling.{fill-on, fill-end}
 use Rattle.digits.specs.Range.{listTo}
 use Rattle.groups.specs.Inner.{bitsLess}
-use Rattle.subsets.proofs.count_squarings.Statement.{statement}
-use Rattle.subsets.proofs.count_squarings.Tie as tie
+use Rattle.group_tables.proofs.count_squarings.Statement.{statement}
+use Rattle.group_tables.proofs.count_squarings.Tie as tie
 
 abbrev Inv-loop : tie.InvT-loop
 Inv-loop bits cells₀ col₀ cells col =

@@ -8,9 +8,10 @@ use Rattle.products.proofs.Emitted.{stored-own}
 use native.Mathlib.Omega.{arith}
 use Rattle.groups.specs.Groups.{groupTables}
 use Rattle.groups.proofs.Counting.{group-inside}
-use Rattle.subsets.proofs.Tabling.{ends, ends-few, table-numbers, table-on, table-room, table-small, tables-end}
-use Rattle.subsets.proofs.make_tables.Statement.{statement}
-use Rattle.subsets.proofs.make_tables.Tie as tie
+use Rattle.subsets.proofs.Places.{ends, ends-few}
+use Rattle.group_tables.proofs.Tabling.{table-numbers, table-on, table-room, table-small, tables-end}
+use Rattle.group_tables.proofs.make_tables.Statement.{statement}
+use Rattle.group_tables.proofs.make_tables.Tie as tie
 
 abbrev Inv-loop : tie.InvT-loop
 Inv-loop s members n steps₀ end₀ g₀ steps end g =

@@ -7,8 +7,8 @@ use Rattle.methods.specs.Powers.{powerAt}
 use borrow.Author.Needs.{needs}
 use Rattle.digits.specs.Range.{listTo}
 use Rattle.groups.proofs.Numbering.{fill-start, filled-end, filled-on}
-use Rattle.subsets.proofs.number_column.Statement.{statement}
-use Rattle.subsets.proofs.number_column.Tie as tie
+use Rattle.group_tables.proofs.number_column.Statement.{statement}
+use Rattle.group_tables.proofs.number_column.Tie as tie
 
 abbrev Inv-loop : tie.InvT-loop
 Inv-loop col first n at cells₀ j₀ cells j = (j ≤ n) × (length cells ≡ length cells₀) × (cells ≡ laid at (listTo j (powerAt col first)) cells₀)

@@ -10,8 +10,8 @@ use Rattle.digits.specs.Range.{sumTo}
 use native.Mathlib.Omega.{arith}
 use Rattle.groups.specs.Inner.{bitInputs, bitsLess}
 use Rattle.groups.proofs.Numbering.{column-few, column-on, column-room, first-number, first-on, inputs-end, inputs-on, number-room}
-use Rattle.subsets.proofs.number_inputs.Statement.{statement}
-use Rattle.subsets.proofs.number_inputs.Tie as tie
+use Rattle.group_tables.proofs.number_inputs.Statement.{statement}
+use Rattle.group_tables.proofs.number_inputs.Tie as tie
 
 abbrev Inv-loop : tie.InvT-loop
 Inv-loop bits cells₀ at₀ first₀ col₀ cells at first col =

@@ -33,7 +33,7 @@ fn payslip_count(s: Grouping, amounts: &[u32], bits: &[u32], i: usize, cells: &m
     requires { ⌜ PartsRoom s (now amounts) (now bits) i (now cells) ⌝ }
     ensures { λ r. ⌜ Bounded r (joinCount (s .p) (s .q) (now (amounts .entry)) (s .c) (s .groups) i) mostInputs ⌝ }
 {
-    groups::cut::number_parts(s, amounts, bits, i, cells);
+    cutting::number_parts(s, amounts, bits, i, cells);
     let end = s.groups;
     joins(&cells[..end])
 }
@@ -69,6 +69,6 @@ pub fn count(p: usize, q: usize, amounts: &[u32], c: usize, largest: &[u32]) -> 
     ensures { λ r. ⌜ r ≡ partitionCount p q (now (amounts .entry)) c ⌝ }
 {
     let mut bits = [0u32; chain::MOST_COLUMNS];
-    let s = groups::measure::group_columns(p, q, c, largest, &mut bits);
+    let s = groups::group_columns(p, q, c, largest, &mut bits);
     chain_count(s, amounts, &bits[..p])
 }

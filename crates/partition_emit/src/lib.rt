@@ -45,7 +45,7 @@ fn make_payslip(
     ensures { λ r. ⌜ Emitted (now (steps .entry)) (now (steps .exit)) (r .n) (r .value)
         (payslipOf s (now (amounts .entry)) i (stepsIn (now (steps .entry)) n)) ⌝ }
 {
-    groups::cut::number_parts(s, amounts, bits, i, cells);
+    cutting::number_parts(s, amounts, bits, i, cells);
     let end = s.groups;
     make_parts(s, members, &cells[..end], n, steps)
 }
@@ -111,7 +111,7 @@ pub fn emit(
         (partition p q (now (amounts .entry)) c) ⌝ }
 {
     let mut bits = [0u32; chain::MOST_COLUMNS];
-    let s = groups::measure::group_columns(p, q, c, largest, &mut bits);
+    let s = groups::group_columns(p, q, c, largest, &mut bits);
     let mut members = [0u32; groups::MOST_INPUTS];
     let mut cells = [0u32; groups::MOST_INPUTS];
     make_chain(

@@ -1,12 +1,19 @@
 // A payslip's bits in a row, column after column, cut into the parts of the groups.
-use crate::Grouping;
-use crate::Row;
 ghost use mathlib.Core.Path.{_≡_};
 ghost use Prim.Native.Nat.{_+_, _*_, _%_, _^_, _≤_, _<_};
 ghost use lib.ListN.{length};
 ghost use Rattle.chain.specs.Written.{over};
 ghost use Rattle.groups.specs.Groups.{mostMembers};
-ghost use Rattle.groups.specs.Inner.{Bounded, CutUp, Entered, PartsRoom, partNumbers};
+ghost use Rattle.groups.specs.Inner.{Bounded, PartsRoom, partNumbers};
+ghost use Rattle.cutting.specs.Inner.{CutUp, Entered};
+use groups::Grouping;
+
+// A payslip's bits in a row that are not yet cut into parts: their number, how many they are, and the group of the next part.
+pub struct Row {
+    pub bits: u64,
+    pub held: usize,
+    pub g: usize,
+}
 
 // x behind so many bits.
 fn behind(x: u32, held: usize) -> u64

@@ -2,9 +2,9 @@
 use borrow.Author.Needs.{needs}
 use mathlib.Core.Path.{refl}
 use native.Mathlib.Omega.{arith}
-use Rattle.groups.proofs.Rows.{behind-low, behind-word}
-use Rattle.groups.proofs.cut.behind.Statement.{statement}
-use Rattle.groups.proofs.cut.behind.Tie as tie
+use Rattle.cutting.proofs.Rows.{behind-low, behind-word}
+use Rattle.cutting.proofs.behind.Statement.{statement}
+use Rattle.cutting.proofs.behind.Tie as tie
 
 shl-result : tie.Need-shl-result
 shl-result c = search needs

@@ -2,10 +2,10 @@
 use borrow.Author.Needs.{needs, fits-under}
 use Prim.Native.Nat.{_^_}
 use lib.Pow.{pow-pos}
 use Rattle.groups.specs.Groups.{mostMembers}
-use Rattle.groups.proofs.Rows.{base-word, front-low}
-use Rattle.groups.proofs.cut.front.Statement.{statement}
-use Rattle.groups.proofs.cut.front.Tie as tie
+use Rattle.cutting.proofs.Rows.{base-word, front-low}
+use Rattle.cutting.proofs.front.Statement.{statement}
+use Rattle.cutting.proofs.front.Tie as tie
 
 shl-result : tie.Need-shl-result
 shl-result c = search needs

@@ -18,16 +18,17 @@ use Rattle.digits.proofs.Range.{sum-same, sum-split, sum-mul, sum-more}
 use Rattle.digits.proofs.Vector.{vector-low, vector-own}
 use Rattle.sheet.specs.Sheet.{amount}
 use Rattle.methods.proofs.Paying.{over-none}
 use Rattle.groups.specs.declared.Grouping.{Grouping}
-use Rattle.groups.specs.declared.Row.{Row}
+use Rattle.cutting.specs.declared.Row.{Row}
 use Rattle.methods.proofs.Filling.{fill-on}
 use Rattle.digits.proofs.Listed.{length-list, list-same, list-split}
 use Rattle.groups.specs.Groups.{columnBits, group, groupCount, groupSize, inputCount, mostInputs, mostMembers, selection, weigh}
-use Rattle.groups.specs.Inner.{Cut, CutUp, Entered, numberAt, numbersOf}
+use Rattle.groups.specs.Inner.{numbersOf}
+use Rattle.cutting.specs.Inner.{Cut, CutUp, Entered, numberAt}
 use Rattle.groups.proofs.Groups.{getD-group, length-group, weigh-vector}
 use Rattle.groups.proofs.Inputs.{getD-over, place}
 use Rattle.groups.proofs.Members.{amount-fits, selection-count, selection-two}
 use Rattle.groups.proofs.Numbering.{filled-on}
 
 -- the row is a word of 64 bits
 module _ (x held : ℕ) (fits : x < 2 ^ 32) (short : held < mostMembers) where

@@ -2,11 +2,11 @@
 use borrow.Author.Needs.{needs, fits-under}
 use Prim.Native.Nat.{_^_}
 use native.Mathlib.Omega.{arith}
 use Rattle.groups.specs.Groups.{mostMembers}
 use Rattle.groups.proofs.Measured.{grouped-count, grouped-few}
-use Rattle.groups.proofs.Rows.{part-cell, part-last, row-end, row-low}
-use Rattle.groups.proofs.cut.number_parts.Statement.{statement}
-use Rattle.groups.proofs.cut.number_parts.Tie as tie
+use Rattle.cutting.proofs.Rows.{part-cell, part-last, row-end, row-low}
+use Rattle.cutting.proofs.number_parts.Statement.{statement}
+use Rattle.cutting.proofs.number_parts.Tie as tie
 
 enter-columns-requires : tie.Need-enter-columns-requires
 enter-columns-requires c κs = search needs

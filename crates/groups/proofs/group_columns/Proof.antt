@@ -3,8 +3,8 @@ use borrow.Author.Needs.{needs}
 use lib.ListN.{take}
 use Rattle.groups.specs.Inner.{Narrow}
 use Rattle.groups.proofs.Measured.{columns-grouped, measured-long, measured-narrow}
-use Rattle.groups.proofs.measure.group_columns.Statement.{statement}
-use Rattle.groups.proofs.measure.group_columns.Tie as tie
+use Rattle.groups.proofs.group_columns.Statement.{statement}
+use Rattle.groups.proofs.group_columns.Tie as tie
 
 -- the measured columns are narrow, for the largest amounts are of 32 bits
 narrow : (c : tie.After-measure-bits) → Narrow (take (c .before .before .before .before .args .p) (c .measure-bits .last .1 .1 .0))

@@ -9,8 +9,8 @@ use Rattle.digits.specs.Range.{listTo}
 use Rattle.methods.proofs.Filling.{filling}
 use Rattle.groups.specs.Inner.{bitsAt}
 use Rattle.groups.proofs.Counting.{bits-narrow, bits-told}
-use Rattle.groups.proofs.measure.measure_bits.Statement.{statement}
-use Rattle.groups.proofs.measure.measure_bits.Tie as tie
+use Rattle.groups.proofs.measure_bits.Statement.{statement}
+use Rattle.groups.proofs.measure_bits.Tie as tie
 
 abbrev Inv-loop : tie.InvT-loop
 Inv-loop p largest cells₀ col₀ cells col = (col ≤ p) × (length cells ≡ length cells₀) × (cells ≡ over (listTo col (bitsAt largest)) cells₀)

@@ -3,10 +3,10 @@ use borrow.Author.Needs.{needs}
 use mathlib.Core.Path.{_≡_, refl}
 use Prim.Native.Nat.{_+_, _≤_}
 use lib.ListN.{length, length-set}
-use Rattle.groups.specs.Inner.{Cut}
-use Rattle.groups.proofs.Rows.{cut-none, cut-on}
-use Rattle.groups.proofs.cut.cut_parts.Statement.{statement}
-use Rattle.groups.proofs.cut.cut_parts.Tie as tie
+use Rattle.cutting.specs.Inner.{Cut}
+use Rattle.cutting.proofs.Rows.{cut-none, cut-on}
+use Rattle.cutting.proofs.cut_parts.Statement.{statement}
+use Rattle.cutting.proofs.cut_parts.Tie as tie
 
 abbrev Inv-loop : tie.InvT-loop
 Inv-loop c cells₀ r₀ cells r = (length cells ≡ length cells₀) × (r .g + r .held ≤ length cells) × Cut c r₀ r cells₀ cells

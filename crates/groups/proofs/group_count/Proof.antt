@@ -2,8 +2,8 @@
 use mathlib.Core.Path.{refl}
 use borrow.Author.Needs.{needs}
 use Rattle.groups.proofs.Counting.{groups-few}
-use Rattle.groups.proofs.measure.group_count.Statement.{statement}
-use Rattle.groups.proofs.measure.group_count.Tie as tie
+use Rattle.groups.proofs.group_count.Statement.{statement}
+use Rattle.groups.proofs.group_count.Tie as tie
 
 add-result : tie.Need-add-result
 add-result c = search needs

@@ -5,11 +5,11 @@ use lib.ListN.{length}
 use borrow.Author.Needs.{needs}
 use Rattle.sheet.proofs.Amounts.{amount-there}
 use native.Mathlib.Omega.{arith}
-use Rattle.groups.specs.Inner.{Entered}
+use Rattle.cutting.specs.Inner.{Entered}
 use Rattle.groups.proofs.Measured.{grouped-at, grouped-few, grouped-long}
-use Rattle.groups.proofs.Rows.{entered-end, entered-none, entered-on, row-fits, row-low}
-use Rattle.groups.proofs.cut.enter_columns.Statement.{statement}
-use Rattle.groups.proofs.cut.enter_columns.Tie as tie
+use Rattle.cutting.proofs.Rows.{entered-end, entered-none, entered-on, row-fits, row-low}
+use Rattle.cutting.proofs.enter_columns.Statement.{statement}
+use Rattle.cutting.proofs.enter_columns.Tie as tie
 
 abbrev Inv-loop : tie.InvT-loop
 Inv-loop s amounts bits i cells₀ r₀ col₀ cells r col =

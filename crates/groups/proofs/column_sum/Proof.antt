@@ -5,8 +5,8 @@ use Prim.Native.Nat.{_*_, _≤_, _-_}
 use native.Mathlib.Omega.{arith}
 use lib.ListN.{length}
 use Rattle.groups.proofs.Counting.{less-end, less-on, lessTo}
-use Rattle.groups.proofs.measure.column_sum.Statement.{statement}
-use Rattle.groups.proofs.measure.column_sum.Tie as tie
+use Rattle.groups.proofs.column_sum.Statement.{statement}
+use Rattle.groups.proofs.column_sum.Tie as tie
 
 abbrev Inv-loop : tie.InvT-loop
 Inv-loop bits less s₀ col₀ s col = (col ≤ length bits) × (s ≡ lessTo bits less col) × (s ≤ 32 * col)

@@ -8,22 +8,11 @@ use native.Mathlib.Nat.{mul-comm, mul-le-mul-right, mul-le-mul-left, div-add-mod
 use native.Mathlib.Omega.{arith}
 use lib.ListN.{length, getD}
 use lib.Pow.{pow-mono}
-use Rattle.digits.specs.Digits.{bitLength, digitCount}
 use Rattle.digits.specs.Range.{sumTo}
 use Rattle.digits.proofs.Range.{sum-on, sum-low}
-use Rattle.digits.proofs.Count.{low-bits}
 use Rattle.groups.specs.Groups.{groupCeiling, groupCount, groupSize, mostInputs, mostMembers, tablesCount}
 use Rattle.groups.specs.Inner.{bitsLess}
 use Rattle.groups.proofs.Groups.{inputs-below}
-
--- the bits of a number
-module _ (x b : ℕ) (e : b ≡ digitCount 1 x) where
-  pub bits-told : b ≡ bitLength x
-  unfolding bitLength
-  bits-told = e
-
-  pub bits-narrow : x < 2 ^ 32 → b ≤ 32
-  bits-narrow low = omega (arith, bits-told, low-bits x 32 low)
 
 -- the bits of the first n columns of a slice, less some each
 abbrev pub lessTo : List ℕ → ℕ → ℕ → ℕ

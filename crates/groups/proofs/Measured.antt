@@ -7,13 +7,12 @@ use native.Mathlib.Omega.{arith}
 use lib.ListN.{length, getD, take, List·getD-eq-default}
 use Rattle.chain.specs.Written.{over}
 use Rattle.chain.proofs.Written.{take-over}
-use Rattle.digits.specs.Digits.{bitLength}
+use Rattle.digits.specs.Digits.{bitLength, digitCount}
 use Rattle.digits.specs.Range.{sumTo, listTo}
-use Rattle.digits.proofs.Count.{low-bits}
 use Rattle.digits.proofs.Range.{sum-same}
 use Rattle.methods.specs.Powers.{countsOf, squarings, powerAt, powerOf}
-use Rattle.methods.specs.Inner.{SheetSized, Largest}
-use Rattle.methods.proofs.Columns.{squarings-same}
+use Rattle.methods.specs.Inner.{SheetSized, Largest, digitsAt}
+use Rattle.methods.proofs.Columns.{digits-low, squarings-same}
 use Rattle.methods.proofs.Filling.{filled-front, filled-length}
 use Rattle.groups.specs.declared.Grouping.{Grouping}
 use Rattle.chain.specs.Chain.{mostColumns, mostSteps}
@@ -23,7 +22,7 @@ use Rattle.digits.proofs.Listed.{getD-list, length-list, list-same}
 use Rattle.groups.specs.Groups.{columnBits, columnSquarings, group, groupCount, groupTables, inputCount, inputs, mostInputs}
 use Rattle.groups.specs.Groups.{mostMembers, overInputs, selection, sheetSquarings, sheetTables, weigh}
 use Rattle.groups.specs.Inner.{Bounded, Grouped, GroupedBy, GroupedFor, GroupsMade, GroupsRoom, Narrow, bitInputs, bitSquarings, bitTables}
-use Rattle.groups.specs.Inner.{bitsAt, bitsLess, partNumbers}
+use Rattle.groups.specs.Inner.{bitsLess, partNumbers}
 use Rattle.groups.proofs.Counting.{lessTo}
 use Rattle.groups.proofs.Inputs.{over-same}
 use Rattle.groups.proofs.Members.{members-count}
@@ -43,23 +42,23 @@ module _ (p q : ℕ) (amounts bits : List ℕ) (is : bits ≡ listTo p (columnBi
   bits-sum = ap (λ (n : ℕ). sumTo n (countsOf bits)) bits-long ∙ sum-same p _ _ bits-at
 
 -- the cells that columns with these largest amounts are measured into
-module _ (p : ℕ) (largest old cells : List ℕ) (e : cells ≡ over (listTo p (bitsAt largest)) old) where
-  measured : take p cells ≡ listTo p (bitsAt largest)
-  measured = filled-front (bitsAt largest) old p cells e
+module _ (p : ℕ) (largest old cells : List ℕ) (e : cells ≡ over (listTo p (digitsAt 1 largest)) old) where
+  measured : take p cells ≡ listTo p (digitsAt 1 largest)
+  measured = filled-front (digitsAt 1 largest) old p cells e
 
   pub measured-long : p ≡ length (take p cells)
-  measured-long = filled-length (bitsAt largest) old p cells e
+  measured-long = filled-length (digitsAt 1 largest) old p cells e
 
   pub measured-narrow : p ≤ mostColumns → ((col : ℕ) → getD largest col 0 < 2 ^ 32) → Narrow (take p cells)
   measured-narrow h low = record { columns = omega (arith, measured-long); each = λ col. by-place col (decLt col p) }
     where
       by-place : (col : ℕ) → Dec (col < p) → getD (take p cells) col 0 ≤ 32
-      by-place col (yes lt) = rw (measured, getD-list p (bitsAt largest) col lt) (low-bits (getD largest col 0) 32 (low col))
+      by-place col (yes lt) = rw (measured, getD-list p (digitsAt 1 largest) col lt) (digits-low 1 (getD largest col 0) _ (omega arith) (low col) refl)
       by-place col (no ge) = rw (List·getD-eq-default (take p cells) 0 {n = col} (omega (arith, measured-long))) (omega arith)
 
 -- their grouping, from what their bits add up to
 pub columns-grouped : (s : Grouping) (largest old cells : List ℕ) → s .p ≤ mostColumns → 1 ≤ s .c → s .c ≤ mostMembers
-    → cells ≡ over (listTo (s .p) (bitsAt largest)) old
+    → cells ≡ over (listTo (s .p) (digitsAt 1 largest)) old
     → Bounded (s .inputs) (lessTo (take (s .p) cells) 0 (length (take (s .p) cells))) mostInputs
     → Bounded (s .groups) (groupCount (s .c) (s .inputs)) mostInputs
     → Bounded (s .squarings) (lessTo (take (s .p) cells) 1 (length (take (s .p) cells))) mostInputs
@@ -85,9 +84,9 @@ columns-grouped s largest old cells columns some few e w G n =
     }
 
 -- a sheet's largest amounts have its columns' bits
-sheet-bits : {p q : ℕ} {amounts largest bits : List ℕ} → Largest p q amounts largest → bits ≡ listTo p (bitsAt largest) → bits ≡ listTo p (columnBits p q amounts)
-unfolding columnBits
-sheet-bits {p} {q} {amounts} {largest} l e = e ∙ list-same p (bitsAt largest) (columnBits p q amounts) (λ col h. ap bitLength (l .are col h))
+sheet-bits : {p q : ℕ} {amounts largest bits : List ℕ} → Largest p q amounts largest → bits ≡ listTo p (digitsAt 1 largest) → bits ≡ listTo p (columnBits p q amounts)
+unfolding columnBits bitLength
+sheet-bits {p} {q} {amounts} {largest} l e = e ∙ list-same p (digitsAt 1 largest) (columnBits p q amounts) (λ col h. ap (digitCount 1) (l .are col h))
 
 -- so the grouping of its columns is the sheet's
 pub sheet-grouped : {p q : ℕ} {amounts : List ℕ} {c : ℕ} {largest bits : List ℕ} {s : Grouping} → SheetSized p q amounts → Largest p q amounts largest

@@ -5,10 +5,9 @@ use Prim.Native.Nat.{ℕ, _+_, _-_, _*_, _^_, _≤_, _<_}
 use lib.ListN.{length, getD}
 use Rattle.chain.specs.Chain.{mostColumns, mostSteps}
 use Rattle.chain.specs.Written.{over}
-use Rattle.digits.specs.Digits.{bitLength}
 use Rattle.digits.specs.Range.{sumTo, listTo}
 use Rattle.products.specs.Inner.{stepsIn, StepsRoom, StepsStored}
-use Rattle.methods.specs.Inner.{SheetSized}
+use Rattle.methods.specs.Inner.{SheetSized, digitsAt}
 use Rattle.methods.specs.Powers.{countsOf, squarings, powerOf}
 use Rattle.groups.specs.declared.Grouping.{Grouping}
 use Rattle.chain.specs.declared.Step.{Step}
@@ -19,10 +18,6 @@ use Rattle.groups.specs.Groups.{selection, squaringCount, weigh}
 pub record Bounded (r x most : ℕ) : Type 0 where
   pub is : r ≡ x
   pub low : r ≤ most
-
--- the bits of one of some numbers
-abbrev pub bitsAt : List ℕ → ℕ → ℕ
-bitsAt numbers col = bitLength (getD numbers col 0)
 
 -- the bits of columns less some each, as far as they go
 abbrev pub bitsLess : List ℕ → ℕ → ℕ → ℕ
@@ -53,7 +48,7 @@ pub record Cuts (s : Grouping) : Type 0 where
 -- they are those of columns with these largest amounts and bits
 pub record GroupedBy (p q c : ℕ) (largest bits : List ℕ) (s : Grouping) : Type 0 where
   pub cuts : Cuts s
-  pub bits-are : bits ≡ listTo p (bitsAt largest)
+  pub bits-are : bits ≡ listTo p (digitsAt 1 largest)
   pub inputs-are : s .inputs ≡ sumTo (length bits) (bitsLess bits 0)
   pub squarings-are : s .squarings ≡ sumTo (length bits) (bitsLess bits 1)
   pub same-p : s .p ≡ p

@@ -1,12 +1,10 @@
 // Method 3 up to its groups' tables: the columns' bits, the inputs and their groups.
-ghost use mathlib.Core.Path.{_≡_};
 ghost use Prim.Native.Nat.{_≤_};
 ghost use lib.ListN.{length, take};
 ghost use Rattle.chain.specs.Chain.{mostColumns};
-ghost use Rattle.chain.specs.Written.{over};
-ghost use Rattle.digits.specs.Range.{sumTo, listTo};
+ghost use Rattle.digits.specs.Range.{sumTo};
 ghost use Rattle.groups.specs.Groups.{groupCount, mostInputs, mostMembers};
-ghost use Rattle.groups.specs.Inner.{Bounded, GroupedBy, Narrow, bitsAt, bitsLess};
+ghost use Rattle.groups.specs.Inner.{Bounded, GroupedBy, Narrow, bitsLess};
 
 // No sheet has more inputs: an amount has at most 32 bits.
 pub const MOST_INPUTS: usize = chain::MOST_COLUMNS * 32;
@@ -19,18 +17,6 @@ pub struct Grouping {
     pub inputs: usize,
     pub groups: usize,
     pub squarings: usize,
-}
-
-// Each column's bits, those of its largest amount, one after the other.
-fn measure_bits(p: usize, largest: &[u32], cells: &mut [u32])
-    requires { ⌜ (p ≤ length (now largest)) × (p ≤ length (now cells)) ⌝ }
-    ensures { λ r. ⌜ now (cells .exit) ≡ over (listTo p (bitsAt (now (largest .entry)))) (now (cells .entry)) ⌝ }
-{
-    let mut col: usize = 0;
-    while col < p {
-        cells[col] = digits::digit_count(1, largest[col]) as u32;
-        col += 1;
-    }
 }
 
 // The columns' bits less some each, added up.
@@ -60,7 +46,7 @@ pub fn group_columns(p: usize, q: usize, c: usize, largest: &[u32], cells: &mut 
     requires { ⌜ (p ≤ mostColumns) × (1 ≤ c) × (c ≤ mostMembers) × (p ≤ length (now largest)) × (p ≤ length (now cells)) ⌝ }
     ensures { λ r. ⌜ GroupedBy p q c (now (largest .entry)) (take p (now (cells .exit))) r ⌝ }
 {
-    measure_bits(p, largest, cells);
+    methods::measure_digits(p, 1, largest, cells);
     let w = column_sum(&cells[..p], 0);
     let groups = group_count(c, w);
     let squarings = column_sum(&cells[..p], 1);

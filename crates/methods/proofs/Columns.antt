@@ -1,14 +1,17 @@
 -- The largest amount grows payslip by payslip, and the squarings column by column: each column's are appended to those before it.
 use mathlib.Core.Path.{_≡_, refl, ap, _∙_}
 use mathlib.Core.List.{List}
-use Prim.Native.Nat.{ℕ, zero, suc, _+_, _≤_, _<_, max}
+use Prim.Native.Nat.{ℕ, zero, suc, _+_, _*_, _^_, _≤_, _<_, max}
 use native.Mathlib.Numerals.{add-one}
 use native.Mathlib.Omega.{arith}
 use lib.ListN.{length, getD}
+use lib.Pow.{pow-mono}
 use Rattle.chain.specs.declared.Step.{Step}
 use Rattle.chain.proofs.Rules.{eq-yes, eq-no}
 use Rattle.chain.specs.Written.{over}
+use Rattle.digits.specs.Digits.{digitCount}
 use Rattle.digits.specs.Range.{maxTo, listTo}
+use Rattle.digits.proofs.Count.{low-count}
 use Rattle.sheet.specs.Sheet.{amount}
 use Rattle.products.specs.Product.{made, squared}
 use Rattle.methods.specs.Powers.{largestIn, countsOf, squarings, powerAt}
@@ -44,6 +47,12 @@ pub all-largest : (p q : ℕ) (amounts old cells : List ℕ) (c : ℕ) → c ≤
     → Largest p q amounts cells
 all-largest p q amounts old cells c h g room e =
     record { there = room; are = filled-at (largestIn p q amounts) old p cells (fill-end (largestIn p q amounts) old p c cells h g e) }
+
+-- a number of 32 bits has no more digits than bits
+pub digits-low : (k x r : ℕ) → 0 < k → x < 2 ^ 32 → r ≡ digitCount k x → r ≤ 32
+digits-low k x r some low e =
+    let wide : 2 ^ 32 ≤ 2 ^ (k * 32) = pow-mono {i = 32} (omega arith) in
+    omega (arith, low-count k some x 32 (omega arith))
 
 -- the number of a power: the base itself, or one of the values made
 module _ (c first j : ℕ) where

@@ -5,6 +5,7 @@ use Prim.Native.Nat.{ℕ, _*_, _≤_, _<_}
 use lib.ListN.{length, getD}
 use Rattle.chain.specs.Chain.{Chain, mostColumns, mostPayslips, mostSteps, flat}
 use Rattle.chain.specs.Written.{over}
+use Rattle.digits.specs.Digits.{digitCount}
 use Rattle.methods.specs.Powers.{largestIn}
 
 -- a sheet whose sizes keep to their ranges
@@ -24,6 +25,10 @@ pub record Asked (most p q : ℕ) (amounts : List ℕ) (k : ℕ) : Type 0 where
 pub record Largest (p q : ℕ) (amounts cells : List ℕ) : Type 0 where
   pub there : p ≤ length cells
   pub are : (c : ℕ) → c < p → getD cells c 0 ≡ largestIn p q amounts c
+
+-- the digits of one of some numbers in base 2^k
+abbrev pub digitsAt : ℕ → List ℕ → ℕ → ℕ
+digitsAt k numbers c = digitCount k (getD numbers c 0)
 
 -- room for a chain of so many steps with q outputs, which is not too long
 pub record ChainRoom (q count : ℕ) (steps outputs : List ℕ) : Type 0 where

@@ -1,21 +1,22 @@
 -- A column's digits are those of its largest amount, and few; stored and read again they give the squarings of the definition, one by one and in their sum.
-use mathlib.Core.Path.{_≡_, sym, subst, ap, _∙_}
+use mathlib.Core.Path.{_≡_, sym, ap, _∙_}
 use mathlib.Core.List.{List}
 use Prim.Native.Nat.{ℕ, zero, suc, _+_, _-_, _*_, _^_, _≤_, _<_}
-use native.Mathlib.Nat.{mul-one, mul-suc, mul-comm, zero-mul, mul-le-mul-left}
+use native.Mathlib.Nat.{mul-suc, mul-comm, zero-mul, mul-le-mul-left}
 use native.Mathlib.Decide.{decLt}
 use native.Mathlib.Numerals.{sub-one}
 use native.Mathlib.Omega.{arith}
-use lib.ListN.{length, getD, set, length-set}
+use lib.ListN.{length, getD}
 use lib.Pow.{pow-mono}
-use lib.Seq.{getD-set-same, getD-set-other}
 use Rattle.digits.specs.Digits.{digitCount}
-use Rattle.digits.specs.Range.{sumTo}
+use Rattle.chain.specs.Written.{over}
+use Rattle.digits.specs.Range.{sumTo, listTo}
 use Rattle.digits.proofs.Count.{count-high}
 use Rattle.digits.proofs.Range.{sum-same}
-use Rattle.methods.specs.Inner.{Largest}
+use Rattle.methods.specs.Inner.{Largest, digitsAt}
+use Rattle.methods.proofs.Filling.{filled-at}
 use Rattle.yao.specs.Yao.{yaoDigits, yaoSquarings}
-use Rattle.yao.specs.Inner.{DigitsFew, DigitsOf, Measured, squaringsIn, squaringsMost}
+use Rattle.yao.specs.Inner.{DigitsFew, Measured, squaringsIn, squaringsMost}
 
 -- a number of 32 bits has no digit that begins past them
 pub digits-few : (k x r : ℕ) → 0 < k → x < 2 ^ 32 → r ≡ digitCount k x → k * r ≤ 31 + k
@@ -41,44 +42,18 @@ pub squarings-few : (k digits : ℕ) → k * digits ≤ 31 + k → (digits - 1) 
 squarings-few k zero h = rw (zero-mul k) (omega arith)
 squarings-few k (suc d) h = rw (sub-one (suc d)) (omega (arith, mul-suc k d, mul-comm k d))
 
--- a column's digits are few
-pub digits-word : (k d : ℕ) → 0 < k → k * d ≤ 31 + k → d < 64
-digits-word k d some room = omega (arith, squarings-few k d room, mul-le-mul-left (d - 1) some, mul-one (d - 1))
-
--- measured one after the other
-module _ (k : ℕ) (numbers cells : List ℕ) where
-  pub digits-none : DigitsOf k 0 numbers cells
-  digits-none = record { narrow = record { there = omega arith; few = λ c h. absurd (omega arith) }; are = λ c h. absurd (omega arith) }
-
-  pub digits-on : (c d : ℕ) → DigitsOf k c numbers cells → c < length cells → d ≡ digitCount k (getD numbers c 0) → k * d ≤ 31 + k
-      → DigitsOf k (c + 1) numbers (set cells c d)
-  digits-on c d m there is low =
-      record {
-        narrow = record { there = omega (arith, length-set cells c d); few = λ b h. each-few b (decLt b c) h };
-        are = λ b h. each-is b (decLt b c) h;
-      }
-    where
-      each-is : (b : ℕ) → Dec (b < c) → b < c + 1 → getD (set cells c d) b 0 ≡ digitCount k (getD numbers b 0)
-      each-is b (yes lt) h = getD-set-other cells c b d 0 (omega arith) ∙ m .are b lt
-      each-is b (no ge) h =
-          let last : b ≡ c = omega arith in
-          rw last (getD-set-same cells c d 0 there ∙ is)
-
-      each-few : (b : ℕ) → Dec (b < c) → b < c + 1 → k * getD (set cells c d) b 0 ≤ 31 + k
-      each-few b (yes lt) h = rw (getD-set-other cells c b d 0 (omega arith)) (m .narrow .few b lt)
-      each-few b (no ge) h =
-          let last : b ≡ c = omega arith in
-          rw (last, getD-set-same cells c d 0 there) low
-
-  pub digits-end : (p c : ℕ) → c ≤ p → p ≤ c → DigitsOf k c numbers cells → DigitsOf k p numbers cells
-  digits-end p c h g m =
-      let last : c ≡ p = omega arith in
-      subst (λ (n : ℕ). DigitsOf k n numbers cells) last m
-
-  -- the digits of the largest amounts are the columns'
-  pub columns-measured : (p q : ℕ) (amounts : List ℕ) → Largest p q amounts numbers → DigitsOf k p numbers cells → Measured p q amounts k cells
-  unfolding yaoDigits
-  columns-measured p q amounts l m = record { narrow = m .narrow; are = λ c h. m .are c h ∙ ap (digitCount k) (l .are c h) }
+-- the digits of the largest amounts, which are numbers of 32 bits, are the columns'
+pub columns-measured : (p q : ℕ) (amounts : List ℕ) (k : ℕ) (largest old cells : List ℕ) → 0 < k → ((c : ℕ) → getD largest c 0 < 2 ^ 32)
+    → Largest p q amounts largest → p ≤ length cells → cells ≡ over (listTo p (digitsAt k largest)) old → Measured p q amounts k cells
+unfolding yaoDigits
+columns-measured p q amounts k largest old cells some low l room e =
+    record {
+      narrow = record { there = room; few = λ c h. digits-few k (getD largest c 0) (getD cells c 0) some (low c) (at c h) };
+      are = λ c h. at c h ∙ ap (digitCount k) (l .are c h);
+    }
+  where
+    at : (c : ℕ) → c < p → getD cells c 0 ≡ digitCount k (getD largest c 0)
+    at = filled-at (digitsAt k largest) old p cells e
 
 -- read again
 pub column-few : (k n : ℕ) (cells : List ℕ) (c : ℕ) → DigitsFew k n cells → c < n → k * getD cells c 0 ≤ 31 + k

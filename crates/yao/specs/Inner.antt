@@ -3,18 +3,12 @@ use mathlib.Core.Path.{_≡_}
 use mathlib.Core.List.{List}
 use Prim.Native.Nat.{ℕ, _+_, _-_, _*_, _≤_, _<_}
 use lib.ListN.{length, getD}
-use Rattle.digits.specs.Digits.{digitCount}
 use Rattle.yao.specs.Yao.{yaoDigits}
 
 -- cells that say how many digits each of the first n columns has; none begins past 32 bits
 pub record DigitsFew (k n : ℕ) (cells : List ℕ) : Type 0 where
   pub there : n ≤ length cells
   pub few : (c : ℕ) → c < n → k * getD cells c 0 ≤ 31 + k
-
--- they are the digits of these numbers
-pub record DigitsOf (k n : ℕ) (numbers cells : List ℕ) : Type 0 where
-  pub narrow : DigitsFew k n cells
-  pub are : (c : ℕ) → c < n → getD cells c 0 ≡ digitCount k (getD numbers c 0)
 
 -- they are those of a sheet's columns
 pub record Measured (p q : ℕ) (amounts : List ℕ) (k : ℕ) (cells : List ℕ) : Type 0 where

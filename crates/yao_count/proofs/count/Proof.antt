@@ -16,8 +16,9 @@ slice-aggregate-chain-count c = search needs
 chain-count-requires : tie.Need-chain-count-requires
 chain-count-requires c κs =
     let told = c .before .before in
-    let s = told .before .before .before .before in
-    (s .pre .0, columns-measured _ _ _ _ _ _ (s .pre .1) (told .measure-digits .ensures))
+    let known = told .before .before in
+    let pre = known .before .before .pre in
+    (pre .0, columns-measured _ _ _ _ _ _ _ (search needs) (λ j. known .shared-slice-known2 .given j .fits) (pre .1) (search needs) (told .measure-digits .ensures))
 
 returns : tie.Need-returns
 returns c = search needs

@@ -1,4 +1,4 @@
--- The loop keeps: the bits of the columns so far stand over the cells' front; a number of 32 bits has no more than 32.
+-- One number a turn: the invariant is the digits of the numbers so far, over what the cells held; a number of 32 bits has no more than 32.
 use borrow.Author.Needs.{needs, fits-under}
 use mathlib.Core.Path.{_≡_}
 use Prim.Native.Nat.{_≤_, _-_}
@@ -6,17 +6,17 @@ use native.Mathlib.Omega.{arith}
 use lib.ListN.{length, length-set}
 use Rattle.chain.specs.Written.{over}
 use Rattle.digits.specs.Range.{listTo}
+use Rattle.methods.specs.Inner.{digitsAt}
 use Rattle.methods.proofs.Filling.{filling}
-use Rattle.groups.specs.Inner.{bitsAt}
-use Rattle.groups.proofs.Counting.{bits-narrow, bits-told}
-use Rattle.groups.proofs.measure_bits.Statement.{statement}
-use Rattle.groups.proofs.measure_bits.Tie as tie
+use Rattle.methods.proofs.Columns.{digits-low}
+use Rattle.methods.proofs.measure_digits.Statement.{statement}
+use Rattle.methods.proofs.measure_digits.Tie as tie
 
 abbrev Inv-loop : tie.InvT-loop
-Inv-loop p largest cells₀ col₀ cells col = (col ≤ p) × (length cells ≡ length cells₀) × (cells ≡ over (listTo col (bitsAt largest)) cells₀)
+Inv-loop p k numbers cells₀ c₀ cells c = (c ≤ p) × (length cells ≡ length cells₀) × (cells ≡ over (listTo c (digitsAt k numbers)) cells₀)
 
 abbrev μ-loop : tie.MeasureT-loop
-μ-loop p largest cells₀ col₀ cells col = p - col
+μ-loop p k numbers cells₀ c₀ cells c = p - c
 
 loop-holds : tie.Need-loop-holds Inv-loop μ-loop
 loop-holds c = (search needs, search needs, search filling)
@@ -32,7 +32,7 @@ digit-count-requires c κs = search needs
 
 cast-cells : tie.Need-cast-cells Inv-loop μ-loop
 cast-cells c =
-    let few = bits-narrow _ _ (c .digit-count .ensures) (c .before .shared-slice-known2 .given (c .before .before .before .loop .col) .fits) in
+    let few = digits-low _ _ _ (search needs) (c .before .shared-slice-known2 .given (c .before .before .before .loop .c) .fits) (c .digit-count .ensures) in
     fits-under _ _ 33 (omega arith) tt
 
 mul-cells : tie.Need-mul-cells Inv-loop μ-loop
@@ -41,14 +41,14 @@ mul-cells c = search needs
 slice-write-cells : tie.Need-slice-write-cells Inv-loop μ-loop
 slice-write-cells c = search needs
 
-add-col : tie.Need-add-col Inv-loop μ-loop
-add-col c = search needs
+add-c : tie.Need-add-c Inv-loop μ-loop
+add-c c = search needs
 
 loop-less : tie.Need-loop-less Inv-loop μ-loop
 loop-less c = search needs
 
 loop-again : tie.Need-loop-again Inv-loop μ-loop
-loop-again c = let told = bits-told _ _ (c .digit-count .ensures) in (search needs, simp length-set (search needs), search filling)
+loop-again c = (search needs, simp length-set (search needs), search filling)
 
 same-length : tie.Need-same-length Inv-loop μ-loop
 same-length c = search needs
@@ -56,8 +56,8 @@ same-length c = search needs
 returns : tie.Need-returns Inv-loop μ-loop
 returns c = search filling
 
-pub measure-bits-spec : {M : Type 1} → statement M
-measure-bits-spec =
+pub measure-digits-spec : {M : Type 1} → statement M
+measure-digits-spec =
     tie.close
     (tie.spec
     Inv-loop
@@ -69,7 +69,7 @@ measure-bits-spec =
     cast-cells
     mul-cells
     slice-write-cells
-    add-col
+    add-c
     loop-less
     loop-again
     same-length

@@ -20,7 +20,7 @@ fn measure(p: usize, q: usize, amounts: &[u32], method: usize, largest: &mut [u3
     ensures { λ r. ⌜ MeasuredFor method p q (now (amounts .entry)) (now (largest .exit)) ⌝ }
 {
     if method != 1 {
-        methods::measure_columns(p, q, amounts, largest);
+        measuring::measure_columns(p, q, amounts, largest);
     }
 }
 

@@ -12,7 +12,8 @@ use Rattle.digits.specs.Range.{sumTo, listTo}
 use Rattle.digits.proofs.Range.{sum-same}
 use Rattle.methods.specs.Powers.{countsOf, squarings, powerAt, powerOf}
 use Rattle.methods.specs.Inner.{SheetSized, Largest, digitsAt}
-use Rattle.methods.proofs.Columns.{digits-low, squarings-same}
+use Rattle.methods.proofs.Columns.{squarings-same}
+use Rattle.measuring.proofs.Columns.{digits-low}
 use Rattle.methods.proofs.Filling.{filled-front, filled-length}
 use Rattle.groups.specs.declared.Grouping.{Grouping}
 use Rattle.chain.specs.Chain.{mostColumns, mostSteps}

@@ -46,7 +46,7 @@ pub fn group_columns(p: usize, q: usize, c: usize, largest: &[u32], cells: &mut 
     requires { ⌜ (p ≤ mostColumns) × (1 ≤ c) × (c ≤ mostMembers) × (p ≤ length (now largest)) × (p ≤ length (now cells)) ⌝ }
     ensures { λ r. ⌜ GroupedBy p q c (now (largest .entry)) (take p (now (cells .exit))) r ⌝ }
 {
-    methods::measure_digits(p, 1, largest, cells);
+    measuring::measure_digits(p, 1, largest, cells);
     let w = column_sum(&cells[..p], 0);
     let groups = group_count(c, w);
     let squarings = column_sum(&cells[..p], 1);

@@ -1,52 +1,11 @@
-// What the methods share: the largest amount of each column, its digits, and the powers of the bases.
+// What the methods share: powers of the bases.
 ghost use mathlib.Core.Path.{_≡_};
-ghost use Prim.Native.Nat.{_+_, _*_, _^_, _≤_, _<_};
+ghost use Prim.Native.Nat.{_+_, _^_, _≤_, _<_};
 ghost use lib.ListN.{length};
 ghost use Rattle.chain.specs.Chain.{mostColumns};
-ghost use Rattle.chain.specs.Written.{over};
-ghost use Rattle.digits.specs.Range.{listTo};
 ghost use Rattle.products.specs.Inner.{StepsRoom, StepsStored};
-ghost use Rattle.methods.specs.Powers.{largestIn, countsOf, squarings, powerAt};
-ghost use Rattle.methods.specs.Inner.{Largest, digitsAt};
+ghost use Rattle.methods.specs.Powers.{countsOf, squarings, powerAt};
 use products::PartialProduct;
-
-// The largest amount of column c over all payslips.
-fn largest_in(p: usize, q: usize, amounts: &[u32], c: usize) -> u32
-    requires { ⌜ (c < p) × (length (now amounts) ≡ p * q) ⌝ }
-    ensures { λ r. ⌜ r ≡ largestIn p q (now (amounts .entry)) c ⌝ }
-{
-    let mut most: u32 = 0;
-    let mut i: usize = 0;
-    while i < q {
-        most = digits::larger(most, sheet::amount(p, amounts, i, c));
-        i += 1;
-    }
-    most
-}
-
-// The largest amount of each column into its cell: the one pass over the amounts before a method counts and emits.
-pub fn measure_columns(p: usize, q: usize, amounts: &[u32], cells: &mut [u32])
-    requires { ⌜ (p ≤ length (now cells)) × (length (now amounts) ≡ p * q) ⌝ }
-    ensures { λ r. ⌜ Largest p q (now (amounts .entry)) (now (cells .exit)) ⌝ }
-{
-    let mut c: usize = 0;
-    while c < p {
-        cells[c] = largest_in(p, q, amounts, c);
-        c += 1;
-    }
-}
-
-// How many digits in base 2^k each of the first p numbers has, into its cell.
-pub fn measure_digits(p: usize, k: usize, numbers: &[u32], cells: &mut [u32])
-    requires { ⌜ (0 < k) × (k < 32) × (p ≤ length (now numbers)) × (p ≤ length (now cells)) ⌝ }
-    ensures { λ r. ⌜ now (cells .exit) ≡ over (listTo p (digitsAt k (now (numbers .entry)))) (now (cells .entry)) ⌝ }
-{
-    let mut c: usize = 0;
-    while c < p {
-        cells[c] = digits::digit_count(k, numbers[c]) as u32;
-        c += 1;
-    }
-}
 
 // The value number of the base of column c after j squarings, which are made after value first.
 pub fn power_at(c: usize, first: usize, j: usize) -> u32

@@ -85,6 +85,6 @@ pub fn count(p: usize, q: usize, amounts: &[u32], k: usize, largest: &[u32]) -> 
     ensures { λ r. ⌜ r ≡ yaoCount p q (now (amounts .entry)) k ⌝ }
 {
     let mut columns = [0u32; chain::MOST_COLUMNS];
-    methods::measure_digits(p, k, largest, &mut columns);
+    measuring::measure_digits(p, k, largest, &mut columns);
     chain_count(p, q, amounts, k, &columns)
 }

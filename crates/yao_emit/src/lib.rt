@@ -228,7 +228,7 @@ pub fn emit(
     ensures { λ r. ⌜ ChainStored (now (steps .entry)) (now (outputs .entry)) (now (steps .exit)) (now (outputs .exit)) (yao p q (now (amounts .entry)) k) ⌝ }
 {
     let mut columns = [0u32; chain::MOST_COLUMNS];
-    methods::measure_digits(p, k, largest, &mut columns);
+    measuring::measure_digits(p, k, largest, &mut columns);
     let mut counts = [0u32; chain::MOST_COLUMNS];
     all_squarings(p, k, &columns, &mut counts);
     make_chain(p, q, amounts, k, &columns, &counts[..p], steps, outputs);

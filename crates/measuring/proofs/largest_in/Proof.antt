@@ -3,9 +3,9 @@ use borrow.Author.Needs.{needs}
 use mathlib.Core.Path.{_≡_}
 use Prim.Native.Nat.{_≤_, _-_}
 use Rattle.sheet.proofs.Amounts.{amount-there}
-use Rattle.methods.proofs.Columns.{largestTo, finding-largest}
-use Rattle.methods.proofs.largest_in.Statement.{statement}
-use Rattle.methods.proofs.largest_in.Tie as tie
+use Rattle.measuring.proofs.Columns.{largestTo, finding-largest}
+use Rattle.measuring.proofs.largest_in.Statement.{statement}
+use Rattle.measuring.proofs.largest_in.Tie as tie
 
 abbrev Inv-loop : tie.InvT-loop
 Inv-loop p q amounts c most₀ i₀ most i = (i ≤ q) × (most ≡ largestTo p amounts c i)

@@ -5,11 +5,11 @@ use Prim.Native.Nat.{_≤_, _-_}
 use lib.ListN.{length, length-set}
 use Rattle.chain.specs.Written.{over}
 use Rattle.digits.specs.Range.{listTo}
 use Rattle.methods.specs.Powers.{largestIn}
 use Rattle.methods.proofs.Filling.{filling}
-use Rattle.methods.proofs.Columns.{all-largest}
-use Rattle.methods.proofs.measure_columns.Statement.{statement}
-use Rattle.methods.proofs.measure_columns.Tie as tie
+use Rattle.measuring.proofs.Columns.{all-largest}
+use Rattle.measuring.proofs.measure_columns.Statement.{statement}
+use Rattle.measuring.proofs.measure_columns.Tie as tie
 
 abbrev Inv-loop : tie.InvT-loop
 Inv-loop p q amounts cells₀ c₀ cells c = (c ≤ p) × (length cells ≡ length cells₀) × (cells ≡ over (listTo c (largestIn p q amounts)) cells₀)

@@ -6,11 +6,11 @@ use native.Mathlib.Omega.{arith}
 use lib.ListN.{length, length-set}
 use Rattle.chain.specs.Written.{over}
 use Rattle.digits.specs.Range.{listTo}
 use Rattle.methods.specs.Inner.{digitsAt}
 use Rattle.methods.proofs.Filling.{filling}
-use Rattle.methods.proofs.Columns.{digits-low}
-use Rattle.methods.proofs.measure_digits.Statement.{statement}
-use Rattle.methods.proofs.measure_digits.Tie as tie
+use Rattle.measuring.proofs.Columns.{digits-low}
+use Rattle.measuring.proofs.measure_digits.Statement.{statement}
+use Rattle.measuring.proofs.measure_digits.Tie as tie
 
 abbrev Inv-loop : tie.InvT-loop
 Inv-loop p k numbers cells₀ c₀ cells c = (c ≤ p) × (length cells ≡ length cells₀) × (cells ≡ over (listTo c (digitsAt k numbers)) cells₀)

@@ -9,14 +9,19 @@ use Rattle.chain.specs.Judgement.{verdictOf}
 use Rattle.chain.specs.Chain.{mostSteps, lengthRule}
 use Rattle.chain.specs.declared.Judgement.{Judgement}
 use Rattle.chain.specs.declared.Judgement.the-variants as judgement
-use Rattle.chain.proofs.Rules.{told-fine, told-refused, pass, stop, refuse-yes, refuse-no, lt-yes, lt-no, or-left, or-right, or-none, answer-refused, answer-done, kept, renewed}
+use Rattle.chain.proofs.Rules.{not-fine, told-fine, told-refused, pass, stop, refuse-yes, refuse-no, lt-yes, lt-no, or-left, or-right, or-none, answer-refused, answer-done, kept, renewed}
 use Rattle.chain.proofs.Told.{verdictIn, told, told-values}
 use Rattle.sheet.specs.Sheet.{sheetRule}
 use Rattle.methods.specs.Inner.{ChainStored}
-use Rattle.compile.specs.Compile.{methodRule, chainOf, count, acceptedRule, compileRule, compileAnswer, compileSteps, compileOutputs}
+use Rattle.parameters.specs.Parameters.{methodRule}
+use Rattle.compile.specs.Compile.{chainOf, count, acceptedRule, compileRule, compileAnswer, compileSteps, compileOutputs}
 use Rattle.answers.specs.Answers.{compiledOf}
 use Rattle.answers.specs.declared.Compiled.{Compiled}
 use Rattle.answers.specs.declared.Compiled.the-variants.{Steps, Refused}
+
+-- what is refused is answered so, and whatever was to follow from its being fine follows
+pub stopped : (v : Verdict) (values : List ℕ) (number place : ℕ) {M : Type 0} → refused number place ≡ v → (refusal number place ≡ answer v values) × (v ≡ fine → M)
+stopped v values number place e = (answer-refused v values number place e, λ f. absurd (not-fine (e ∙ f)))
 
 module _ (p q : ℕ) (amounts : List ℕ) (method k : ℕ) where
   abbrev count′ : ℕ
@@ -32,8 +37,8 @@ module _ (p q : ℕ) (amounts : List ℕ) (method k : ℕ) where
     unfolding acceptedRule
     length-judged = pass _ _ _ sheet-fits (pass _ _ _ method-fits (judged ∙ ap (lengthRule mostSteps) is))
 
-    pub too-long : (number place : ℕ) → j ≡ judgement.Refused number place → refusal number place ≡ answer accepted (count′ ∷ [])
-    too-long number place e = answer-refused _ _ number place (told-refused j _ number place length-judged e)
+    pub too-long : (number place : ℕ) → j ≡ judgement.Refused number place → refused number place ≡ accepted
+    too-long number place e = told-refused j _ number place length-judged e
 
     pub all-accepted : j ≡ judgement.Fine → done (n ∷ []) ≡ answer accepted (count′ ∷ [])
     all-accepted e = ap (λ (m : ℕ). done (m ∷ [])) is ∙ answer-done _ _ (told-fine j _ length-judged e)

@@ -1,4 +1,3 @@
-pub mod Method
 pub mod Fits
 pub mod ByMethod
 pub mod Right

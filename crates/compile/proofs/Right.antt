@@ -10,7 +10,7 @@ use Rattle.straus.proofs.Straus.{straus-right}
 use Rattle.yao.proofs.Yao.{yao-right}
 use Rattle.partition.proofs.Right.{partition-right}
 use Rattle.compile.specs.Compile.{methodOf}
-use Rattle.compile.proofs.Fits.{Fits}
+use Rattle.parameters.proofs.Fits.{Fits}
 use Rattle.compile.proofs.ByMethod.{is-straus, is-yao, is-partition}
 
 pub compiled-right : (p q : ℕ) (amounts : List ℕ) (method k : ℕ) → ((j : ℕ) → getD amounts j 0 ≤ mostAmount) → Fits p method k

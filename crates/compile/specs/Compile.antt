@@ -1,7 +1,7 @@
 -- Compile (Spec 3, 7.1): from a sheet to a chain by a method's number and its parameter.
-use mathlib.Core.Bool.{Bool, true, cond}
+use mathlib.Core.Bool.{cond}
 use mathlib.Core.List.{List, [], _∷_}
-use Prim.Native.Nat.{ℕ, _*_, _/_}
+use Prim.Native.Nat.{ℕ, _/_}
 use lib.ListN.{length}
 use Rattle.chain.specs.Tests.{_<?_, _=?_, _or_}
 use Rattle.chain.specs.Verdict.{Verdict, _then_, refuseIf, Answer, answer, onFine}
@@ -9,26 +9,12 @@ use Rattle.chain.specs.Written.{over}
 use Rattle.chain.specs.Chain.{Chain, mostSteps, flat, lengthRule}
 use Rattle.sheet.specs.Sheet.{sheetRule}
 use Rattle.methods.specs.Method.{Method}
-use Rattle.straus.specs.Straus.{strausMost, strausMostBits, strausMethod}
-use Rattle.yao.specs.Yao.{yaoMost, yaoMethod}
-use Rattle.groups.specs.Groups.{mostMembers}
+use Rattle.straus.specs.Straus.{strausMethod}
+use Rattle.yao.specs.Yao.{yaoMethod}
 use Rattle.partition.specs.Method.{partitionMethod}
+use Rattle.parameters.specs.Parameters.{methodRule}
 
--- the parameter is outside lowest .. highest
-abbrev pub outside : ℕ → ℕ → ℕ → Bool
-outside lowest highest k = k <? lowest or highest <? k
-
--- Spec 3: refusal 3, by the table of methods and their ranges
-unfoldable pub methodRule : ℕ → ℕ → ℕ → Verdict
-methodRule p method k =
-    refuseIf
-    (cond (method =? 1) (outside 1 strausMost k or strausMostBits <? p * k)
-    (cond (method =? 2) (outside 1 yaoMost k)
-    (cond (method =? 3) (outside 1 mostMembers k)
-    true)))
-    3 0
-
--- the method of a number, for a sheet and a parameter; the rule above lets no number but 1, 2 and 3 pass
+-- the method of a number, for a sheet and a parameter; `methodRule` lets no number but 1, 2 and 3 pass
 unfoldable pub methodOf : ℕ → ℕ → List ℕ → ℕ → ℕ → Method
 methodOf p q amounts method k =
     cond (method =? 1) (strausMethod p q amounts k)

@@ -1,1 +1,2 @@
 pub mod Compile
+pub mod Inner

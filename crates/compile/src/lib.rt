@@ -4,53 +4,57 @@ ghost use mathlib.Core.List.{[], _∷_};
 ghost use Prim.Native.Nat.{_*_, _/_, _≤_};
 ghost use lib.ListN.{length};
 ghost use Rattle.chain.specs.Chain.{mostColumns};
-ghost use Rattle.chain.specs.Judgement.{verdictOf};
 ghost use Rattle.chain.specs.Verdict.{fine, answer};
 ghost use Rattle.sheet.specs.Sheet.{sheetRule};
 ghost use Rattle.methods.specs.Inner.{ChainStored};
-ghost use Rattle.compile.specs.Compile.{methodRule, chainOf, count, acceptedRule, compileAnswer, compileSteps, compileOutputs};
+ghost use Rattle.parameters.specs.Parameters.{methodRule};
+ghost use Rattle.compile.specs.Compile.{chainOf, count, acceptedRule, compileAnswer, compileSteps, compileOutputs};
+ghost use Rattle.compile.specs.Inner.{MeasuredFor};
 ghost use Rattle.answers.specs.Answers.{compiledOf};
 use answers::Compiled;
 use chain::Judgement;
 
-// 3: the number of a method, and its own range of parameters.
-fn judge_method(p: usize, method: usize, k: usize) -> Judgement
-    requires { ⌜ p ≤ mostColumns ⌝ }
-    ensures { λ r. ⌜ verdictOf r ≡ methodRule p method k ⌝ }
+// The largest amount of each column, for the methods that go by it: all but Straus.
+fn measure(p: usize, q: usize, amounts: &[u32], method: usize, largest: &mut [u32])
+    requires { ⌜ (p ≤ length (now largest)) × (length (now amounts) ≡ p * q) ⌝ }
+    ensures { λ r. ⌜ MeasuredFor method p q (now (amounts .entry)) (now (largest .exit)) ⌝ }
 {
-    match method {
-        1 => match k {
-            1..=5 => {
-                if 10 < p * k {
-                    return Judgement::Refused(3, 0);
-                }
-                Judgement::Fine
-            }
-            _ => Judgement::Refused(3, 0),
-        },
-        2 | 3 => match k {
-            1..=8 => Judgement::Fine,
-            _ => Judgement::Refused(3, 0),
-        },
-        _ => Judgement::Refused(3, 0),
+    if method != 1 {
+        measuring::measure_columns(p, q, amounts, largest);
     }
 }
 
 // The number of steps of the chain, by its method.
-fn step_count(p: usize, q: usize, amounts: &[u32], method: usize, k: usize) -> usize
-    requires { ⌜ (sheetRule p q (now amounts) ≡ fine) × (methodRule p method k ≡ fine) ⌝ }
+fn step_count(
+    p: usize,
+    q: usize,
+    amounts: &[u32],
+    method: usize,
+    k: usize,
+    largest: &[u32],
+) -> usize
+    requires { ⌜ (sheetRule p q (now amounts) ≡ fine) × (methodRule p method k ≡ fine) × MeasuredFor method p q (now amounts) (now largest) ⌝ }
     ensures { λ r. ⌜ r ≡ count p q (now (amounts .entry)) method k ⌝ }
 {
     match method {
-        1 => straus::count(p, q, amounts, k),
-        2 => yao::count(p, q, amounts, k),
-        _ => partition::count(p, q, amounts, k),
+        1 => straus_count::count(p, q, amounts, k),
+        2 => yao_count::count(p, q, amounts, k, largest),
+        _ => partition_count::count(p, q, amounts, k, largest),
     }
 }
 
-// 1, 2, 3, 4: the number of steps where the sheet, the method and the parameter are accepted together.
-fn judge_accepted(p: usize, q: usize, amounts: &[u32], method: usize, k: usize) -> Compiled
+// 1, 2, 3, 4: the number of steps where the sheet, the method and the parameter are accepted together; then the columns are measured too.
+fn judge_accepted(
+    p: usize,
+    q: usize,
+    amounts: &[u32],
+    method: usize,
+    k: usize,
+    largest: &mut [u32],
+) -> Compiled
+    requires { ⌜ mostColumns ≤ length (now largest) ⌝ }
     ensures { λ r. ⌜ compiledOf r ≡ answer (acceptedRule p q (now (amounts .entry)) method k) (count p q (now (amounts .entry)) method k ∷ []) ⌝ }
+    ensures { λ r. ⌜ (acceptedRule p q (now (amounts .entry)) method k ≡ fine → MeasuredFor method p q (now (amounts .entry)) (now (largest .exit))) ⌝ }
 {
     match sheet::judge_sheet(p, q, amounts) {
         Judgement::Refused(number, place) => {
@@ -58,13 +62,14 @@ fn judge_accepted(p: usize, q: usize, amounts: &[u32], method: usize, k: usize) 
         }
         Judgement::Fine => {}
     }
-    match judge_method(p, method, k) {
+    match parameters::judge_method(p, method, k) {
         Judgement::Refused(number, place) => {
             return Compiled::Refused(number, place);
         }
         Judgement::Fine => {}
     }
-    let n = step_count(p, q, amounts, method, k);
+    measure(p, q, amounts, method, largest);
+    let n = step_count(p, q, amounts, method, k, largest);
     match shape::judge_length(chain::MOST_STEPS, n) {
         Judgement::Refused(number, place) => Compiled::Refused(number, place),
         Judgement::Fine => Compiled::Steps(n),
@@ -78,18 +83,19 @@ fn emit(
     amounts: &[u32],
     method: usize,
     k: usize,
+    largest: &[u32],
     steps: &mut [u32],
     outputs: &mut [u32],
 )
-    requires { ⌜ acceptedRule p q (now amounts) method k ≡ fine ⌝ }
+    requires { ⌜ (acceptedRule p q (now amounts) method k ≡ fine) × MeasuredFor method p q (now amounts) (now largest) ⌝ }
     requires { ⌜ (2 * count p q (now amounts) method k ≤ length (now steps)) × (q ≤ length (now outputs)) ⌝ }
     ensures { λ r. ⌜ ChainStored (now (steps .entry)) (now (outputs .entry)) (now (steps .exit)) (now (outputs .exit))
         (chainOf p q (now (amounts .entry)) method k) ⌝ }
 {
     match method {
-        1 => straus::emit(p, q, amounts, k, steps, outputs),
-        2 => yao::emit(p, q, amounts, k, steps, outputs),
-        _ => partition::emit(p, q, amounts, k, steps, outputs),
+        1 => straus_emit::emit(p, q, amounts, k, steps, outputs),
+        2 => yao_emit::emit(p, q, amounts, k, largest, steps, outputs),
+        _ => partition_emit::emit(p, q, amounts, k, largest, steps, outputs),
     }
 }
 
@@ -107,7 +113,8 @@ pub fn compile(
     ensures { λ r. ⌜ now (steps .exit) ≡ compileSteps p q (now (amounts .entry)) method k (length (now (outputs .entry))) (now (steps .entry)) ⌝ }
     ensures { λ r. ⌜ now (outputs .exit) ≡ compileOutputs p q (now (amounts .entry)) method k (length (now (steps .entry)) / 2) (now (outputs .entry)) ⌝ }
 {
-    match judge_accepted(p, q, amounts, method, k) {
+    let mut largest = [0u32; chain::MOST_COLUMNS];
+    match judge_accepted(p, q, amounts, method, k, &mut largest) {
         Compiled::Refused(number, place) => Compiled::Refused(number, place),
         Compiled::Steps(n) => {
             if steps.len() / 2 < n {
@@ -116,7 +123,7 @@ pub fn compile(
             if outputs.len() < q {
                 return Compiled::Refused(5, 0);
             }
-            emit(p, q, amounts, method, k, steps, outputs);
+            emit(p, q, amounts, method, k, &largest, steps, outputs);
             Compiled::Steps(n)
         }
     }

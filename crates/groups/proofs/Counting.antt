@@ -8,24 +8,11 @@ use native.Mathlib.Nat.{mul-comm, mul-le-mul-right, mul-le-mul-left, div-add-mod
 use native.Mathlib.Omega.{arith}
 use lib.ListN.{length, getD}
 use lib.Pow.{pow-mono}
-use Rattle.digits.specs.Digits.{bitLength, digitCount}
 use Rattle.digits.specs.Range.{sumTo}
 use Rattle.digits.proofs.Range.{sum-on, sum-low}
-use Rattle.digits.proofs.Count.{low-bits}
-use Rattle.methods.specs.Powers.{largestIn}
-use Rattle.groups.specs.Groups.{columnBits, groupCeiling, groupCount, groupSize, mostInputs, mostMembers, tablesCount}
+use Rattle.groups.specs.Groups.{groupCeiling, groupCount, groupSize, mostInputs, mostMembers, tablesCount}
 use Rattle.groups.specs.Inner.{bitsLess}
 use Rattle.groups.proofs.Groups.{inputs-below}
-
--- a column's bits, x being its largest amount
-module _ (p q : ℕ) (amounts : List ℕ) (col x b : ℕ) (is : x ≡ largestIn p q amounts col) (e : b ≡ digitCount 1 x) where
-  pub bits-told : b ≡ columnBits p q amounts col
-  unfolding columnBits bitLength
-  bits-told = e ∙ ap (digitCount 1) is
-
-  pub bits-narrow : x < 2 ^ 32 → b ≤ 32
-  unfolding bitLength
-  bits-narrow low = let few : bitLength x ≤ 32 = low-bits x 32 low in omega arith
 
 -- the bits of the first n columns of a slice, less some each
 abbrev pub lessTo : List ℕ → ℕ → ℕ → ℕ

@@ -7,5 +7,4 @@ pub mod Prepared
 pub mod Counting
 pub mod Squarings
 pub mod Numbering
-pub mod Rows
 pub mod Measured

@@ -7,24 +7,26 @@ use native.Mathlib.Omega.{arith}
 use lib.ListN.{length, getD, take, List·getD-eq-default}
 use Rattle.chain.specs.Written.{over}
 use Rattle.chain.proofs.Written.{take-over}
+use Rattle.digits.specs.Digits.{bitLength, digitCount}
 use Rattle.digits.specs.Range.{sumTo, listTo}
 use Rattle.digits.proofs.Range.{sum-same}
 use Rattle.methods.specs.Powers.{countsOf, squarings, powerAt, powerOf}
-use Rattle.methods.specs.Inner.{Asked}
+use Rattle.methods.specs.Inner.{SheetSized, Largest, digitsAt}
 use Rattle.methods.proofs.Columns.{squarings-same}
+use Rattle.measuring.proofs.Columns.{digits-low}
 use Rattle.methods.proofs.Filling.{filled-front, filled-length}
 use Rattle.groups.specs.declared.Grouping.{Grouping}
 use Rattle.chain.specs.Chain.{mostColumns, mostSteps}
 use Rattle.chain.specs.declared.Step.{Step}
 use Rattle.products.specs.Inner.{StepsStored, StepsRoom}
-use Rattle.digits.proofs.Listed.{getD-list, length-list}
+use Rattle.digits.proofs.Listed.{getD-list, length-list, list-same}
 use Rattle.groups.specs.Groups.{columnBits, columnSquarings, group, groupCount, groupTables, inputCount, inputs, mostInputs}
 use Rattle.groups.specs.Groups.{mostMembers, overInputs, selection, sheetSquarings, sheetTables, weigh}
-use Rattle.groups.specs.Inner.{Bounded, Grouped, GroupedFor, GroupsMade, GroupsRoom, Narrow, bitInputs, bitSquarings, bitTables}
+use Rattle.groups.specs.Inner.{Bounded, Grouped, GroupedBy, GroupedFor, GroupsMade, GroupsRoom, Narrow, bitInputs, bitSquarings, bitTables}
 use Rattle.groups.specs.Inner.{bitsLess, partNumbers}
-use Rattle.groups.proofs.Counting.{groups-few, lessTo}
+use Rattle.groups.proofs.Counting.{lessTo}
 use Rattle.groups.proofs.Inputs.{over-same}
-use Rattle.groups.proofs.Members.{column-bits, members-count}
+use Rattle.groups.proofs.Members.{members-count}
 
 -- the columns' bits in a slice
 module _ (p q : ℕ) (amounts bits : List ℕ) (is : bits ≡ listTo p (columnBits p q amounts)) where
@@ -40,54 +42,70 @@ module _ (p q : ℕ) (amounts bits : List ℕ) (is : bits ≡ listTo p (columnBi
   pub bits-sum : sumTo (length bits) (countsOf bits) ≡ inputCount p q amounts
   bits-sum = ap (λ (n : ℕ). sumTo n (countsOf bits)) bits-long ∙ sum-same p _ _ bits-at
 
-  pub bits-low : ((j : ℕ) → getD amounts j 0 < 2 ^ 32) → (col : ℕ) → getD bits col 0 ≤ 32
-  bits-low low col = by-place (decLt col p)
-    where
-      by-place : Dec (col < p) → getD bits col 0 ≤ 32
-      by-place (yes lt) = rw (bits-at col lt) (column-bits p q amounts (λ j. omega (arith, low j)) col)
-      by-place (no ge) = rw (List·getD-eq-default bits 0 {n = col} (omega (arith, bits-long))) (omega arith)
-
--- the cells that a sheet's columns are measured into
-module _ (p q : ℕ) (amounts old cells : List ℕ) (e : cells ≡ over (listTo p (columnBits p q amounts)) old) where
-  measured : take p cells ≡ listTo p (columnBits p q amounts)
-  measured = filled-front (columnBits p q amounts) old p cells e
+-- the cells that columns with these largest amounts are measured into
+module _ (p : ℕ) (largest old cells : List ℕ) (e : cells ≡ over (listTo p (digitsAt 1 largest)) old) where
+  measured : take p cells ≡ listTo p (digitsAt 1 largest)
+  measured = filled-front (digitsAt 1 largest) old p cells e
 
   pub measured-long : p ≡ length (take p cells)
-  measured-long = filled-length (columnBits p q amounts) old p cells e
+  measured-long = filled-length (digitsAt 1 largest) old p cells e
 
-  pub measured-narrow : p ≤ mostColumns → ((j : ℕ) → getD amounts j 0 < 2 ^ 32) → Narrow (take p cells)
-  measured-narrow h low = record { columns = omega (arith, measured-long); each = bits-low p q amounts (take p cells) measured low }
+  pub measured-narrow : p ≤ mostColumns → ((col : ℕ) → getD largest col 0 < 2 ^ 32) → Narrow (take p cells)
+  measured-narrow h low = record { columns = omega (arith, measured-long); each = λ col. by-place col (decLt col p) }
+    where
+      by-place : (col : ℕ) → Dec (col < p) → getD (take p cells) col 0 ≤ 32
+      by-place col (yes lt) = rw (measured, getD-list p (digitsAt 1 largest) col lt) (digits-low 1 (getD largest col 0) _ (omega arith) (low col) refl)
+      by-place col (no ge) = rw (List·getD-eq-default (take p cells) 0 {n = col} (omega (arith, measured-long))) (omega arith)
 
--- a sheet's grouping, from what its columns add up to
-pub sheet-grouped : (s : Grouping) (amounts old cells : List ℕ) → Asked mostMembers (s .p) (s .q) amounts (s .c)
-    → cells ≡ over (listTo (s .p) (columnBits (s .p) (s .q) amounts)) old
+-- their grouping, from what their bits add up to
+pub columns-grouped : (s : Grouping) (largest old cells : List ℕ) → s .p ≤ mostColumns → 1 ≤ s .c → s .c ≤ mostMembers
+    → cells ≡ over (listTo (s .p) (digitsAt 1 largest)) old
     → Bounded (s .inputs) (lessTo (take (s .p) cells) 0 (length (take (s .p) cells))) mostInputs
     → Bounded (s .groups) (groupCount (s .c) (s .inputs)) mostInputs
     → Bounded (s .squarings) (lessTo (take (s .p) cells) 1 (length (take (s .p) cells))) mostInputs
-    → GroupedFor (s .p) (s .q) amounts (s .c) (take (s .p) cells) s
-sheet-grouped s amounts old cells asked e w G n =
-    let is = measured (s .p) (s .q) amounts old cells e in
+    → GroupedBy (s .p) (s .q) (s .c) largest (take (s .p) cells) s
+columns-grouped s largest old cells columns some few e w G n =
     record {
-      grouped =
+      cuts =
           record {
-            cuts =
-                record {
-                  columns = asked .sheet .p-low;
-                  some = asked .k-some;
-                  few = asked .k-low;
-                  groups-are = G .is;
-                  inputs-few = w .low;
-                  groups-few = G .low;
-                  squarings-few = n .low;
-                };
-            sheet = asked .sheet;
-            bits-are = is;
-            inputs-are = less-told (s .p) (s .q) amounts (take (s .p) cells) is 0 (s .inputs) (w .is) ∙ sum-same (s .p) _ _ (λ col h. omega arith);
-            squarings-are = less-told (s .p) (s .q) amounts (take (s .p) cells) is 1 (s .squarings) (n .is);
+            columns = columns;
+            some = some;
+            few = few;
+            groups-are = G .is;
+            inputs-few = w .low;
+            groups-few = G .low;
+            squarings-few = n .low;
           };
+      bits-are = measured (s .p) largest old cells e;
+      inputs-are = w .is;
+      squarings-are = n .is;
       same-p = refl;
       same-q = refl;
       same-c = refl;
+    }
+
+-- a sheet's largest amounts have its columns' bits
+sheet-bits : {p q : ℕ} {amounts largest bits : List ℕ} → Largest p q amounts largest → bits ≡ listTo p (digitsAt 1 largest) → bits ≡ listTo p (columnBits p q amounts)
+unfolding columnBits bitLength
+sheet-bits {p} {q} {amounts} {largest} l e = e ∙ list-same p (digitsAt 1 largest) (columnBits p q amounts) (λ col h. ap (digitCount 1) (l .are col h))
+
+-- so the grouping of its columns is the sheet's
+pub sheet-grouped : {p q : ℕ} {amounts : List ℕ} {c : ℕ} {largest bits : List ℕ} {s : Grouping} → SheetSized p q amounts → Largest p q amounts largest
+    → GroupedBy p q c largest bits s → GroupedFor p q amounts c bits s
+sheet-grouped {p} {q} {amounts} {c} {largest} {bits} {s} sized l b =
+    let is = sheet-bits l (b .bits-are) in
+    record {
+      grouped =
+          record {
+            cuts = b .cuts;
+            sheet = rw (b .same-p, b .same-q) sized;
+            bits-are = rw (b .same-p, b .same-q) is;
+            inputs-are = rw (b .same-p, b .same-q) (less-told p q amounts bits is 0 (s .inputs) (b .inputs-are) ∙ sum-same p _ _ (λ col h. omega arith));
+            squarings-are = rw (b .same-p, b .same-q) (less-told p q amounts bits is 1 (s .squarings) (b .squarings-are));
+          };
+      same-p = b .same-p;
+      same-q = b .same-q;
+      same-c = b .same-c;
     }
 
 -- its columns, payslips and parameter are those given

@@ -1,17 +1,15 @@
--- Inner vocabulary: what the functions of this crate and of `subsets` ask and leave; nobody has to believe it to believe an entry point's promise.
+-- Inner vocabulary: what the functions of method 3 ask and leave; nobody has to believe it to believe an entry point's promise.
 use mathlib.Core.Path.{_≡_}
 use mathlib.Core.List.{List}
-use Prim.Native.Nat.{ℕ, _+_, _-_, _*_, _/_, _^_, _≤_, _<_}
+use Prim.Native.Nat.{ℕ, _+_, _-_, _*_, _^_, _≤_, _<_}
 use lib.ListN.{length, getD}
 use Rattle.chain.specs.Chain.{mostColumns, mostSteps}
-use Rattle.chain.specs.Written.{over, laid}
-use Rattle.digits.specs.Digits.{digit}
+use Rattle.chain.specs.Written.{over}
 use Rattle.digits.specs.Range.{sumTo, listTo}
 use Rattle.products.specs.Inner.{stepsIn, StepsRoom, StepsStored}
-use Rattle.methods.specs.Inner.{SheetSized}
+use Rattle.methods.specs.Inner.{SheetSized, digitsAt}
 use Rattle.methods.specs.Powers.{countsOf, squarings, powerOf}
 use Rattle.groups.specs.declared.Grouping.{Grouping}
-use Rattle.groups.specs.declared.Row.{Row}
 use Rattle.chain.specs.declared.Step.{Step}
 use Rattle.groups.specs.Groups.{columnBits, group, groupCount, groupTables, inputCount, mostInputs, mostMembers, overInputs}
 use Rattle.groups.specs.Groups.{selection, squaringCount, weigh}
@@ -47,6 +45,16 @@ pub record Cuts (s : Grouping) : Type 0 where
   pub groups-few : s .groups ≤ mostInputs
   pub squarings-few : s .squarings ≤ mostInputs
 
+-- they are those of columns with these largest amounts and bits
+pub record GroupedBy (p q c : ℕ) (largest bits : List ℕ) (s : Grouping) : Type 0 where
+  pub cuts : Cuts s
+  pub bits-are : bits ≡ listTo p (digitsAt 1 largest)
+  pub inputs-are : s .inputs ≡ sumTo (length bits) (bitsLess bits 0)
+  pub squarings-are : s .squarings ≡ sumTo (length bits) (bitsLess bits 1)
+  pub same-p : s .p ≡ p
+  pub same-q : s .q ≡ q
+  pub same-c : s .c ≡ c
+
 -- they are those of a sheet, whose columns have these bits
 pub record Grouped (s : Grouping) (amounts bits : List ℕ) : Type 0 where
   pub cuts : Cuts s
@@ -62,22 +70,6 @@ pub record GroupedFor (p q : ℕ) (amounts : List ℕ) (c : ℕ) (bits : List �
   pub same-q : s .q ≡ q
   pub same-c : s .c ≡ c
 
--- the number of n bits of a list from place s on, the first with weight 1
-abbrev pub numberAt : List ℕ → ℕ → ℕ → ℕ
-numberAt l s n = sumTo n (λ j. getD l (s + j) 0 * 2 ^ (1 * j))
-
--- parts of c bits are cut off the front of a row, which is left shorter, and laid from its next part's cell on
-pub record Cut (c : ℕ) (row left : Row) (old cells : List ℕ) : Type 0 where
-  pub onward : row .g ≤ left .g
-  pub held-less : left .held + (left .g - row .g) * c ≡ row .held
-  pub rest : left .bits ≡ row .bits / 2 ^ (c * (left .g - row .g))
-  pub parts-are : cells ≡ laid (row .g) (listTo (left .g - row .g) (digit c (row .bits))) old
-
--- as many parts as there are
-pub record CutUp (c : ℕ) (row left : Row) (old cells : List ℕ) : Type 0 where
-  pub short : left .held < c
-  pub cut : Cut c row left old cells
-
 -- the numbers of the first n parts that a list of bits is cut into
 abbrev pub numbersOf : ℕ → ℕ → List ℕ → List ℕ
 numbersOf c n l = listTo n (λ g. weigh (group c g l))
@@ -85,13 +77,6 @@ numbersOf c n l = listTo n (λ g. weigh (group c g l))
 -- those of payslip i
 abbrev pub partNumbers : Grouping → List ℕ → ℕ → List ℕ
 partNumbers s amounts i = numbersOf (s .c) (s .groups) (selection (s .p) (s .q) amounts i)
-
--- the bits of the first n columns of payslip i are entered: the whole parts are laid, and the others are left in the row
-pub record Entered (s : Grouping) (amounts : List ℕ) (i n : ℕ) (row : Row) (old cells : List ℕ) : Type 0 where
-  pub place : row .held + row .g * s .c ≡ sumTo n (columnBits (s .p) (s .q) amounts)
-  pub short : row .held < s .c
-  pub waiting : row .bits ≡ numberAt (selection (s .p) (s .q) amounts i) (row .g * s .c) (row .held)
-  pub parts-are : cells ≡ over (numbersOf (s .c) (row .g) (selection (s .p) (s .q) amounts i)) old
 
 -- a payslip of a grouped sheet, and a cell for each of its parts
 pub record PartsRoom (s : Grouping) (amounts bits : List ℕ) (i : ℕ) (cells : List ℕ) : Type 0 where

@@ -1,40 +1,18 @@
--- The largest amount grows payslip by payslip, and the squarings column by column: each column's are appended to those before it.
+-- The squarings grow column by column: each column's are appended to those before it.
 use mathlib.Core.Path.{_≡_, refl, ap, _∙_}
 use mathlib.Core.List.{List}
-use Prim.Native.Nat.{ℕ, zero, suc, _+_, _≤_, _<_, max}
+use Prim.Native.Nat.{ℕ, zero, suc, _+_, _≤_, _<_}
 use native.Mathlib.Numerals.{add-one}
 use native.Mathlib.Omega.{arith}
 use lib.ListN.{length, getD}
 use Rattle.chain.specs.declared.Step.{Step}
 use Rattle.chain.proofs.Rules.{eq-yes, eq-no}
-use Rattle.digits.specs.Range.{maxTo}
-use Rattle.sheet.specs.Sheet.{amount}
 use Rattle.products.specs.Product.{made, squared}
-use Rattle.methods.specs.Powers.{largestIn, countsOf, squarings, powerAt}
+use Rattle.methods.specs.Powers.{countsOf, squarings, powerAt}
 use Rattle.products.specs.Inner.{stepsIn, StepsRoom, StepsStored, Emitted}
 use Rattle.products.proofs.Sound.{Begins, begins-rise}
 use Rattle.products.proofs.Product.{squared-begins}
 use Rattle.products.proofs.Emitted.{stored-own, emits-room, emits-on}
-
--- the largest amount of column c over the first i payslips
-unfoldable pub largestTo : ℕ → List ℕ → ℕ → ℕ → ℕ
-largestTo p amounts c i = maxTo i (λ j. amount p amounts j c)
-
-module _ (p : ℕ) (amounts : List ℕ) (c : ℕ) where
-  pub column-start : 0 ≡ largestTo p amounts c 0
-  unfolding largestTo
-  column-start = refl
-
-  pub column-on : (i most x next : ℕ) → most ≡ largestTo p amounts c i → x ≡ amount p amounts i c → next ≡ max most x → next ≡ largestTo p amounts c (i + 1)
-  unfolding largestTo
-  column-on i most x next e f g =
-      rw (add-one i) (g ∙ ap (λ (y : ℕ). max y x) e ∙ ap (max (largestTo p amounts c i)) f)
-
-  pub column-end : (q i most : ℕ) → i ≤ q → q ≤ i → most ≡ largestTo p amounts c i → most ≡ largestIn p q amounts c
-  unfolding largestTo
-  column-end q i most h g e = let last : q ≡ i = omega arith in rw last e
-
-pub ruleset finding-largest = (column-start, column-on, column-end)
 
 -- the number of a power: the base itself, or one of the values made
 module _ (c first j : ℕ) where

@@ -4,11 +4,11 @@ use mathlib.Core.List.{List, [], _∷_, _++_}
 use Prim.Native.Nat.{ℕ, _+_, _≤_, _<_}
 use native.Mathlib.Numerals.{add-one}
 use native.Mathlib.Omega.{arith}
-use lib.ListN.{length, take, set}
+use lib.ListN.{length, getD, take, set}
 use Rattle.chain.specs.Written.{over}
-use Rattle.chain.proofs.Written.{take-over, over-next}
+use Rattle.chain.proofs.Written.{take-over, over-next, over-getD}
 use Rattle.digits.specs.Range.{listTo}
-use Rattle.digits.proofs.Listed.{length-list}
+use Rattle.digits.proofs.Listed.{length-list, getD-list}
 use Rattle.methods.proofs.Paying.{over-none}
 
 module _ (f : ℕ → ℕ) (old : List ℕ) where
@@ -30,6 +30,9 @@ module _ (f : ℕ → ℕ) (old : List ℕ) where
 
   -- read back from the front
   module _ (n : ℕ) (cells : List ℕ) (e : cells ≡ over (listTo n f) old) where
+    pub filled-at : (c : ℕ) → c < n → getD cells c 0 ≡ f c
+    filled-at c h = ap (λ (l : List ℕ). getD l c 0) e ∙ over-getD (listTo n f) old c (omega (arith, length-list n f)) ∙ getD-list n f c h
+
     pub filled-front : take n cells ≡ listTo n f
     filled-front = ap (take n) e ∙ take-over n (listTo n f) old (length-list n f)
 

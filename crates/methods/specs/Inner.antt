@@ -1,10 +1,12 @@
 -- Inner vocabulary: what the functions of every method ask and leave; nobody has to believe it to believe an entry point's promise.
 use mathlib.Core.Path.{_≡_}
 use mathlib.Core.List.{List}
-use Prim.Native.Nat.{ℕ, _*_, _≤_}
-use lib.ListN.{length}
+use Prim.Native.Nat.{ℕ, _*_, _≤_, _<_}
+use lib.ListN.{length, getD}
 use Rattle.chain.specs.Chain.{Chain, mostColumns, mostPayslips, mostSteps, flat}
 use Rattle.chain.specs.Written.{over}
+use Rattle.digits.specs.Digits.{digitCount}
+use Rattle.methods.specs.Powers.{largestIn}
 
 -- a sheet whose sizes keep to their ranges
 pub record SheetSized (p q : ℕ) (amounts : List ℕ) : Type 0 where
@@ -18,6 +20,15 @@ pub record Asked (most p q : ℕ) (amounts : List ℕ) (k : ℕ) : Type 0 where
   pub sheet : SheetSized p q amounts
   pub k-some : 1 ≤ k
   pub k-low : k ≤ most
+
+-- cells that hold the largest amount of each column
+pub record Largest (p q : ℕ) (amounts cells : List ℕ) : Type 0 where
+  pub there : p ≤ length cells
+  pub are : (c : ℕ) → c < p → getD cells c 0 ≡ largestIn p q amounts c
+
+-- the digits of one of some numbers in base 2^k
+abbrev pub digitsAt : ℕ → List ℕ → ℕ → ℕ
+digitsAt k numbers c = digitCount k (getD numbers c 0)
 
 -- room for a chain of so many steps with q outputs, which is not too long
 pub record ChainRoom (q count : ℕ) (steps outputs : List ℕ) : Type 0 where

@@ -1,25 +1,11 @@
-// What the methods share: the largest amount of a column, and the powers of the bases.
+// What the methods share: powers of the bases.
 ghost use mathlib.Core.Path.{_≡_};
-ghost use Prim.Native.Nat.{_+_, _*_, _^_, _≤_, _<_};
+ghost use Prim.Native.Nat.{_+_, _^_, _≤_, _<_};
 ghost use lib.ListN.{length};
 ghost use Rattle.chain.specs.Chain.{mostColumns};
 ghost use Rattle.products.specs.Inner.{StepsRoom, StepsStored};
-ghost use Rattle.methods.specs.Powers.{largestIn, countsOf, squarings, powerAt};
+ghost use Rattle.methods.specs.Powers.{countsOf, squarings, powerAt};
 use products::PartialProduct;
-
-// The largest amount of column c over all payslips.
-pub fn largest_in(p: usize, q: usize, amounts: &[u32], c: usize) -> u32
-    requires { ⌜ (c < p) × (length (now amounts) ≡ p * q) ⌝ }
-    ensures { λ r. ⌜ r ≡ largestIn p q (now (amounts .entry)) c ⌝ }
-{
-    let mut most: u32 = 0;
-    let mut i: usize = 0;
-    while i < q {
-        most = digits::larger(most, sheet::amount(p, amounts, i, c));
-        i += 1;
-    }
-    most
-}
 
 // The value number of the base of column c after j squarings, which are made after value first.
 pub fn power_at(c: usize, first: usize, j: usize) -> u32

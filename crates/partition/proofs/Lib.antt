@@ -2,7 +2,4 @@ pub mod Parts
 pub mod Partition
 pub mod Ceiling
 pub mod Zero
-pub mod Joining
-pub mod Paying
-pub mod Whole
 pub mod Right

@@ -1,3 +1,2 @@
 pub mod Partition
-pub mod Inner
 pub mod Method

@@ -10,7 +10,8 @@ use Rattle.chain.specs.Chain.{Chain, flat}
 use Rattle.verify.specs.Verify.{verifyRule}
 use Rattle.layout.specs.Layout.{edition1}
 use Rattle.layout.specs.File.{fileOf, stepsOf, outputsOf, readRule}
-use Rattle.compile.specs.Compile.{methodRule, chainOf, count, ceiling}
+use Rattle.parameters.specs.Parameters.{methodRule}
+use Rattle.compile.specs.Compile.{chainOf, count, ceiling}
 use Rattle.trials.specs.Rows.{Row, _gives_, Holds, rows-hold, same, definitions}
 
 -- a code where something is wrong

@@ -3,6 +3,4 @@ pub mod Horner
 pub mod Payslip
 pub mod Zero
 pub mod Straus
-pub mod Counting
-pub mod Emitting
-pub mod Whole
+pub mod Overlaying

@@ -9,7 +9,3 @@ pub record PayslipAsked (p : ℕ) (amounts : List ℕ) (k i : ℕ) : Type 0 wher
   pub k-some : 0 < k
   pub k-low : k < 32
   pub vectors-low : p + k * p < 32
-
--- the most steps that a payslip takes: its squarings are below 32, and so are its other steps
-abbrev pub strausPayslipMost : ℕ
-strausPayslipMost = 62

@@ -1,2 +1,1 @@
-pub mod Tabling
-pub mod Making
+pub mod Places

@@ -23,7 +23,8 @@ use Rattle.straus.specs.Straus.{strausDigits, straus, strausCount, strausCeilin
 use Rattle.yao.specs.Yao.{yaoDigits, gatherOne, yao, yaoCount, yaoCeiling}
 use Rattle.groups.specs.Groups.{columnBits, inputs, selection}
 use Rattle.partition.specs.Partition.{partition, partitionCount, partitionCeiling}
-use Rattle.compile.specs.Compile.{methodRule, methodOf, acceptedRule, compileRule, compileAnswer, compileSteps, compileOutputs}
+use Rattle.parameters.specs.Parameters.{methodRule}
+use Rattle.compile.specs.Compile.{methodOf, acceptedRule, compileRule, compileAnswer, compileSteps, compileOutputs}
 use Rattle.choose.specs.Choose.{fileRule, better, unless, chooseRule, choice}
 use Rattle.answers.specs.Answers.{Choice, first, second, neither}
 use Rattle.decimal.specs.Decimal.{decimal}

@@ -5,8 +5,4 @@ pub mod Cost
 pub mod Zero
 pub mod Payslip
 pub mod Yao
-pub mod Counting
-pub mod Emitting
-pub mod Paying
-pub mod Whole
 pub mod Measuring

@@ -1,91 +1,71 @@
--- The columns' digits are stored once and read again: the squarings by the cells are those of the definition, in their sum and one by one.
-use mathlib.Core.Path.{_≡_, subst, ap, _∙_}
+-- A column's digits are those of its largest amount, and few; stored and read again they give the squarings of the definition, one by one and in their sum.
+use mathlib.Core.Path.{_≡_, sym, ap, _∙_}
 use mathlib.Core.List.{List}
-use Prim.Native.Nat.{ℕ, _+_, _-_, _*_, _≤_, _<_}
-use native.Mathlib.Nat.{mul-one, mul-le-mul-left}
+use Prim.Native.Nat.{ℕ, zero, suc, _+_, _-_, _*_, _^_, _≤_, _<_}
+use native.Mathlib.Nat.{mul-suc, mul-comm, zero-mul, mul-le-mul-left}
 use native.Mathlib.Decide.{decLt}
+use native.Mathlib.Numerals.{sub-one}
 use native.Mathlib.Omega.{arith}
-use lib.ListN.{length, getD, set, length-set}
-use lib.Seq.{getD-set-same, getD-set-other}
-use Rattle.chain.specs.Chain.{mostColumns}
+use lib.ListN.{length, getD}
+use lib.Pow.{pow-mono}
+use Rattle.digits.specs.Digits.{digitCount}
+use Rattle.chain.specs.Written.{over}
 use Rattle.digits.specs.Range.{sumTo, listTo}
-use Rattle.digits.proofs.Range.{sum-same, sum-on}
-use Rattle.digits.proofs.Listed.{length-list, getD-list}
-use Rattle.methods.specs.Powers.{countsOf, squarings}
-use Rattle.methods.proofs.Columns.{squarings-same}
+use Rattle.digits.proofs.Count.{count-high}
+use Rattle.digits.proofs.Range.{sum-same}
+use Rattle.methods.specs.Inner.{Largest, digitsAt}
+use Rattle.methods.proofs.Filling.{filled-at}
 use Rattle.yao.specs.Yao.{yaoDigits, yaoSquarings}
-use Rattle.yao.specs.Inner.{DigitsFew, Measured, squaringsIn}
-use Rattle.yao.proofs.Counting.{squarings-few}
+use Rattle.yao.specs.Inner.{DigitsFew, Measured, squaringsIn, squaringsMost}
 
--- a column's digits are few
-pub digits-word : (k d : ℕ) → 0 < k → k * d ≤ 31 + k → d < 64
-digits-word k d some room = omega (arith, squarings-few k d room, mul-le-mul-left (d - 1) some, mul-one (d - 1))
+-- a number of 32 bits has no digit that begins past them
+pub digits-few : (k x r : ℕ) → 0 < k → x < 2 ^ 32 → r ≡ digitCount k x → k * r ≤ 31 + k
+digits-few k x zero some low e = omega arith
+digits-few k x (suc r) some low e = by-place (decLt (k * r) 32)
+  where
+    by-place : Dec (k * r < 32) → k * suc r ≤ 31 + k
+    by-place (yes lt) = omega (arith, mul-suc k r)
+    by-place (no ge) =
+        let high = count-high k some x r (omega arith) in
+        let wide : 2 ^ 32 ≤ 2 ^ (k * r) = pow-mono {i = 32} (omega arith) in
+        absurd (omega arith)
 
--- measured one after the other
-module _ (p q : ℕ) (amounts : List ℕ) (k : ℕ) (cells : List ℕ) where
-  pub measured-none : Measured p q amounts k 0 cells
-  measured-none = record { narrow = record { there = omega arith; few = λ c h. absurd (omega arith) }; are = λ c h. absurd (omega arith) }
+-- each digit begins within them
+pub digit-place : (k j digits : ℕ) → 0 < k → j < digits → k * digits ≤ 31 + k → k * j < 32
+digit-place k j digits some h room = omega (arith, mul-le-mul-left k h, mul-suc k j)
 
-  pub measured-on : (c d : ℕ) → Measured p q amounts k c cells → c < length cells → d ≡ yaoDigits p q amounts k c → k * d ≤ 31 + k
-      → Measured p q amounts k (c + 1) (set cells c d)
-  measured-on c d m there is low =
-      record {
-        narrow = record { there = omega (arith, length-set cells c d); few = λ b h. each-few b (decLt b c) h };
-        are = λ b h. each-is b (decLt b c) h;
-      }
-    where
-      each-is : (b : ℕ) → Dec (b < c) → b < c + 1 → getD (set cells c d) b 0 ≡ yaoDigits p q amounts k b
-      each-is b (yes lt) h = getD-set-other cells c b d 0 (omega arith) ∙ m .are b lt
-      each-is b (no ge) h =
-          let last : b ≡ c = omega arith in
-          rw last (getD-set-same cells c d 0 there ∙ is)
+-- the squarings of a column
+pub squarings-none : (digits k : ℕ) → digits ≡ 0 → 0 ≡ (digits - 1) * k
+squarings-none digits k e = rw e (sym (zero-mul k))
 
-      each-few : (b : ℕ) → Dec (b < c) → b < c + 1 → k * getD (set cells c d) b 0 ≤ 31 + k
-      each-few b (yes lt) h = rw (getD-set-other cells c b d 0 (omega arith)) (m .narrow .few b lt)
-      each-few b (no ge) h =
-          let last : b ≡ c = omega arith in
-          rw (last, getD-set-same cells c d 0 there) low
+pub squarings-few : (k digits : ℕ) → k * digits ≤ 31 + k → (digits - 1) * k ≤ squaringsMost
+squarings-few k zero h = rw (zero-mul k) (omega arith)
+squarings-few k (suc d) h = rw (sub-one (suc d)) (omega (arith, mul-suc k d, mul-comm k d))
 
-  pub measured-end : (c : ℕ) → c ≤ p → p ≤ c → Measured p q amounts k c cells → Measured p q amounts k p cells
-  measured-end c h g m =
-      let last : c ≡ p = omega arith in
-      subst (λ (n : ℕ). Measured p q amounts k n cells) last m
+-- the digits of the largest amounts, which are numbers of 32 bits, are the columns'
+pub columns-measured : (p q : ℕ) (amounts : List ℕ) (k : ℕ) (largest old cells : List ℕ) → 0 < k → ((c : ℕ) → getD largest c 0 < 2 ^ 32)
+    → Largest p q amounts largest → p ≤ length cells → cells ≡ over (listTo p (digitsAt k largest)) old → Measured p q amounts k cells
+unfolding yaoDigits
+columns-measured p q amounts k largest old cells some low l room e =
+    record {
+      narrow = record { there = room; few = λ c h. digits-few k (getD largest c 0) (getD cells c 0) some (low c) (at c h) };
+      are = λ c h. at c h ∙ ap (digitCount k) (l .are c h);
+    }
+  where
+    at : (c : ℕ) → c < p → getD cells c 0 ≡ digitCount k (getD largest c 0)
+    at = filled-at (digitsAt k largest) old p cells e
 
 -- read again
 pub column-few : (k n : ℕ) (cells : List ℕ) (c : ℕ) → DigitsFew k n cells → c < n → k * getD cells c 0 ≤ 31 + k
 column-few k n cells c few less = few .few c less
 
--- the squarings of the columns so far, by the cells
-module _ (k : ℕ) (cells : List ℕ) where
-  pub squarings-on : (n c r : ℕ) → r ≡ (getD cells c 0 - 1) * k → n ≡ sumTo c (squaringsIn k cells) → n + r ≡ sumTo (c + 1) (squaringsIn k cells)
-  squarings-on n c r is e = sum-on (squaringsIn k cells) c n r is e
-
-  pub squarings-end : (p n c : ℕ) → c ≤ p → p ≤ c → n ≡ sumTo c (squaringsIn k cells) → n ≡ sumTo p (squaringsIn k cells)
-  squarings-end p n c h g e =
-      let last : c ≡ p = omega arith in
-      e ∙ ap (λ (m : ℕ). sumTo m (squaringsIn k cells)) last
-
-module _ (p q : ℕ) (amounts : List ℕ) (k : ℕ) (cells : List ℕ) (m : Measured p q amounts k p cells) where
+module _ (p q : ℕ) (amounts : List ℕ) (k : ℕ) (cells : List ℕ) (m : Measured p q amounts k cells) where
   pub column-is : (c : ℕ) → c < p → getD cells c 0 ≡ yaoDigits p q amounts k c
   column-is = m .are
 
   -- they are those of the definition
-  squarings-are : (c : ℕ) → c < p → squaringsIn k cells c ≡ yaoSquarings p q amounts k c
+  pub squarings-are : (c : ℕ) → c < p → squaringsIn k cells c ≡ yaoSquarings p q amounts k c
   squarings-are c h = ap (λ (d : ℕ). (d - 1) * k) (m .are c h)
 
   pub squarings-sum : sumTo p (squaringsIn k cells) ≡ sumTo p (yaoSquarings p q amounts k)
   squarings-sum = sum-same p (squaringsIn k cells) (yaoSquarings p q amounts k) squarings-are
-
-  -- as the bases are squared by them
-  module _ (counts : List ℕ) (is : counts ≡ listTo p (squaringsIn k cells)) where
-    counts-length : length counts ≡ p
-    counts-length = ap length is ∙ length-list p (squaringsIn k cells)
-
-    pub counts-few : p ≤ mostColumns → length counts ≤ mostColumns
-    counts-few columns = omega (arith, counts-length)
-
-    pub squared-as : squarings p (countsOf counts) (length counts) ≡ squarings p (yaoSquarings p q amounts k) p
-    squared-as =
-        ap (squarings p (countsOf counts)) counts-length
-        ∙ squarings-same p (countsOf counts) (yaoSquarings p q amounts k) p
-        (λ c h. ap (λ (l : List ℕ). getD l c 0) is ∙ getD-list p (squaringsIn k cells) c h ∙ squarings-are c h)

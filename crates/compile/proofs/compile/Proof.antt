@@ -8,6 +8,9 @@ use Rattle.compile.proofs.Answers.{compile-refused, was-accepted, was-c
 use Rattle.compile.proofs.compile.Statement.{statement}
 use Rattle.compile.proofs.compile.Tie as tie
 
+slice-aggregate-judge-accepted : tie.Need-slice-aggregate-judge-accepted
+slice-aggregate-judge-accepted c = search needs
+
 judge-accepted-requires : tie.Need-judge-accepted-requires
 judge-accepted-requires c κs = search needs
 
@@ -20,33 +23,37 @@ enum-known-n c = search needs
 returns : tie.Need-returns
 returns c =
     let n = c .before .before in
-    let j = n .before .before in
-    let a = j .before .before .before .before .args in
-    few-pairs (a .p) (a .q) (now (a .amounts)) (a .method) (a .k) _ (j .judge-accepted .ensures) (now (a .steps)) (now (a .outputs)) _ (n .n .given .1) (c .if1 .taken)
+    let j = n .before .before .before in
+    let a = j .before .before .before .before .before .args in
+    few-pairs (a .p) (a .q) (now (a .amounts)) (a .method) (a .k) _ (j .judge-accepted .ensures .0) (now (a .steps)) (now (a .outputs)) _ (n .n .given .1) (c .if1 .taken)
 
 returns-2 : tie.Need-returns-2
 returns-2 c =
     let n = c .before .before .before in
-    let j = n .before .before in
-    let a = j .before .before .before .before .args in
-    few-outputs (a .p) (a .q) (now (a .amounts)) (a .method) (a .k) _ (j .judge-accepted .ensures) (now (a .steps)) (now (a .outputs)) _ (n .n .given .1) (c .if2 .taken)
+    let j = n .before .before .before in
+    let a = j .before .before .before .before .before .args in
+    few-outputs (a .p) (a .q) (now (a .amounts)) (a .method) (a .k) _ (j .judge-accepted .ensures .0) (now (a .steps)) (now (a .outputs)) _ (n .n .given .1) (c .if2 .taken)
+
+slice-aggregate-emit : tie.Need-slice-aggregate-emit
+slice-aggregate-emit c = search needs
 
 emit-requires : tie.Need-emit-requires
 emit-requires c κs =
-    let e = c .before .before in
+    let e = c .before .before .before in
     let n = e .before .before .before in
-    let j = n .before .before in
-    let counted = was-counted _ _ _ _ _ _ (j .judge-accepted .ensures) [] [] _ (n .n .given .1) in (
-      sym (was-accepted _ _ _ _ _ _ (j .judge-accepted .ensures) [] [] _ (n .n .given .1)),
+    let j = n .before .before .before in
+    let counted = was-counted _ _ _ _ _ _ (j .judge-accepted .ensures .0) [] [] _ (n .n .given .1) in
+    let fits = sym (was-accepted _ _ _ _ _ _ (j .judge-accepted .ensures .0) [] [] _ (n .n .given .1)) in (
+      (fits, j .judge-accepted .ensures .1 fits),
       (omega (arith, counted, e .before .if1 .left), e .if2 .left),
     )
 
 returns-3 : tie.Need-returns-3
 returns-3 c =
     let n = c .before in
-    let j = n .before .before in
-    let a = j .before .before .before .before .args in
-    compile-refused (a .p) (a .q) (now (a .amounts)) (a .method) (a .k) _ (j .judge-accepted .ensures) (now (a .steps)) (now (a .outputs)) _ _ (n .number .given .1)
+    let j = n .before .before .before in
+    let a = j .before .before .before .before .before .args in
+    compile-refused (a .p) (a .q) (now (a .amounts)) (a .method) (a .k) _ (j .judge-accepted .ensures .0) (now (a .steps)) (now (a .outputs)) _ _ (n .number .given .1)
 
 same-length : tie.Need-same-length
 same-length c = search needs
@@ -57,22 +64,24 @@ same-length-2 c = search needs
 returns-4 : tie.Need-returns-4
 returns-4 c =
     let w = c .before .before .before .before in
-    let e = w .before .before .before in
+    let e = w .before .before .before .before in
     let n = e .before .before .before in
-    let j = n .before .before in
-    let a = j .before .before .before .before .args in
-    compiled (a .p) (a .q) (now (a .amounts)) (a .method) (a .k) _ (j .judge-accepted .ensures) (now (a .steps)) (now (a .outputs)) _ (n .n .given .1)
+    let j = n .before .before .before in
+    let a = j .before .before .before .before .before .args in
+    compiled (a .p) (a .q) (now (a .amounts)) (a .method) (a .k) _ (j .judge-accepted .ensures .0) (now (a .steps)) (now (a .outputs)) _ (n .n .given .1)
     (e .before .if1 .left) (e .if2 .left) _ _ (w .emit .ensures)
 
 pub compile-spec : {M : Type 1} → statement M
 compile-spec =
     tie.close
     (tie.spec
+    slice-aggregate-judge-accepted
     judge-accepted-requires
     enum-known-number
     enum-known-n
     returns
     returns-2
+    slice-aggregate-emit
     emit-requires
     returns-3
     same-length

@@ -13,7 +13,7 @@ use Rattle.compile.proofs.emit.Tie as tie
 
 -- what the caller promises: the sheet, the method and the parameter are accepted, and there is room for the method's chain
 given : (s : tie.Start) → Accepted (s .args .p) (s .args .q) (now (s .args .amounts)) (s .args .method) (s .args .k)
-given s = accepted _ _ _ _ _ (s .pre .0)
+given s = accepted _ _ _ _ _ (s .pre .0 .0)
 
 room : (s : tie.Start) (m : Method) → methodOf (s .args .p) (s .args .q) (now (s .args .amounts)) (s .args .method) (s .args .k) ≡ m
     → ChainRoom (s .args .q) (m .count) (now (s .args .steps)) (now (s .args .outputs))
@@ -23,18 +23,18 @@ room s m is =
 
 emit-requires : tie.Need-emit-requires
 emit-requires c κs =
-    let s = c .before .before .before .before .before .before in
+    let s = c .before .before .before .before .before .before .before in
     (first-asks (given s .ranges) (omega arith), room s _ (is-straus _ _ _ _ _ (omega arith)))
 
 emit-requires-2 : tie.Need-emit-requires-2
 emit-requires-2 c κs =
-    let s = c .before .before .before .before .before .before in
-    (other-asks (given s .ranges) (λ e. omega arith), room s _ (is-yao _ _ _ _ _ (omega arith)))
+    let s = c .before .before .before .before .before .before .before in
+    (other-asks (given s .ranges) (λ e. omega arith), (s .pre .0 .1 .columns (λ e. omega arith), room s _ (is-yao _ _ _ _ _ (omega arith))))
 
 emit-requires-3 : tie.Need-emit-requires-3
 emit-requires-3 c κs =
-    let s = c .before .before .before .before .before .before in
-    (other-asks (given s .ranges) (λ e. omega arith), room s _ (is-partition _ _ _ _ _ (λ e. omega arith) (λ e. omega arith)))
+    let s = c .before .before .before .before .before .before .before in
+    (other-asks (given s .ranges) (λ e. omega arith), (s .pre .0 .1 .columns (λ e. omega arith), room s _ (is-partition _ _ _ _ _ (λ e. omega arith) (λ e. omega arith))))
 
 same-length : tie.Need-same-length
 same-length c = search needs

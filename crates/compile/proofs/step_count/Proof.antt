@@ -12,13 +12,17 @@ given : (s : tie.Start) → InRange (s .args .p) (s .args .q) (now (s .args .amo
 given s = in-range _ _ _ _ _ (s .pre .0) (s .pre .1)
 
 count-requires : tie.Need-count-requires
-count-requires c κs = first-asks (given (c .before .before)) (omega arith)
+count-requires c κs = first-asks (given (c .before .before .before)) (omega arith)
 
 count-requires-2 : tie.Need-count-requires-2
-count-requires-2 c κs = other-asks (given (c .before .before)) (λ e. omega arith)
+count-requires-2 c κs =
+    let s = c .before .before .before in
+    (other-asks (given s) (λ e. omega arith), s .pre .2 .columns (λ e. omega arith))
 
 count-requires-3 : tie.Need-count-requires-3
-count-requires-3 c κs = other-asks (given (c .before .before)) (λ e. omega arith)
+count-requires-3 c κs =
+    let s = c .before .before .before in
+    (other-asks (given s) (λ e. omega arith), s .pre .2 .columns (λ e. omega arith))
 
 returns : tie.Need-returns
 returns c = c .count .ensures ∙ sym (same-count (is-straus _ _ _ _ _ (omega arith)))

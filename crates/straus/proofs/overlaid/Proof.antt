@@ -2,7 +2,7 @@
 use borrow.Author.Needs.{needs}
 use mathlib.Core.Path.{_≡_}
 use Prim.Native.Nat.{_≤_, _-_}
-use Rattle.straus.proofs.Counting.{overlaidTo, overlaying}
+use Rattle.straus.proofs.Overlaying.{overlaidTo, overlaying}
 use Rattle.straus.proofs.overlaid.Statement.{statement}
 use Rattle.straus.proofs.overlaid.Tie as tie
 

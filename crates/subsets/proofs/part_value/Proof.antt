@@ -2,7 +2,7 @@
 use borrow.Author.Needs.{fits-under, needs}
 use native.Mathlib.Omega.{arith}
 use Rattle.groups.proofs.Counting.{group-inside}
-use Rattle.subsets.proofs.Tabling.{ends, ends-few, entry-low, entry-number, entry-told, number-fits, partsEnd, product-fits, sum-fits}
+use Rattle.subsets.proofs.Places.{ends, ends-few, entry-low, entry-number, entry-told, number-fits, partsEnd, product-fits, sum-fits}
 use Rattle.subsets.proofs.part_value.Statement.{statement}
 use Rattle.subsets.proofs.part_value.Tie as tie
 

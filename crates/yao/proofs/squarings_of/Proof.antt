@@ -1,7 +1,7 @@
 -- The two cases of the definition; the digits begin within 32 bits, so the squarings are few.
 use borrow.Author.Needs.{needs, fits-under}
 use native.Mathlib.Omega.{arith}
-use Rattle.yao.proofs.Counting.{squarings-none, squarings-few}
+use Rattle.yao.proofs.Measuring.{squarings-none, squarings-few}
 use Rattle.yao.proofs.squarings_of.Statement.{statement}
 use Rattle.yao.proofs.squarings_of.Tie as tie
 

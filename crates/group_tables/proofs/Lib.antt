@@ -1,0 +1,2 @@
+pub mod Tabling
+pub mod Making

@@ -1,0 +1,69 @@
+-- The steps of a payslip are counted by the signs of its parts' numbers, one less than they add up to; the payslips' are added up.
+use mathlib.Core.Path.{_≡_, sym, ap, ap₂, _∙_}
+use mathlib.Core.List.{List}
+use Prim.Native.Nat.{ℕ, _+_, _-_, _≤_}
+use native.Mathlib.Omega.{arith}
+use lib.ListN.{length, getD, take}
+use Rattle.chain.specs.Written.{over}
+use Rattle.digits.specs.Range.{sumTo, sign}
+use Rattle.digits.proofs.Range.{sum-on, sum-same, sign-low}
+use Rattle.groups.specs.declared.Grouping.{Grouping}
+use Rattle.groups.specs.Groups.{tablesCount}
+use Rattle.groups.specs.Inner.{Grouped, GroupedFor, partNumbers}
+use Rattle.groups.proofs.Measured.{as-given, grouped-count, numbers-at, numbers-long}
+use Rattle.partition.specs.Partition.{joinCount, partitionCount}
+
+-- how many parts are not empty, of the first n
+abbrev pub signsTo : List ℕ → ℕ → ℕ
+signsTo numbers n = sumTo n (λ g. sign (getD numbers g 0))
+
+pub signs-on : (numbers : List ℕ) (n g r : ℕ) → r ≡ sign (getD numbers g 0) → n ≡ signsTo numbers g → n + r ≡ signsTo numbers (g + 1)
+signs-on numbers n g r told e = sum-on (λ k. sign (getD numbers k 0)) g n r told e
+
+pub sign-added : (n g t r : ℕ) → r ≡ sign t → n ≤ g → n + r ≤ g + 1
+sign-added n g t r told h = omega (arith, sign-low t)
+
+-- after the last one
+module _ (numbers : List ℕ) (g n : ℕ) (h : g ≤ length numbers) (k : length numbers ≤ g) (e : n ≡ signsTo numbers g) where
+  joins-all : n ≡ signsTo numbers (length numbers)
+  joins-all = let last : length numbers ≡ g = omega arith in rw last e
+
+  pub joins-none : n ≡ 0 → 0 ≡ signsTo numbers (length numbers) - 1
+  joins-none z = omega (arith, joins-all)
+
+  pub joins-end : n - 1 ≡ signsTo numbers (length numbers) - 1
+  joins-end = ap (λ (m : ℕ). m - 1) joins-all
+
+-- the cells hold the numbers of payslip i's parts
+pub joins-told : (s : Grouping) (amounts : List ℕ) (i : ℕ) (old cells : List ℕ) → cells ≡ over (partNumbers s amounts i) old
+    → (r : ℕ) → r ≡ signsTo (take (s .groups) cells) (length (take (s .groups) cells)) - 1 → r ≡ joinCount (s .p) (s .q) amounts (s .c) (s .groups) i
+joins-told s amounts i old cells e r is =
+    is
+    ∙ ap (λ (n : ℕ). signsTo (take (s .groups) cells) n - 1) (sym (numbers-long s amounts i old cells e))
+    ∙ ap (λ (n : ℕ). n - 1) (sum-same (s .groups) _ _ (λ g h. ap sign (numbers-at s amounts i old cells e g h)))
+
+-- the payslips so far
+module _ (s : Grouping) (amounts : List ℕ) (n i : ℕ) where
+  abbrev each : ℕ → ℕ
+  each = joinCount (s .p) (s .q) amounts (s .c) (s .groups)
+
+  pub payslips-on : (r : ℕ) → n ≡ sumTo i each → r ≡ each i → n + r ≡ sumTo (i + 1) each
+  payslips-on r e is = sum-on each i n r is e
+
+  pub payslips-end : n ≡ sumTo i each → i ≤ s .q → s .q ≤ i → n ≡ sumTo (s .q) each
+  payslips-end e h g = let last : i ≡ s .q = omega arith in e ∙ ap (λ (m : ℕ). sumTo m each) last
+
+-- the squarings, the tables and the payslips of a grouped sheet
+pub count-all : (s : Grouping) (amounts bits : List ℕ) → Grouped s amounts bits → (b r : ℕ) → b ≡ tablesCount (s .c) (s .inputs) (s .groups)
+    → r ≡ sumTo (s .q) (joinCount (s .p) (s .q) amounts (s .c) (s .groups)) → s .squarings + b + r ≡ partitionCount (s .p) (s .q) amounts (s .c)
+unfolding partitionCount
+count-all s amounts bits grouped b r tables joins =
+    let G = grouped-count grouped in
+    ap₂ _+_
+    (ap₂ _+_ (grouped .squarings-are) (tables ∙ ap₂ (tablesCount (s .c)) (grouped .inputs-are) G))
+    (joins ∙ ap (λ (n : ℕ). sumTo (s .q) (joinCount (s .p) (s .q) amounts (s .c) n)) G)
+
+-- a sheet's grouping stands for what was given
+pub count-given : {p q : ℕ} {amounts : List ℕ} {c : ℕ} {bits : List ℕ} {s : Grouping} → GroupedFor p q amounts c bits s
+    → {r : ℕ} → r ≡ partitionCount (s .p) (s .q) amounts (s .c) → r ≡ partitionCount p q amounts c
+count-given {amounts = amounts} told e = e ∙ as-given (λ p q c. partitionCount p q amounts c) told

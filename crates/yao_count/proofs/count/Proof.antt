@@ -1,0 +1,27 @@
+-- The columns' digits are those of their largest amounts, and everything is counted from them.
+use borrow.Author.Needs.{needs}
+use Rattle.yao.proofs.Measuring.{columns-measured}
+use Rattle.yao_count.proofs.count.Statement.{statement}
+use Rattle.yao_count.proofs.count.Tie as tie
+
+slice-aggregate-measure-digits : tie.Need-slice-aggregate-measure-digits
+slice-aggregate-measure-digits c = search needs
+
+measure-digits-requires : tie.Need-measure-digits-requires
+measure-digits-requires c κs = search needs
+
+slice-aggregate-chain-count : tie.Need-slice-aggregate-chain-count
+slice-aggregate-chain-count c = search needs
+
+chain-count-requires : tie.Need-chain-count-requires
+chain-count-requires c κs =
+    let told = c .before .before in
+    let known = told .before .before in
+    let pre = known .before .before .pre in
+    (pre .0, columns-measured _ _ _ _ _ _ _ (search needs) (λ j. known .shared-slice-known2 .given j .fits) (pre .1) (search needs) (told .measure-digits .ensures))
+
+returns : tie.Need-returns
+returns c = search needs
+
+pub count-spec : {M : Type 1} → statement M
+count-spec = tie.close (tie.spec slice-aggregate-measure-digits measure-digits-requires slice-aggregate-chain-count chain-count-requires returns)

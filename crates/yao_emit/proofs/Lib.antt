@@ -1,0 +1,3 @@
+pub mod Emitting
+pub mod Paying
+pub mod Whole

@@ -1,3 +1,4 @@
 pub mod Flattening
 pub mod LocalArray
 pub mod TooLong
+pub mod Tasks

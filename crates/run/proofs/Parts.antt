@@ -1,13 +1,14 @@
 -- Run's order is its start, the steps, then its end: the rule taken apart where the steps begin and end.
 use mathlib.Core.Path.{_≡_, sym, ap, _∙_}
 use mathlib.Core.List.{List}
-use Prim.Native.Nat.{ℕ, _+_, _/_, _<_}
+use Prim.Native.Nat.{ℕ, _+_, _/_, _≤_, _<_}
 use native.Mathlib.Omega.{arith}
-use lib.ListN.{length}
+use lib.ListN.{length, getD}
 use Rattle.chain.specs.Verdict.{Verdict, fine, _then_}
 use Rattle.chain.specs.Chain.{mostSteps, pairs, shapeRule, stepsRule, outputsRule, chainRule}
 use Rattle.chain.specs.declared.Step.{Step}
-use Rattle.chain.proofs.Rules.{then-assoc, then-fine, refuseIf-fine, neither, not-eq, not-ne}
+use Rattle.chain.proofs.Rules.{then-assoc, then-fine, refuseIf-fine, neither, not-lt, not-eq, not-ne}
+use Rattle.chain.proofs.Outputs.{outputs-low}
 use Rattle.chain.proofs.Pairs.{length-pairs}
 use Rattle.chain.proofs.Sizes.{Shape, shape-fits}
 use Rattle.run.specs.Run.{runRule}
@@ -51,3 +52,17 @@ started p q n m bases e =
       modulus = omega arith;
       bases-are-p = not-ne (length bases) p (neither _ _ (refuseIf-fine _ 16 0 (c .1)) .0);
     }
+
+-- an end that is fine
+pub record Ended (p n : ℕ) (outputs : List ℕ) (room places : ℕ) : Type 0 where
+  pub outputs-within : (i : ℕ) → i < length outputs → getD outputs i 0 ≤ p + n
+  pub values-fit : p + n < room
+  pub figures-fit : length outputs ≤ places
+
+pub ended : (p n : ℕ) (outputs : List ℕ) (room places : ℕ) → endRule p n outputs room places ≡ fine → Ended p n outputs room places
+unfolding endRule
+ended p n outputs room places e =
+    let a = then-fine _ _ e in
+    let k = neither _ _ (refuseIf-fine _ 5 0 (a .1)) in
+    let room-ok = not-lt room (p + n + 1) (k .0) in
+    record { outputs-within = outputs-low (p + n) 1 outputs (a .0); values-fit = omega arith; figures-fit = not-lt _ _ (k .1) }

@@ -80,7 +80,7 @@ fn clear(n: usize, scratch: &mut [u32])
 }
 
 // The sum of two exponents, which 64 bits hold.
-fn plus(a: u32, b: u32) -> u64
+pub fn plus(a: u32, b: u32) -> u64
     ensures { λ r. ⌜ r ≡ a + b ⌝ }
 {
     (a as u64) + (b as u64)

@@ -1,4 +1,7 @@
+pub mod Again
 pub mod Flattening
+pub mod Folded
 pub mod LocalArray
-pub mod TooLong
+pub mod Machine
 pub mod Tasks
+pub mod TooLong

@@ -49,7 +49,7 @@ afterStep (Adding p) l i x =
 afterStep (Refused n s) l i x = left (Refused n s) l
 
 -- the first i steps, in order
-abbrev pub afterSteps : Task → List ℕ → List Step → ℕ → Left
+unfoldable pub afterSteps : Task → List ℕ → List Step → ℕ → Left
 afterSteps t l steps zero = left t l
 afterSteps t l steps (suc i) = afterStep (afterSteps t l steps i .task) (afterSteps t l steps i .cells) i (getD steps i (by 0 0))
 

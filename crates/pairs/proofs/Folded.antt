@@ -2,15 +2,17 @@
 use mathlib.Core.Path.{_≡_, refl, sym, ap, _∙_}
 use mathlib.Core.Bool.{Bool, true, false}
 use mathlib.Core.List.{List}
-use Prim.Native.Nat.{ℕ, zero, suc, _+_, _*_, _^_, _≤_, _<_, zero-le}
+use Prim.Native.Nat.{ℕ, zero, suc, _+_, _*_, _/_, _^_, _≤_, _<_, zero-le}
 use native.Mathlib.Nat.{le-refl}
 use native.Mathlib.Numerals.{add-one}
 use native.Mathlib.Omega.{arith}
 use lib.ListN.{length, getD, length-set}
 use Rattle.chain.specs.Tests.{_<?_}
 use Rattle.chain.specs.Verdict.{Verdict, fine, refused, onFine}
-use Rattle.chain.specs.Chain.{mostColumns, mostAmount, by, stepRule, stepsRule}
+use Rattle.chain.specs.Chain.{mostAmount, by, flat, stepRule, stepsRule}
+use Rattle.chain.specs.Inner.{stepAt}
 use Rattle.chain.specs.declared.Step.{Step}
+use Rattle.chain.proofs.Pairs.{getD-pairs, pairs-flat, length-flat}
 use Rattle.chain.proofs.Steps.{LegalStep, steps-legal}
 use Rattle.pairs.specs.Inner.{unless, left, summed, afterStep, afterSteps, Ready, Able}
 use Rattle.pairs.specs.declared.Task.{Task}
@@ -94,3 +96,16 @@ pub turns-few : (v : Verdict) (n : ℕ) → onFine v n 0 ≤ n
 unfolding onFine
 turns-few fine n = le-refl n
 turns-few (refused k s) n = zero-le
+
+-- a slice of steps is that of its flat list
+pub flat-half : (steps : List Step) → length (flat steps) / 2 ≡ length steps
+flat-half steps = omega (arith, length-flat steps)
+
+pub flat-step : (steps : List Step) (i : ℕ) → i < length steps → getD steps i (by 0 0) ≡ stepAt (flat steps) i
+unfolding stepAt
+flat-step steps i h = ap (λ (l : List Step). getD l i (by 0 0)) (sym (pairs-flat steps)) ∙ getD-pairs (flat steps) i (omega (arith, length-flat steps))
+
+-- a task that found something does nothing more
+pub none-gone : (n s k j : ℕ) (l : List ℕ) (steps : List Step) → afterSteps (Refused n s) l steps (onFine (refused k j) (length steps) 0) ≡ left (Refused n s) l
+unfolding onFine afterSteps
+none-gone n s k j l steps = refl

@@ -1,7 +1,10 @@
 pub mod Again
+pub mod Calls
 pub mod Flattening
 pub mod Folded
 pub mod LocalArray
 pub mod Machine
+pub mod Passes
+pub mod Running
 pub mod Tasks
 pub mod TooLong

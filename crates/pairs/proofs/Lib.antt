@@ -1,5 +1,6 @@
 pub mod Again
 pub mod Calls
+pub mod Facts
 pub mod Flattening
 pub mod Folded
 pub mod LocalArray

@@ -103,3 +103,116 @@ module _ (p : ℕ) (l : List ℕ) (steps : List Step) where
         ∙ ap (left (Multiplying p m inverse))
         (fill-end (timesMod m) p (flat steps) (length steps) l _ (omega (arith, flat-half steps)) refl
         ∙ ap (λ (s : List Step). over (values (timesMod m) (take (p + 1) l) s) l) (pairs-flat steps))
+
+-- a whole run: `t` is the task and `l` the values, as each call leaves them
+module _ (p : ℕ) (steps : List Step) (outputs : List ℕ) (m : ℕ) (bases zs : List ℕ) (places : ℕ) where
+  abbrev opening : Verdict
+  opening = startRule p (length outputs) (length steps) m bases
+
+  abbrev rule : Verdict
+  rule = runRule p steps outputs m bases (length zs) places
+
+  abbrev Passed : Task → List ℕ → Task → List ℕ → Type 0
+  Passed t l t′ l′ = left t′ l′ ≡ afterSteps t l steps (onFine (foundBy t) (length steps) 0)
+
+  module _ (t₁ : Task) (opened : t₁ ≡ unless opening (Judging p)) where
+    pub open-able : (room : ℕ) → Able t₁ steps room
+    unfolding Able
+    open-able room = subst (λ (t : Task). Able t steps room) (sym opened) (by-verdict opening refl)
+      where
+        by-verdict : (v : Verdict) → opening ≡ v → Able (unless v (Judging p)) steps room
+        by-verdict fine e = started p (length outputs) (length steps) m bases e .shape .sizes .p-low
+        by-verdict (refused n s) e = tt
+
+    module _ (t₂ : Task) (l₂ : List ℕ) (passed : Passed t₁ zs t₂ l₂) where
+      judged-is : left t₂ l₂ ≡ left (unless (opening then stepsRule p 1 steps) (Judging p)) zs
+      judged-is = passed ∙ ap (λ (t : Task). afterSteps t zs steps (onFine (foundBy t) (length steps) 0)) opened ∙ judged p zs steps opening
+
+      found-is : foundBy t₂ ≡ (opening then stepsRule p 1 steps)
+      found-is = ap (λ (s : Left). foundBy (s .task)) judged-is ∙ found-unless (opening then stepsRule p 1 steps) (Judging p) refl
+
+      values-same : l₂ ≡ zs
+      values-same = ap (λ (s : Left). s .cells) judged-is
+
+      pub start-able : foundBy t₂ ≡ fine → RunAble p (length steps) m bases
+      start-able e =
+          let s = started p (length outputs) (length steps) m bases (then-fine opening (stepsRule p 1 steps) (sym found-is ∙ e) .0) in
+          record { columns = s .shape .sizes .p-low; few = s .shape .few; modulus = s .modulus; bases-are-p = s .bases-are-p }
+
+      rule-is : (foundBy t₂ then endRule p (length steps) outputs (length l₂) places) ≡ rule
+      rule-is =
+          ap₂ (λ (v : Verdict) (l : List ℕ). v then endRule p (length steps) outputs (length l) places) found-is values-same
+          ∙ then-assoc opening (stepsRule p 1 steps) (endRule p (length steps) outputs (length zs) places)
+          ∙ run-parts p steps outputs m bases (length zs) places
+
+      module _ (t₃ : Task) (l₃ : List ℕ) (begun : RunStarted (foundBy t₂ then endRule p (length steps) outputs (length l₂) places) p m bases l₂ l₃ t₃) where
+        task-is : t₃ ≡ unless rule (Multiplying p m (inverseOf m))
+        task-is = begun .task-is ∙ ap (λ (v : Verdict). unless v (Multiplying p m (inverseOf m))) rule-is
+
+        values-are : l₃ ≡ onFine rule (over (1 % m ∷ bases) zs) zs
+        values-are = begun .values-are ∙ ap₂ (λ (v : Verdict) (l : List ℕ). onFine v (over (1 % m ∷ bases) l) l) rule-is values-same
+
+        pub multiply-able : length l₃ ≡ length zs → Able t₃ steps (length l₃)
+        unfolding Able
+        multiply-able len = subst (λ (t : Task). Able t steps (length l₃)) (sym task-is) (by-verdict rule refl)
+          where
+            by-verdict : (v : Verdict) → rule ≡ v → Able (unless v (Multiplying p m (inverseOf m))) steps (length l₃)
+            by-verdict fine e =
+                let a = runnable p steps outputs m bases (length zs) places e in
+                (a .modulus, refl, a .steps-fine, omega (arith, a .values-fit))
+            by-verdict (refused n s) e = tt
+
+        module _ (len : length l₃ ≡ length zs) (t₄ : Task) (l₄ : List ℕ) (passed′ : Passed t₃ l₃ t₄ l₄) where
+          -- what was found, and the values where nothing was
+          gone-on : (v : Verdict) → rule ≡ v → (foundBy t₄ ≡ v) × (l₄ ≡ onFine v (over (residues m bases steps) zs) zs)
+          unfolding onFine
+          gone-on fine e =
+              let a = runnable p steps outputs m bases (length zs) places e in
+              let begins : t₃ ≡ Multiplying p m (inverseOf m) = task-is ∙ ap (λ (v : Verdict). unless v (Multiplying p m (inverseOf m))) e in
+              let front : l₃ ≡ over (1 % m ∷ bases) zs = values-are ∙ ap (λ (v : Verdict). onFine v (over (1 % m ∷ bases) zs) zs) e in
+              let done = passed′ ∙ ap (λ (t : Task). afterSteps t l₃ steps (onFine (foundBy t) (length steps) 0)) begins
+              ∙ multiplied p l₃ steps m (inverseOf m) (a .steps-fine) (omega (arith, a .values-fit)) in
+              (
+                ap (λ (s : Left). foundBy (s .task)) done,
+                fill-all p m bases steps zs l₃ l₄ (a .bases-are-p) front (ap (λ (s : Left). s .cells) done),
+              )
+          gone-on (refused n s) e =
+              let begins : t₃ ≡ Refused n s = task-is ∙ ap (λ (v : Verdict). unless v (Multiplying p m (inverseOf m))) e in
+              let front : l₃ ≡ zs = values-are ∙ ap (λ (v : Verdict). onFine v (over (1 % m ∷ bases) zs) zs) e in
+              let done = passed′ ∙ ap (λ (t : Task). afterSteps t l₃ steps (onFine (foundBy t) (length steps) 0)) begins ∙ none-gone n s n s l₃ steps in
+              (ap (λ (s : Left). foundBy (s .task)) done, ap (λ (s : Left). s .cells) done ∙ front)
+
+          found-all : foundBy t₄ ≡ rule
+          found-all = gone-on rule refl .0
+
+          pub values-all : l₄ ≡ runValues p steps outputs m bases places zs
+          unfolding runValues
+          values-all = gone-on rule refl .1
+
+          pub figures-able : length l₄ ≡ length zs → foundBy t₄ ≡ fine → FiguresAble outputs (length l₄) places
+          figures-able len₄ e =
+              let a = runnable p steps outputs m bases (length zs) places (sym found-all ∙ e) in
+              record { figures-fit = a .figures-fit; outputs-within = λ i h. omega (arith, a .outputs-within i h, a .values-fit, len₄) }
+
+          module _ (figures figures′ l₅ : List ℕ) (r : Answer) (places-are : length figures ≡ places)
+              (ended-so : RunEnded (foundBy t₄) (length steps) outputs l₄ l₅ figures figures′ r) where
+            pub ran-answer : r ≡ runAnswer p steps outputs m bases (length zs) places
+            unfolding runAnswer
+            ran-answer = ended-so .answered ∙ ap (λ (v : Verdict). answer v (length steps ∷ [])) found-all
+
+            pub ran-values : l₅ ≡ runValues p steps outputs m bases places zs
+            ran-values = ended-so .values-kept ∙ values-all
+
+            pub ran-figures : figures′ ≡ runFigures p steps outputs m bases (length zs) figures
+            unfolding runFigures onFine
+            ran-figures =
+                by-verdict rule refl
+                ∙ ap (λ (k : ℕ). onFine (runRule p steps outputs m bases (length zs) k) (over (pick (residues m bases steps) outputs) figures) figures) (sym places-are)
+              where
+                by-verdict : (v : Verdict) → rule ≡ v → figures′ ≡ onFine v (over (pick (residues m bases steps) outputs) figures) figures
+                by-verdict fine e =
+                    let a = runnable p steps outputs m bases (length zs) places e in
+                    show-all (residues m bases steps) zs l₄ outputs figures figures′ (gone-on fine e .1)
+                    (outputs-are-values p steps outputs m bases (length zs) places a)
+                    (ended-so .figures-are ∙ ap (λ (v : Verdict). onFine v (over (pick l₄ outputs) figures) figures) (found-all ∙ e))
+                by-verdict (refused n s) e = ended-so .figures-are ∙ ap (λ (v : Verdict). onFine v (over (pick l₄ outputs) figures) figures) (found-all ∙ e)

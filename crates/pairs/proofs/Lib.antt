@@ -1,11 +1,9 @@
 pub mod Again
 pub mod Calls
+pub mod Checking
 pub mod Facts
-pub mod Flattening
 pub mod Folded
-pub mod LocalArray
 pub mod Machine
 pub mod Passes
 pub mod Running
 pub mod Tasks
-pub mod TooLong

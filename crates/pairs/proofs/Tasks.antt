@@ -3,13 +3,15 @@ use mathlib.Core.Path.{_≡_, refl, sym, ap, _∙_}
 use mathlib.Core.List.{List, [], _∷_}
 use Prim.Native.Nat.{ℕ, _+_, _%_, _^_, _≤_, _<_}
 use lib.ListN.{getD, set}
-use Rattle.chain.specs.Verdict.{Verdict, fine, refused, done, refusal, onFine}
+use Rattle.chain.specs.Verdict.{Verdict, fine, refused, _then_, Answer, done, refusal, answer, onFine}
 use Rattle.chain.specs.Written.{over}
 use Rattle.chain.specs.Chain.{mostAmount, by, stepRule, pick}
-use Rattle.chain.proofs.Rules.{lt-yes, lt-no, answer-refused, answer-done, kept, renewed}
+use Rattle.chain.proofs.Rules.{lt-yes, lt-no, stop, pass, answer-refused, answer-done, kept, renewed}
 use Rattle.residue.specs.Residue.{timesMod}
 use Rattle.residue.specs.Inner.{inverseOf}
-use Rattle.pairs.specs.Inner.{foundBy, unless, left, afterStep, Ready, RunStarted, RunEnded}
+use Rattle.pairs.specs.Inner.{foundBy, unless, left, afterStep, Ready, RunStarted, RunEnded, placeIn, ColumnTaken, CheckEnded}
+use Rattle.verify.specs.Inner.{takenUp, foundIn, Finished}
+use Rattle.verify.specs.declared.Found.{Found}
 use Rattle.pairs.specs.declared.Task.{Task}
 use Rattle.pairs.specs.declared.Task.the-variants.{Judging, Multiplying, Adding, Refused}
 
@@ -73,6 +75,35 @@ module _ (v : Verdict) (n : ℕ) (outputs values old : List ℕ) where
   end-fine new e f = record { answered = answer-done v _ e; values-kept = refl; figures-are = renewed v _ old new e f }
 
 pub ruleset ending = (end-refused, end-fine)
+
+-- the place of what was found
+module _ (v : Verdict) where
+  pub place-refused : (n s : ℕ) → refused n s ≡ v → s ≡ placeIn v
+  place-refused n s e = ap placeIn e
+
+  pub place-fine : fine ≡ v → 0 ≡ placeIn v
+  place-fine e = ap placeIn e
+
+-- a column begun, and one taken up
+pub added-from : (p : ℕ) (l l′ : List ℕ) → l ≡ l′ → left (Adding p) l ≡ left (Adding p) l′
+added-from p l l′ e = ap (left (Adding p)) e
+
+pub column-taken : (f : Found) (place k p c : ℕ) (outputs amounts old : List ℕ) (r : Found) → k ≡ place → r ≡ takenUp f k p c amounts old outputs
+    → ColumnTaken f place p c outputs amounts old old r
+column-taken f place k p c outputs amounts old r e d =
+    record { found-is = d ∙ ap (λ (j : ℕ). takenUp f j p c amounts old outputs) e; scratch-kept = refl }
+
+-- a check that ends
+module _ (v : Verdict) (f : Found) (top : ℕ) (old : List ℕ) where
+  pub check-refused : (n s : ℕ) → refused n s ≡ v → CheckEnded v f top old old (refusal n s)
+  check-refused n s e = record { answered = answer-refused (v then foundIn f) [] n s (stop v (foundIn f) n s e); scratch-is = kept v _ old n s e }
+
+  pub check-finished : (new : List ℕ) (r : Answer) → fine ≡ v → Finished (foundIn f) top old new r → CheckEnded v f top old new r
+  check-finished new r e d =
+      record {
+        answered = d .answered ∙ ap (λ (w : Verdict). answer w []) (pass v (foundIn f) (foundIn f) e refl);
+        scratch-is = renewed v _ old new e (d .cleared);
+      }
 
 -- what a step asks
 module _ (t : Task) (i a b room : ℕ) where

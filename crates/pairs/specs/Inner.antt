@@ -3,14 +3,16 @@ use mathlib.Core.Path.{_≡_}
 use mathlib.Core.Bool.{Bool, true, false}
 use mathlib.Core.List.{List, [], _∷_}
 use Prim.Native.Nat.{ℕ, zero, suc, _+_, _%_, _^_, _≤_, _<_}
-use lib.ListN.{length, getD, set}
+use lib.ListN.{length, getD, set, replicate}
 use Rattle.chain.specs.Tests.{_<?_}
-use Rattle.chain.specs.Verdict.{Verdict, fine, refused, Answer, answer, onFine}
+use Rattle.chain.specs.Verdict.{Verdict, fine, refused, _then_, Answer, answer, onFine}
 use Rattle.chain.specs.Written.{over}
 use Rattle.chain.specs.Chain.{mostColumns, mostSteps, mostAmount, by, stepRule, stepsRule, pick}
 use Rattle.chain.specs.declared.Step.{Step}
 use Rattle.residue.specs.Residue.{timesMod}
 use Rattle.residue.specs.Inner.{inverseOf}
+use Rattle.verify.specs.Inner.{takenUp, foundIn}
+use Rattle.verify.specs.declared.Found.{Found}
 use Rattle.pairs.specs.declared.Task.{Task}
 use Rattle.pairs.specs.declared.Task.the-variants.{Judging, Multiplying, Adding, Refused}
 
@@ -91,3 +93,18 @@ pub record RunEnded (v : Verdict) (n : ℕ) (outputs values values′ old new : 
   pub answered : r ≡ answer v (n ∷ [])
   pub values-kept : values′ ≡ values
   pub figures-are : new ≡ onFine v (over (pick values outputs) old) old
+
+-- the place that a verdict tells, 0 for none
+abbrev pub placeIn : Verdict → ℕ
+placeIn fine = 0
+placeIn (refused n s) = s
+
+-- column c taken up, of which the sums gave a place; the scratch is only looked at
+pub record ColumnTaken (f : Found) (place p c : ℕ) (outputs amounts old new : List ℕ) (r : Found) : Type 0 where
+  pub found-is : r ≡ takenUp f place p c amounts old outputs
+  pub scratch-kept : new ≡ old
+
+-- a check that ends: where v is fine the cells below `top` are cleared, and what was found of the columns is told
+pub record CheckEnded (v : Verdict) (f : Found) (top : ℕ) (old new : List ℕ) (r : Answer) : Type 0 where
+  pub answered : r ≡ answer (v then foundIn f) []
+  pub scratch-is : new ≡ onFine v (over (replicate top 0) old) old

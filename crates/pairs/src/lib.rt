@@ -12,12 +12,15 @@ ghost use Rattle.run.specs.Run.{runAnswer, runValues, runFigures};
 ghost use Rattle.run.specs.Inner.{startRule, endRule};
 ghost use Rattle.answers.specs.Answers.{ranOf, verifiedOf};
 ghost use Rattle.verify.specs.Verify.{verifyAnswer, verifyScratch};
-ghost use Rattle.pairs.specs.declared.Task.the-variants.{Judging, Multiplying};
-ghost use Rattle.pairs.specs.Inner.{foundBy, unless, left, afterStep, afterSteps, Ready, Able, RunAble, RunStarted, FiguresAble, RunEnded};
+ghost use Rattle.verify.specs.Inner as verify;
+ghost use Rattle.verify.specs.Inner.{columnStart, Comparable};
+ghost use Rattle.pairs.specs.declared.Task.the-variants.{Judging, Adding};
+ghost use Rattle.pairs.specs.Inner.{foundBy, unless, left, afterStep, afterSteps, Ready, Able, RunAble, RunStarted, FiguresAble, RunEnded, placeIn, ColumnTaken, CheckEnded};
 use answers::Ran;
 use answers::Verified;
 use chain::Judgement;
 use chain::Step;
+use verify::Found;
 
 // What is done with each step: it is judged, or multiplied or added into the cell after those of the p + 1 first values and the steps before it. Once
 // something was found, that alone is kept and nothing is done any more.
@@ -157,25 +160,69 @@ fn run_end(
     }
 }
 
-// Two cells for each step, of one more than is legal: so the flat form itself refuses a chain that is too long.
-const CELLS: usize = 2 * (chain::MOST_STEPS + 1);
+// A check before its steps: they are to be judged.
+fn check_open(p: usize, q: usize, n: usize, amounts: &[u32]) -> Task
+    ensures { λ r. ⌜ r ≡ unless (verify.startRule p q n (now (amounts .entry))) (Judging p) ⌝ }
+{
+    unless(verify::judge_start(p, q, n, amounts), Task::Judging(p))
+}
 
-// The check of the first n steps that stand in the cells.
-fn verify_front(
+// A check once its steps are judged: where nothing is found, they are to be added in each column.
+fn check_start(task: Task, p: usize, n: usize, outputs: &[u32], scratch: usize) -> Task
+    requires { ⌜ (foundBy task ≡ fine → (p ≤ mostColumns) × (n ≤ mostSteps)) ⌝ }
+    ensures { λ r. ⌜ r ≡ unless (foundBy task then verify.endRule p n (now (outputs .entry)) scratch) (Adding p) ⌝ }
+{
+    match found(task) {
+        Judgement::Refused(number, place) => Task::Refused(number, place),
+        Judgement::Fine => unless(verify::judge_end(p, n, outputs, scratch), Task::Adding(p)),
+    }
+}
+
+// Column c begins: value 0 and the bases stand, and the steps are to be added.
+fn column_start(p: usize, c: usize, scratch: &mut [u32]) -> Task
+    requires { ⌜ (c < p) × (p < length (now scratch)) ⌝ }
+    ensures { λ r. ⌜ left r (now (scratch .exit)) ≡ left (Adding p) (columnStart p c (now (scratch .entry))) ⌝ }
+{
+    verify::start(p, c, scratch);
+    Task::Adding(p)
+}
+
+// The place of what a task has found, 0 for nothing.
+fn place_of(task: Task) -> usize
+    ensures { λ r. ⌜ r ≡ placeIn (foundBy task) ⌝ }
+{
+    match found(task) {
+        Judgement::Refused(number, place) => place,
+        Judgement::Fine => 0,
+    }
+}
+
+// Column c is taken up, whose sums a task has left in the scratch.
+fn column_end(
+    held: Found,
+    task: Task,
     p: usize,
-    cells: &[u32],
-    n: usize,
+    c: usize,
     outputs: &[u32],
     amounts: &[u32],
     scratch: &mut [u32],
-) -> Verified
-    requires { ⌜ 2 * n ≤ length (now cells) ⌝ }
-    ensures { λ r. ⌜ verifiedOf r ≡ verifyAnswer p (pairs (take (2 * n) (now (cells .entry)))) (now (outputs .entry))
-        (now (amounts .entry)) (length (now (scratch .entry))) ⌝ }
-    ensures { λ r. ⌜ now (scratch .exit) ≡ verifyScratch p (pairs (take (2 * n) (now (cells .entry)))) (now (outputs .entry))
-        (now (amounts .entry)) (now (scratch .entry)) ⌝ }
+) -> Found
+    requires { ⌜ Comparable p c (now outputs) (now amounts) (length (now scratch)) ⌝ }
+    ensures { λ r. ⌜ ColumnTaken held (placeIn (foundBy task)) p c (now (outputs .entry)) (now (amounts .entry)) (now (scratch .entry))
+        (now (scratch .exit)) r ⌝ }
 {
-    verify::verify(p, &cells[..2 * n], outputs, amounts, scratch)
+    verify::take_up(held, place_of(task), p, c, outputs, amounts, scratch)
+}
+
+// A check once all columns are held: the scratch is cleared where it was used, and the answer.
+fn check_end(task: Task, held: Found, p: usize, n: usize, scratch: &mut [u32]) -> Verified
+    requires { ⌜ (foundBy task ≡ fine → p + n < length (now scratch)) ⌝ }
+    ensures { λ r. ⌜ CheckEnded (foundBy task) held (p + n + 1) (now (scratch .entry)) (now (scratch .exit)) (verifiedOf r) ⌝ }
+{
+    match found(task) {
+        Judgement::Refused(number, place) => Verified::Refused(number, place),
+        Judgement::Fine => verify::finish(held, p + n + 1, scratch),
+    }
 }
 
 // The run of a chain that is lent as its steps.
@@ -216,7 +263,18 @@ pub fn verify_pairs(
     ensures { λ r. ⌜ now (scratch .exit)
         ≡ verifyScratch p (now (steps .entry)) (now (outputs .entry)) (now (amounts .entry)) (now (scratch .entry)) ⌝ }
 {
-    let mut cells = [0u32; CELLS];
-    let n = flatten::flatten_some(steps, &mut cells);
-    verify_front(p, &cells, n, outputs, amounts, scratch)
+    let n = steps.len();
+    let judging = check_open(p, outputs.len(), n, amounts);
+    let judged = pass(judging, steps, scratch);
+    let adding = check_start(judged, p, n, outputs, scratch.len());
+    let columns = turns(adding, p);
+    let mut held = Found { large: 0, other: 0 };
+    let mut c: usize = 0;
+    while c < columns {
+        let begun = column_start(p, c, scratch);
+        let added = pass(begun, steps, scratch);
+        held = column_end(held, added, p, c, outputs, amounts, scratch);
+        c += 1;
+    }
+    check_end(adding, held, p, n, scratch)
 }

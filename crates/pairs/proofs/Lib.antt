@@ -3,6 +3,7 @@ pub mod Calls
 pub mod Checking
 pub mod Facts
 pub mod Folded
+pub mod Judged
 pub mod Machine
 pub mod Passes
 pub mod Running

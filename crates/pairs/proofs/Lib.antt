@@ -1,6 +1,7 @@
 pub mod Again
 pub mod Calls
 pub mod Checking
+pub mod Counts
 pub mod Facts
 pub mod Folded
 pub mod Judged

@@ -297,7 +297,7 @@ module _ {M : Type 1} (𝓤 : URA M) (H : Heap 𝓤) (A : Atoms 𝓤) (W : Given
         -- [figures'; true; the values; bases'; outputs'; steps'; κ₄'s token; true; κ₃'s; κ₂'s; κ₁'s; κ's]
         keep ! (2 ∷ 8 ∷ 5 ∷ 11 ∷ 4 ∷ 10 ∷ 3 ∷ 9 ∷ 0 ∷ 6 ∷ []) $
         enter ! C Λ code.function args _ $
-        alloc1 ! (λ l₀. alloc1 ! (λ l₁. alloc1 ! (λ l₂. alloc1 ! (λ l₃. alloc1 ! (λ l₄. alloc1 ! (λ l₅. alloc1 ! (λ l₆. alloc1 ! (λ l₇. alloc1 ! (λ l₈. alloc1 ! (λ l₉. alloc1 ! (λ l₁₀. alloc1 ! (λ l₁₁. alloc1 ! (λ l₁₂. alloc1 ! (λ l₁₃. alloc1 ! (λ l₁₄. alloc1 ! (λ l₁₅. alloc1 ! (λ l₁₆. alloc1 ! (λ l₁₇. alloc1 ! (λ l₁₈. alloc1 ! (λ l₁₉. alloc1 ! (λ l₂₀. alloc1 ! (λ l₂₁. alloc1 ! (λ l₂₂. alloc1 ! (λ l₂₃. alloc0 ! $ params1 ! $
+        alloc1 ! (λ b₀. alloc1 ! (λ b₁. alloc1 ! (λ b₂. alloc1 ! (λ b₃. alloc1 ! (λ b₄. alloc1 ! (λ b₅. alloc1 ! (λ b₆. alloc1 ! (λ b₇. alloc1 ! (λ b₈. alloc1 ! (λ b₉. alloc1 ! (λ b₁₀. alloc1 ! (λ b₁₁. alloc1 ! (λ b₁₂. alloc1 ! (λ b₁₃. alloc1 ! (λ b₁₄. alloc1 ! (λ b₁₅. alloc1 ! (λ b₁₆. alloc1 ! (λ b₁₇. alloc1 ! (λ b₁₈. alloc1 ! (λ b₁₉. alloc1 ! (λ b₂₀. alloc1 ! (λ b₂₁. alloc1 ! (λ b₂₂. alloc1 ! (λ b₂₃. alloc0 ! $ params1 ! $
         pass1 ! (init ! 44 refl (tt, record { fits = p-fits })) $ pass1 ! (init ! 42 refl (tt, (tt, (record { fits = g .0 }, tt)))) $
         pass1 ! (init ! 40 refl (tt, (tt, (record { fits = g₁ .0 }, tt)))) $ pass1 ! (init ! 38 refl (tt, record { fits = m-fits })) $
         pass1 ! (init ! 36 refl (tt, (tt, (record { fits = g₂ .0 }, tt)))) $ pass1 ! (init ! 34 refl (tt, (tt, (record { fits = g₃ .0 }, tt)))) $
@@ -316,7 +316,7 @@ module _ {M : Type 1} (𝓤 : URA M) (H : Heap 𝓤) (A : Atoms 𝓤) (W : Given
         split ! $ move ! (1 ∷ []) $ use1 W (raw (fact 𝓤 (Opened t₁))) (said-open t₁) $ heard ! (Opened t₁) (λ opened.
         split ! $ move ! (1 ∷ []) $ peeks ! K.the-row (Is K.the-row) (shows 𝓤 H A K.the-row) t₁ (w ∷ []) (λ is.
         land ! (from ! (stop !)) (init ! 39 refl (EL.lawful K.the-type K′.the-laws 𝓤 H A W tt .typed t₁ _ is .0)) $
-        rewrite ! 39 (λ (u : Val). ‵ (fat fullShare K′.mir l₉ 0 u)) (task-told t₁ w is) refl $ dropᴷ ! $ split ! $ move ! (1 ∷ []) $ dropᴷ ! $
+        rewrite ! 39 (λ (u : Val). ‵ (fat fullShare K′.mir b₉ 0 u)) (task-told t₁ w is) refl $ dropᴷ ! $ split ! $ move ! (1 ∷ []) $ dropᴷ ! $
         move ! (2 ∷ 3 ∷ 4 ∷ 5 ∷ 6 ∷ 7 ∷ 1 ∷ 0 ∷ []) $
         -- the steps are judged
         assigns ! (addr ! (from ! (fld ! refl (hop ! (look-in ! 44 (sub ! 0 refl (whole !))) (stop !))))) (from ! (stop !)) (init ! 28 refl (tt, tt)) $

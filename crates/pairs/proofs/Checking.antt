@@ -1,8 +1,8 @@
 -- A check over lent steps is the check of their definition: the steps added one by one are a column's exponents, up to the first that is too large.
-use mathlib.Core.Path.{_≡_, refl, sym, ap, ap₂, subst, _∙_}
-use mathlib.Core.Bool.{Bool, true, false}
+use mathlib.Core.Path.{_≡_, refl, sym, ap, subst, _∙_}
+use mathlib.Core.Bool.{Bool}
 use mathlib.Core.List.{List, []}
-use Prim.Native.Nat.{ℕ, zero, suc, _+_, _*_, _/_, _≤_, _<_}
+use Prim.Native.Nat.{ℕ, zero, suc, _+_, _/_, _≤_, _<_}
 use native.Mathlib.Decide.{decLt}
 use native.Mathlib.Nat.{le-refl}
 use native.Mathlib.Numerals.{add-one}
@@ -11,7 +11,7 @@ use lib.ListN.{length, getD, take, drop, replicate}
 use Rattle.chain.specs.Tests.{_<?_}
 use Rattle.chain.specs.Verdict.{Verdict, fine, refused, _then_, Answer, answer, onFine}
 use Rattle.chain.specs.Written.{over}
-use Rattle.chain.specs.Chain.{mostColumns, mostSteps, mostAmount, by, pairs, flat, stepsRule, outputsRule, values, exponents}
+use Rattle.chain.specs.Chain.{mostColumns, mostSteps, mostAmount, by, pairs, flat, stepsRule, outputsRule, values}
 use Rattle.chain.specs.declared.Step.{Step}
 use Rattle.chain.proofs.Rules.{then-assoc, then-fine, lt-yes, lt-no}
 use Rattle.chain.proofs.Pairs.{pairs-flat}
@@ -105,14 +105,14 @@ module _ (p : ℕ) (l : List ℕ) (steps : List Step) (ok : stepsRule p 1 steps 
           record {
             place = ap (λ (r : Left). placeIn (foundBy (r .task))) is ∙ sum-end p (flat steps) l (length steps) [] first end flat-room w;
             cells = sums-all p (flat steps) l (length steps) (s .cells) end (ap (λ (r : Left). r .cells) is)
-            ∙ ap (λ (k : ℕ). over (values _+_ (take (p + 1) l) (stepsBefore k (pairs (flat steps)))) l) (sym (ap (λ (r : Left). placeIn (foundBy (r .task))) is));
+                ∙ ap (λ (k : ℕ). over (values _+_ (take (p + 1) l) (stepsBefore k (pairs (flat steps)))) l) (sym (ap (λ (r : Left). placeIn (foundBy (r .task))) is));
           }
       by-state (stopped k vs is at cells) =
           let told : placeIn (foundBy (s .task)) ≡ k = ap (λ (r : Left). placeIn (foundBy (r .task))) is in
           record {
             place = told ∙ at;
             cells = ap (λ (r : Left). r .cells) is ∙ cells
-            ∙ ap (λ (j : ℕ). over (values _+_ (take (p + 1) l) (stepsBefore j (pairs (flat steps)))) l) (sym told);
+                ∙ ap (λ (j : ℕ). over (values _+_ (take (p + 1) l) (stepsBefore j (pairs (flat steps)))) l) (sym told);
           }
 
 -- a whole check: `t` is the task, `l` the scratch and `f` what was found, as each call leaves them
@@ -233,16 +233,14 @@ module _ (p : ℕ) (steps : List Step) (outputs amounts old : List ℕ) where
                     answered = ends .answered ∙ ap (λ (v : Verdict). answer (v then foundIn f) []) e;
                     cleared = ends .scratch-is ∙ ap (λ (v : Verdict). onFine v (over (replicate top 0) l) l) e;
                   } in
-                  let columns : k ≡ p = count ∙ ap (λ (v : Verdict). onFine v p 0) e in
-                  (
+                  let columns : k ≡ p = count ∙ ap (λ (v : Verdict). onFine v p 0) e in (
                     late-answer p steps outputs amounts old so (foundIn f) top l l′ r done
                         (held-all p amounts steps outputs c f (omega arith) (omega arith) (stands .held)),
                     late-scratch p steps outputs amounts old so (foundIn f) top l l′ r done refl (stands .past),
                   )
               answered (refused n s) e =
                   let so = sym e ∙ rule-found in
-                  let none : k ≡ 0 = count ∙ ap (λ (v : Verdict). onFine v p 0) e in
-                  (
+                  let none : k ≡ 0 = count ∙ ap (λ (v : Verdict). onFine v p 0) e in (
                     ends .answered ∙ ap (λ (v : Verdict). answer (v then foundIn f) []) e ∙ early-answer p steps outputs amounts old n s so,
                     ends .scratch-is ∙ ap (λ (v : Verdict). onFine v (over (replicate top 0) l) l) e ∙ stands .untouched (omega arith)
                         ∙ early-scratch p steps outputs amounts old n s so,

@@ -1,6 +1,6 @@
 -- The steps judged one by one are the rule for all of them, after whatever was found before.
 use mathlib.Core.Path.{_≡_, refl, sym, ap, subst, _∙_}
-use mathlib.Core.List.{List, [], _∷_, _++_}
+use mathlib.Core.List.{List, [], _∷_}
 use Prim.Native.Nat.{ℕ, zero, suc, _+_, _≤_}
 use native.Mathlib.Nat.{le-refl}
 use native.Mathlib.Omega.{arith}
@@ -12,7 +12,7 @@ use Rattle.chain.specs.declared.Step.{Step}
 use Rattle.chain.proofs.Steps.{steps-append}
 use Rattle.pairs.specs.Inner.{foundBy, unless, Left, left, afterStep, afterSteps, Able}
 use Rattle.pairs.specs.declared.Task.{Task}
-use Rattle.pairs.specs.declared.Task.the-variants.{Judging, Refused}
+use Rattle.pairs.specs.declared.Task.the-variants.{Judging}
 use Rattle.pairs.proofs.Folded.{none-gone}
 
 -- what a task has found, where it began with nothing found

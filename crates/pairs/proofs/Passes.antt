@@ -19,8 +19,6 @@ use types.Kit.{Given, Item, mean, Post, runs, lands, Seq, ‵, raw, _⊛_, some,
 use types.Kit.{frame, await, updating, now as at-once, show, done}
 use types.Run.{Opds}
 use sound.WpLaws.{FmC}
-use denote.RattleType.{RattleType}
-use denote.Laws.{Is, shows}
 use denote.Ref.{RefT}
 use denote.Slice.{sliceVal, ShrSlice, Room}
 use denote.Builtin.{u32}

@@ -18,7 +18,7 @@ use Rattle.residue.specs.Inner.{inverseOf}
 use Rattle.run.specs.Run.{residues, runRule, runAnswer, runValues, runFigures}
 use Rattle.run.specs.Inner.{startRule, endRule}
 use Rattle.run.proofs.Parts.{run-parts, started}
-use Rattle.run.proofs.Runnable.{Runnable, runnable, fill-all, show-all, outputs-are-values}
+use Rattle.run.proofs.Runnable.{runnable, fill-all, show-all, outputs-are-values}
 use Rattle.pairs.specs.Inner.{foundBy, unless, Left, left, afterStep, afterSteps, Able, RunAble, RunStarted, FiguresAble, RunEnded}
 use Rattle.pairs.specs.declared.Task.{Task}
 use Rattle.pairs.specs.declared.Task.the-variants.{Judging, Multiplying, Refused}
@@ -115,8 +115,7 @@ module _ (p : ℕ) (steps : List Step) (outputs : List ℕ) (m : ℕ) (bases zs 
               let begins : t₃ ≡ Multiplying p m (inverseOf m) = task-is ∙ ap (λ (v : Verdict). unless v (Multiplying p m (inverseOf m))) e in
               let front : l₃ ≡ over (1 % m ∷ bases) zs = values-are ∙ ap (λ (v : Verdict). onFine v (over (1 % m ∷ bases) zs) zs) e in
               let done = passed′ ∙ ap (λ (t : Task). afterSteps t l₃ steps (onFine (foundBy t) (length steps) 0)) begins
-              ∙ multiplied p l₃ steps m (inverseOf m) (a .steps-fine) (omega (arith, a .values-fit)) in
-              (
+              ∙ multiplied p l₃ steps m (inverseOf m) (a .steps-fine) (omega (arith, a .values-fit)) in (
                 ap (λ (s : Left). foundBy (s .task)) done,
                 fill-all p m bases steps zs l₃ l₄ (a .bases-are-p) front (ap (λ (s : Left). s .cells) done),
               )

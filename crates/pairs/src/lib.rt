@@ -1,13 +1,10 @@
 // The check and the run of a chain that is lent as a slice of steps: the steps are gone through as they stand, with one task or another.
 ghost use mathlib.Core.Path.{_≡_};
-ghost use mathlib.Core.List.{[], _∷_};
-ghost use Prim.Native.Nat.{ℕ, _+_, _*_, _%_, _≤_, _<_};
-ghost use lib.ListN.{length, getD, take};
-ghost use Rattle.chain.specs.Verdict.{fine, _then_, answer, onFine};
+ghost use Prim.Native.Nat.{_+_, _≤_, _<_};
+ghost use lib.ListN.{length};
+ghost use Rattle.chain.specs.Verdict.{fine, _then_, onFine};
 ghost use Rattle.chain.specs.Judgement.{verdictOf};
-ghost use Rattle.chain.specs.Written.{over};
-ghost use Rattle.chain.specs.Chain.{mostColumns, mostSteps, by, pairs, pick};
-ghost use Rattle.residue.specs.Inner.{inverseOf};
+ghost use Rattle.chain.specs.Chain.{mostColumns, mostSteps, by};
 ghost use Rattle.run.specs.Run.{runAnswer, runValues, runFigures};
 ghost use Rattle.run.specs.Inner.{startRule, endRule};
 ghost use Rattle.answers.specs.Answers.{ranOf, verifiedOf};
@@ -61,7 +58,10 @@ fn advance(task: Task, i: usize, first: u32, second: u32, cells: &mut [u32]) -> 
     let a = first as usize;
     let b = second as usize;
     match task {
-        Task::Judging(p) => unless(chain::judge_step(p + i + 1, i + 1, first, second), Task::Judging(p)),
+        Task::Judging(p) => unless(
+            chain::judge_step(p + i + 1, i + 1, first, second),
+            Task::Judging(p),
+        ),
         Task::Multiplying(p, m, inverse) => {
             cells[p + i + 1] = residue::times(cells[a], cells[b], m, inverse);
             Task::Multiplying(p, m, inverse)
@@ -140,13 +140,7 @@ fn run_start(
 }
 
 // A run once all is multiplied: the figures, and the answer.
-fn run_end(
-    task: Task,
-    n: usize,
-    outputs: &[u32],
-    values: &mut [u32],
-    figures: &mut [u32],
-) -> Ran
+fn run_end(task: Task, n: usize, outputs: &[u32], values: &mut [u32], figures: &mut [u32]) -> Ran
     requires { ⌜ (foundBy task ≡ fine → FiguresAble (now outputs) (length (now values)) (length (now figures))) ⌝ }
     ensures { λ r. ⌜ RunEnded (foundBy task) n (now (outputs .entry)) (now (values .entry)) (now (values .exit)) (now (figures .entry))
         (now (figures .exit)) (ranOf r) ⌝ }

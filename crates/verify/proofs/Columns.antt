@@ -5,7 +5,7 @@ use mathlib.Core.List.{List}
 use Prim.Native.Nat.{ℕ, zero, suc, _+_, _≤_, _<_}
 use native.Mathlib.Nat.{le-refl}
 use native.Mathlib.Omega.{arith}
-use lib.ListN.{length, getD, take, drop, length-take}
+use lib.ListN.{length, getD, drop, length-take}
 use Rattle.chain.specs.Verdict.{fine, refused, _then_, refuseAt}
 use Rattle.chain.specs.Written.{over}
 use Rattle.chain.specs.Chain.{outputsRule, exponents}

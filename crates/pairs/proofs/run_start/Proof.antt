@@ -34,7 +34,7 @@ enum-told-2 : tie.Need-enum-told-2
 enum-told-2 c = search needs
 
 start-requires : tie.Need-start-requires
-start-requires c κs = 
+start-requires c κs =
     let a = able (c .before .before .before .before) in
     let fits = ended _ _ _ _ _ (sym (told-fine _ _ (c .before .before .before .judge-end .ensures) (c .before .enum-told2 .given .1))) .values-fit in
     (a .modulus, omega (arith, a .bases-are-p))

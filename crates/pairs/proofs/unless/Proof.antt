@@ -1,6 +1,6 @@
 -- Each case of the judgement leaves its own task.
 use borrow.Author.Needs.{needs}
-use Rattle.chain.proofs.Rules.{told-refused, told-fine}
+use Rattle.chain.proofs.Rules.{told-refused}
 use Rattle.pairs.proofs.Tasks.{keeping}
 use Rattle.pairs.proofs.unless.Statement.{statement}
 use Rattle.pairs.proofs.unless.Tie as tie

@@ -28,7 +28,7 @@ column-requires : tie.Need-column-requires Inv-loop μ-loop
 column-requires c κs = search needs
 
 take-up-requires : tie.Need-take-up-requires Inv-loop μ-loop
-take-up-requires c κs = 
+take-up-requires c κs =
     let b = c .before .before .before in
     let l = b .before .before .before .loop in
     let start = b .before .before .before .before .before .before .before .before in
@@ -52,7 +52,7 @@ loop-less : tie.Need-loop-less Inv-loop μ-loop
 loop-less c = search needs
 
 loop-again : tie.Need-loop-again Inv-loop μ-loop
-loop-again c = 
+loop-again c =
     let b = c .before .before .before .before in
     let l = b .before .before .before .loop in
     let start = b .before .before .before .before .before .before .before .before in
@@ -67,7 +67,7 @@ same-length : tie.Need-same-length Inv-loop μ-loop
 same-length c = search needs
 
 returns : tie.Need-returns Inv-loop μ-loop
-returns c = 
+returns c =
     let l = c .before .loop in
     record { verdict = held-all _ _ _ _ _ _ (c .loop-test .left) (l .inv .0) (l .inv .2); past = l .inv .3 }
 

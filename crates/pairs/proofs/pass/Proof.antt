@@ -60,11 +60,10 @@ use Rattle.chain.proofs.Step.Laws as T′
 use Rattle.pairs.specs.Inner.{foundBy, Left, left, afterStep, afterSteps, Ready, Able}
 use Rattle.pairs.specs.declared.Task.{Task}
 use Rattle.pairs.proofs.Task as E
-use Rattle.pairs.proofs.Task.Laws as E′
 use Rattle.pairs.proofs.Calls.{cellsAt, Cells, Leaves, calls-lent}
 use Rattle.pairs.proofs.Counts.{Turns, to-turns, asks-turns, said-turns}
 use Rattle.pairs.proofs.Folded.{steps-none, steps-next, steps-length, ready-at, turns-few}
-use Rattle.pairs.proofs.Machine.{taskVal, taskVals, TaskIs, task-tells, task-told, task-is, task-typed, has-task}
+use Rattle.pairs.proofs.Machine.{taskVal, taskVals, TaskIs, task-tells, task-is, task-typed, has-task}
 use Rattle.pairs.proofs.turns as turns
 use Rattle.pairs.proofs.turns.Symbol as turns-def
 use Rattle.pairs.proofs.turns.Symbol.{name as #pairs·turns}

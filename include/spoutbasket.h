@@ -12,8 +12,7 @@
  * What the two functions that read texts write on a refusal stands at them. After a refusal every slice is as it was, unless the function's comment says
  * otherwise. Cells past those that are needed never change.
  *
- * A call needs no more stack than SPOUTBASKET_STACK, those with `_pairs` in their names SPOUTBASKET_STACK_PAIRS, and spoutbasket_list
- * SPOUTBASKET_STACK_LIST: a thread with a stack of that many bytes will do. */
+ * A call needs no more stack than SPOUTBASKET_STACK, and spoutbasket_list SPOUTBASKET_STACK_LIST: a thread with a stack of that many bytes will do. */
 #ifndef SPOUTBASKET_H
 #define SPOUTBASKET_H
 
@@ -32,7 +31,6 @@ extern "C" {
 
 /* The bytes of stack that are enough for a call, whatever it is given. */
 #define SPOUTBASKET_STACK (64 * 1024)
-#define SPOUTBASKET_STACK_PAIRS (192 * 1024)
 #define SPOUTBASKET_STACK_LIST (256 * 1024)
 
 /* The limits. */

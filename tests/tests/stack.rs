@@ -151,10 +151,10 @@ fn pairs() {
     let steps: Vec<[u32; 2]> = all.steps.chunks_exact(2).map(|s| [s[0], s[1]]).collect();
     let (mut values, mut figures) = (vec![0; MOST_VALUES], vec![0; MOST_PAYSLIPS]);
     let Job { p, amounts, .. } = &all.job;
-    on_stack("STACK_PAIRS", |words| {
+    on_stack("STACK", |words| {
         slices::verify_pairs(*p, &steps, &all.outputs, amounts, &mut values, words)
     });
-    on_stack("STACK_PAIRS", |words| {
+    on_stack("STACK", |words| {
         let (outputs, bases) = (&all.outputs, &all.bases);
         slices::run_pairs(
             *p,

@@ -37,7 +37,7 @@ pub fn judge_step(v: usize, s: usize, first: u32, second: u32) -> Judgement
 }
 
 // The steps in order, first and second in turn.
-fn judge_steps(p: usize, steps: &[u32]) -> Judgement
+pub fn judge_steps(p: usize, steps: &[u32]) -> Judgement
     requires { ⌜ p ≤ mostColumns ⌝ }
     ensures { λ r. ⌜ verdictOf r ≡ stepsRule p 1 (pairs (now (steps .entry))) ⌝ }
 {
@@ -57,7 +57,7 @@ fn judge_steps(p: usize, steps: &[u32]) -> Judgement
 }
 
 // 12: an output above top, the number of the last value.
-fn judge_outputs(top: usize, outputs: &[u32]) -> Judgement
+pub fn judge_outputs(top: usize, outputs: &[u32]) -> Judgement
     ensures { λ r. ⌜ verdictOf r ≡ outputsRule top 1 (now (outputs .entry)) ⌝ }
 {
     let mut i: usize = 0;

@@ -1,3 +1,11 @@
-pub mod Flattening
-pub mod LocalArray
-pub mod TooLong
+pub mod Again
+pub mod Calls
+pub mod Checking
+pub mod Counts
+pub mod Facts
+pub mod Folded
+pub mod Judged
+pub mod Machine
+pub mod Passes
+pub mod Running
+pub mod Tasks

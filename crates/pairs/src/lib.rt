@@ -1,56 +1,222 @@
-// The check and the run of a chain that is lent as a slice of steps: the steps are laid flat in a local array, and the flat form is called.
+// The check and the run of a chain that is lent as a slice of steps: the steps are gone through as they stand, with one task or another.
 ghost use mathlib.Core.Path.{_≡_};
-ghost use Prim.Native.Nat.{_*_, _≤_};
-ghost use lib.ListN.{length, take};
-ghost use Rattle.chain.specs.Chain.{pairs};
+ghost use Prim.Native.Nat.{_+_, _≤_, _<_};
+ghost use lib.ListN.{length};
+ghost use Rattle.chain.specs.Verdict.{fine, _then_, onFine};
+ghost use Rattle.chain.specs.Judgement.{verdictOf};
+ghost use Rattle.chain.specs.Chain.{mostColumns, mostSteps, by};
 ghost use Rattle.run.specs.Run.{runAnswer, runValues, runFigures};
+ghost use Rattle.run.specs.Inner.{startRule, endRule};
 ghost use Rattle.answers.specs.Answers.{ranOf, verifiedOf};
 ghost use Rattle.verify.specs.Verify.{verifyAnswer, verifyScratch};
+ghost use Rattle.verify.specs.Inner as verify;
+ghost use Rattle.verify.specs.Inner.{columnStart, Comparable};
+ghost use Rattle.pairs.specs.declared.Task.the-variants.{Judging, Adding};
+ghost use Rattle.pairs.specs.Inner.{foundBy, unless, left, afterStep, afterSteps, Ready, Able, RunAble, RunStarted, FiguresAble, RunEnded, placeIn, ColumnTaken, CheckEnded};
 use answers::Ran;
 use answers::Verified;
+use chain::Judgement;
 use chain::Step;
+use verify::Found;
 
-// Two cells for each step, of one more than is legal: so the flat form itself refuses a chain that is too long.
-const CELLS: usize = 2 * (chain::MOST_STEPS + 1);
+// What is done with each step: it is judged, or multiplied or added into the cell after those of the p + 1 first values and the steps before it. Once
+// something was found, that alone is kept and nothing is done any more.
+enum Task {
+    Judging(usize),
+    Multiplying(usize, u32, u64),
+    Adding(usize),
+    Refused(u32, usize),
+}
 
-// The run of the first n steps that stand in the cells.
-fn run_front(
+// What a task has found.
+fn found(task: Task) -> Judgement
+    ensures { λ r. ⌜ verdictOf r ≡ foundBy task ⌝ }
+{
+    match task {
+        Task::Judging(p) => Judgement::Fine,
+        Task::Multiplying(p, m, inverse) => Judgement::Fine,
+        Task::Adding(p) => Judgement::Fine,
+        Task::Refused(number, place) => Judgement::Refused(number, place),
+    }
+}
+
+// The task, unless something was found before it.
+fn unless(found: Judgement, task: Task) -> Task
+    ensures { λ r. ⌜ r ≡ unless (verdictOf found) task ⌝ }
+{
+    match found {
+        Judgement::Refused(number, place) => Task::Refused(number, place),
+        Judgement::Fine => task,
+    }
+}
+
+// Step i, counted from 0.
+fn advance(task: Task, i: usize, first: u32, second: u32, cells: &mut [u32]) -> Task
+    requires { ⌜ Ready task i (by first second) (length (now cells)) ⌝ }
+    ensures { λ r. ⌜ left r (now (cells .exit)) ≡ afterStep task (now (cells .entry)) i (by first second) ⌝ }
+{
+    let a = first as usize;
+    let b = second as usize;
+    match task {
+        Task::Judging(p) => unless(
+            legal::judge_step(p + i + 1, i + 1, first, second),
+            Task::Judging(p),
+        ),
+        Task::Multiplying(p, m, inverse) => {
+            cells[p + i + 1] = residue::times(cells[a], cells[b], m, inverse);
+            Task::Multiplying(p, m, inverse)
+        }
+        Task::Adding(p) => {
+            let e = verify::plus(cells[a], cells[b]);
+            if (chain::MOST_AMOUNT as u64) < e {
+                return Task::Refused(13, i + 1);
+            }
+            cells[p + i + 1] = e as u32;
+            Task::Adding(p)
+        }
+        Task::Refused(number, place) => Task::Refused(number, place),
+    }
+}
+
+// How many of n steps the task goes through: none once something was found.
+fn turns(task: Task, n: usize) -> usize
+    ensures { λ r. ⌜ r ≡ onFine (foundBy task) n 0 ⌝ }
+{
+    match found(task) {
+        Judgement::Refused(number, place) => 0,
+        Judgement::Fine => n,
+    }
+}
+
+// The task goes through the steps.
+fn pass(task: Task, steps: &[Step], cells: &mut [u32]) -> Task
+    requires { ⌜ Able task (now steps) (length (now cells)) ⌝ }
+    ensures { λ r. ⌜ left r (now (cells .exit)) ≡ afterSteps task (now (cells .entry)) (now (steps .entry))
+        (onFine (foundBy task) (length (now (steps .entry))) 0) ⌝ }
+{
+    let mut t = task;
+    let n = turns(t, steps.len());
+    let mut i: usize = 0;
+    while i < n {
+        let s = steps[i];
+        t = advance(t, i, s.first, s.second, cells);
+        i += 1;
+    }
+    t
+}
+
+// A run before its steps: they are to be judged.
+fn run_open(p: usize, q: usize, n: usize, m: u32, bases: &[u32]) -> Task
+    ensures { λ r. ⌜ r ≡ unless (startRule p q n m (now (bases .entry))) (Judging p) ⌝ }
+{
+    unless(run::judge_start(p, q, n, m, bases), Task::Judging(p))
+}
+
+// A run once its steps are judged: where nothing is found, value 0 and the bases stand, and the steps are to be multiplied.
+fn run_start(
+    task: Task,
     p: usize,
-    cells: &[u32],
     n: usize,
     outputs: &[u32],
     m: u32,
     bases: &[u32],
     values: &mut [u32],
-    figures: &mut [u32],
-) -> Ran
-    requires { ⌜ 2 * n ≤ length (now cells) ⌝ }
-    ensures { λ r. ⌜ ranOf r ≡ runAnswer p (pairs (take (2 * n) (now (cells .entry)))) (now (outputs .entry)) m
-        (now (bases .entry)) (length (now (values .entry))) (length (now (figures .entry))) ⌝ }
-    ensures { λ r. ⌜ now (values .exit) ≡ runValues p (pairs (take (2 * n) (now (cells .entry)))) (now (outputs .entry)) m
-        (now (bases .entry)) (length (now (figures .entry))) (now (values .entry)) ⌝ }
-    ensures { λ r. ⌜ now (figures .exit) ≡ runFigures p (pairs (take (2 * n) (now (cells .entry)))) (now (outputs .entry)) m
-        (now (bases .entry)) (length (now (values .entry))) (now (figures .entry)) ⌝ }
+    places: usize,
+) -> Task
+    requires { ⌜ (foundBy task ≡ fine → RunAble p n m (now bases)) ⌝ }
+    ensures { λ r. ⌜ RunStarted (foundBy task then endRule p n (now (outputs .entry)) (length (now (values .entry))) places) p m
+        (now (bases .entry)) (now (values .entry)) (now (values .exit)) r ⌝ }
 {
-    run::run(p, &cells[..2 * n], outputs, m, bases, values, figures)
+    match found(task) {
+        Judgement::Refused(number, place) => Task::Refused(number, place),
+        Judgement::Fine => match run::judge_end(p, n, outputs, values.len(), places) {
+            Judgement::Refused(number, place) => Task::Refused(number, place),
+            Judgement::Fine => {
+                run::start(m, bases, values);
+                Task::Multiplying(p, m, residue::inverse(m))
+            }
+        },
+    }
 }
 
-// The check of the first n steps that stand in the cells.
-fn verify_front(
+// A run once all is multiplied: the figures, and the answer.
+fn run_end(task: Task, n: usize, outputs: &[u32], values: &mut [u32], figures: &mut [u32]) -> Ran
+    requires { ⌜ (foundBy task ≡ fine → FiguresAble (now outputs) (length (now values)) (length (now figures))) ⌝ }
+    ensures { λ r. ⌜ RunEnded (foundBy task) n (now (outputs .entry)) (now (values .entry)) (now (values .exit)) (now (figures .entry))
+        (now (figures .exit)) (ranOf r) ⌝ }
+{
+    match found(task) {
+        Judgement::Refused(number, place) => Ran::Refused(number, place),
+        Judgement::Fine => {
+            chain::show(outputs, values, figures);
+            Ran::Multiplications(n)
+        }
+    }
+}
+
+// A check before its steps: they are to be judged.
+fn check_open(p: usize, q: usize, n: usize, amounts: &[u32]) -> Task
+    ensures { λ r. ⌜ r ≡ unless (verify.startRule p q n (now (amounts .entry))) (Judging p) ⌝ }
+{
+    unless(verify::judge_start(p, q, n, amounts), Task::Judging(p))
+}
+
+// A check once its steps are judged: where nothing is found, they are to be added in each column.
+fn check_start(task: Task, p: usize, n: usize, outputs: &[u32], scratch: usize) -> Task
+    requires { ⌜ (foundBy task ≡ fine → (p ≤ mostColumns) × (n ≤ mostSteps)) ⌝ }
+    ensures { λ r. ⌜ r ≡ unless (foundBy task then verify.endRule p n (now (outputs .entry)) scratch) (Adding p) ⌝ }
+{
+    match found(task) {
+        Judgement::Refused(number, place) => Task::Refused(number, place),
+        Judgement::Fine => unless(verify::judge_end(p, n, outputs, scratch), Task::Adding(p)),
+    }
+}
+
+// Column c begins: value 0 and the bases stand, and the steps are to be added.
+fn column_start(p: usize, c: usize, scratch: &mut [u32]) -> Task
+    requires { ⌜ (c < p) × (p < length (now scratch)) ⌝ }
+    ensures { λ r. ⌜ left r (now (scratch .exit)) ≡ left (Adding p) (columnStart p c (now (scratch .entry))) ⌝ }
+{
+    verify::start(p, c, scratch);
+    Task::Adding(p)
+}
+
+// The place of what a task has found, 0 for nothing.
+fn place_of(task: Task) -> usize
+    ensures { λ r. ⌜ r ≡ placeIn (foundBy task) ⌝ }
+{
+    match found(task) {
+        Judgement::Refused(number, place) => place,
+        Judgement::Fine => 0,
+    }
+}
+
+// Column c is taken up, whose sums a task has left in the scratch.
+fn column_end(
+    held: Found,
+    task: Task,
     p: usize,
-    cells: &[u32],
-    n: usize,
+    c: usize,
     outputs: &[u32],
     amounts: &[u32],
     scratch: &mut [u32],
-) -> Verified
-    requires { ⌜ 2 * n ≤ length (now cells) ⌝ }
-    ensures { λ r. ⌜ verifiedOf r ≡ verifyAnswer p (pairs (take (2 * n) (now (cells .entry)))) (now (outputs .entry))
-        (now (amounts .entry)) (length (now (scratch .entry))) ⌝ }
-    ensures { λ r. ⌜ now (scratch .exit) ≡ verifyScratch p (pairs (take (2 * n) (now (cells .entry)))) (now (outputs .entry))
-        (now (amounts .entry)) (now (scratch .entry)) ⌝ }
+) -> Found
+    requires { ⌜ Comparable p c (now outputs) (now amounts) (length (now scratch)) ⌝ }
+    ensures { λ r. ⌜ ColumnTaken held (placeIn (foundBy task)) p c (now (outputs .entry)) (now (amounts .entry)) (now (scratch .entry))
+        (now (scratch .exit)) r ⌝ }
 {
-    verify::verify(p, &cells[..2 * n], outputs, amounts, scratch)
+    verify::take_up(held, place_of(task), p, c, outputs, amounts, scratch)
+}
+
+// A check once all columns are held: the scratch is cleared where it was used, and the answer.
+fn check_end(task: Task, held: Found, p: usize, n: usize, scratch: &mut [u32]) -> Verified
+    requires { ⌜ (foundBy task ≡ fine → p + n < length (now scratch)) ⌝ }
+    ensures { λ r. ⌜ CheckEnded (foundBy task) held (p + n + 1) (now (scratch .entry)) (now (scratch .exit)) (verifiedOf r) ⌝ }
+{
+    match found(task) {
+        Judgement::Refused(number, place) => Verified::Refused(number, place),
+        Judgement::Fine => verify::finish(held, p + n + 1, scratch),
+    }
 }
 
 // The run of a chain that is lent as its steps.
@@ -70,9 +236,12 @@ pub fn run_pairs(
     ensures { λ r. ⌜ now (figures .exit) ≡ runFigures p (now (steps .entry)) (now (outputs .entry)) m (now (bases .entry))
         (length (now (values .entry))) (now (figures .entry)) ⌝ }
 {
-    let mut cells = [0u32; CELLS];
-    let n = flatten::flatten_some(steps, &mut cells);
-    run_front(p, &cells, n, outputs, m, bases, values, figures)
+    let n = steps.len();
+    let judging = run_open(p, outputs.len(), n, m, bases);
+    let judged = pass(judging, steps, values);
+    let multiplying = run_start(judged, p, n, outputs, m, bases, values, figures.len());
+    let multiplied = pass(multiplying, steps, values);
+    run_end(multiplied, n, outputs, values, figures)
 }
 
 // The check of a chain that is lent as its steps.
@@ -88,7 +257,18 @@ pub fn verify_pairs(
     ensures { λ r. ⌜ now (scratch .exit)
         ≡ verifyScratch p (now (steps .entry)) (now (outputs .entry)) (now (amounts .entry)) (now (scratch .entry)) ⌝ }
 {
-    let mut cells = [0u32; CELLS];
-    let n = flatten::flatten_some(steps, &mut cells);
-    verify_front(p, &cells, n, outputs, amounts, scratch)
+    let n = steps.len();
+    let judging = check_open(p, outputs.len(), n, amounts);
+    let judged = pass(judging, steps, scratch);
+    let adding = check_start(judged, p, n, outputs, scratch.len());
+    let columns = turns(adding, p);
+    let mut held = Found { large: 0, other: 0 };
+    let mut c: usize = 0;
+    while c < columns {
+        let begun = column_start(p, c, scratch);
+        let added = pass(begun, steps, scratch);
+        held = column_end(held, added, p, c, outputs, amounts, scratch);
+        c += 1;
+    }
+    check_end(adding, held, p, n, scratch)
 }

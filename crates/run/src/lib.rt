@@ -6,9 +6,10 @@ ghost use lib.ListN.{length, take};
 ghost use Rattle.chain.specs.Verdict.{fine};
 ghost use Rattle.chain.specs.Judgement.{verdictOf};
 ghost use Rattle.chain.specs.Written.{over, laid};
-ghost use Rattle.chain.specs.Chain.{mostColumns, pairs, stepsRule, values};
+ghost use Rattle.chain.specs.Chain.{mostColumns, mostSteps, pairs, stepsRule, values};
 ghost use Rattle.residue.specs.Residue.{timesMod};
 ghost use Rattle.run.specs.Run.{residues, anyNotBelow, runRule, runAnswer, runValues, runFigures};
+ghost use Rattle.run.specs.Inner.{startRule, endRule};
 ghost use Rattle.answers.specs.Answers.{ranOf};
 use answers::Ran;
 use chain::Judgement;
@@ -27,19 +28,11 @@ fn any_not_below(limit: u32, numbers: &[u32]) -> bool
     false
 }
 
-// What is found against a run, before anything is written: 1, 4, 15, 16, steps, 12, 5.
-fn judge(
-    p: usize,
-    steps: &[u32],
-    outputs: &[u32],
-    m: u32,
-    bases: &[u32],
-    room: usize,
-    places: usize,
-) -> Judgement
-    ensures { λ r. ⌜ verdictOf r ≡ runRule p (pairs (now (steps .entry))) (now (outputs .entry)) m (now (bases .entry)) room places ⌝ }
+// What is found against a run before its n steps are looked at: 1, 4, 15, 16.
+pub fn judge_start(p: usize, q: usize, n: usize, m: u32, bases: &[u32]) -> Judgement
+    ensures { λ r. ⌜ verdictOf r ≡ startRule p q n m (now (bases .entry)) ⌝ }
 {
-    match shape::judge_shape(chain::MOST_STEPS, p, outputs.len(), steps.len() / 2) {
+    match shape::judge_shape(chain::MOST_STEPS, p, q, n) {
         Judgement::Refused(number, place) => {
             return Judgement::Refused(number, place);
         }
@@ -54,19 +47,55 @@ fn judge(
     if any_not_below(m, bases) {
         return Judgement::Refused(16, 0);
     }
-    match legal::judge_chain(p, steps, outputs) {
+    Judgement::Fine
+}
+
+// And after the steps: 12, 5.
+pub fn judge_end(p: usize, n: usize, outputs: &[u32], room: usize, places: usize) -> Judgement
+    requires { ⌜ (p ≤ mostColumns) × (n ≤ mostSteps) ⌝ }
+    ensures { λ r. ⌜ verdictOf r ≡ endRule p n (now (outputs .entry)) room places ⌝ }
+{
+    match legal::judge_outputs(p + n, outputs) {
         Judgement::Refused(number, place) => {
             return Judgement::Refused(number, place);
         }
         Judgement::Fine => {}
     }
-    if room < p + steps.len() / 2 + 1 {
+    if room < p + n + 1 {
         return Judgement::Refused(5, 0);
     }
     if places < outputs.len() {
         return Judgement::Refused(5, 0);
     }
     Judgement::Fine
+}
+
+// What is found against a run, before anything is written: 1, 4, 15, 16, steps, 12, 5.
+fn judge(
+    p: usize,
+    steps: &[u32],
+    outputs: &[u32],
+    m: u32,
+    bases: &[u32],
+    room: usize,
+    places: usize,
+) -> Judgement
+    ensures { λ r. ⌜ verdictOf r ≡ runRule p (pairs (now (steps .entry))) (now (outputs .entry)) m (now (bases .entry)) room places ⌝ }
+{
+    let n = steps.len() / 2;
+    match judge_start(p, outputs.len(), n, m, bases) {
+        Judgement::Refused(number, place) => {
+            return Judgement::Refused(number, place);
+        }
+        Judgement::Fine => {}
+    }
+    match legal::judge_steps(p, steps) {
+        Judgement::Refused(number, place) => {
+            return Judgement::Refused(number, place);
+        }
+        Judgement::Fine => {}
+    }
+    judge_end(p, n, outputs, room, places)
 }
 
 // The numbers, from cell `at` on.
@@ -82,7 +111,7 @@ fn lay(numbers: &[u32], at: usize, cells: &mut [u32])
 }
 
 // Value 0 and the bases, over the front of the slice.
-fn start(m: u32, bases: &[u32], values: &mut [u32])
+pub fn start(m: u32, bases: &[u32], values: &mut [u32])
     requires { ⌜ (0 < m) × (length (now bases) < length (now values)) ⌝ }
     ensures { λ r. ⌜ now (values .exit) ≡ over (1 % m ∷ now (bases .entry)) (now (values .entry)) ⌝ }
 {

@@ -1,28 +1,30 @@
 -- What is found before the scratch is used leaves it as it was; what is found after leaves it cleared, whatever the sums left there.
-use mathlib.Core.Path.{_≡_, ap, _∙_}
+use mathlib.Core.Path.{_≡_, refl, ap, _∙_}
 use mathlib.Core.List.{List, [], _++_}
-use Prim.Native.Nat.{ℕ, _+_, _/_}
+use Prim.Native.Nat.{ℕ, _+_}
 use lib.ListN.{length, drop, replicate, length-replicate}
-use Rattle.chain.specs.Verdict.{Verdict, fine, refused, _then_, Answer, refusal, answer, onFine}
-use Rattle.chain.specs.Judgement.{verdictOf}
-use Rattle.chain.specs.declared.Judgement as judgement
+use Rattle.chain.specs.Verdict.{Verdict, fine, refused, _then_, Answer, done, refusal, answer, onFine}
 use Rattle.chain.specs.Written.{over}
-use Rattle.chain.specs.Chain.{pairs}
 use Rattle.chain.specs.declared.Step.{Step}
-use Rattle.chain.proofs.Rules.{stop, pass}
-use Rattle.chain.proofs.Pairs.{length-pairs}
+use Rattle.chain.proofs.Rules.{stop, pass, answer-refused, answer-done}
 use Rattle.verify.specs.Verify.{exponentsRule, payslipsRule, fittingRule, verifyRule, verifyAnswer, verifyScratch}
-use Rattle.answers.specs.Answers.{verifiedOf}
-use Rattle.answers.specs.declared.Verified.the-variants.{Passed, Refused}
+use Rattle.verify.specs.Inner.{foundIn, Finished}
+use Rattle.verify.specs.declared.Found.{Found}
+use Rattle.verify.proofs.Columns.{at-some, at-none}
 
-module _ (j : judgement.Judgement) where
-  pub told-passed : j ≡ judgement.the-variants.Fine → verifiedOf Passed ≡ answer (verdictOf j) []
-  unfolding answer
-  told-passed e = rw e
+-- the check's end, for what was found
+module _ (f : Found) (top : ℕ) (old new : List ℕ) (cleared : new ≡ over (replicate top 0) old) where
+  pub finish-large : (f .large ≡ 0 → ⊥) → Finished (foundIn f) top old new (refusal 13 (f .large))
+  finish-large some = record { answered = answer-refused (foundIn f) [] 13 (f .large) (stop _ _ 13 (f .large) (at-some 13 _ _ some refl)); cleared = cleared }
 
-  pub told-refusal : (n s : ℕ) → j ≡ judgement.the-variants.Refused n s → verifiedOf (Refused n s) ≡ answer (verdictOf j) []
-  unfolding answer
-  told-refusal n s e = rw e
+  pub finish-other : f .large ≡ 0 → (f .other ≡ 0 → ⊥) → Finished (foundIn f) top old new (refusal 14 (f .other))
+  finish-other none some =
+      record { answered = answer-refused (foundIn f) [] 14 (f .other) (pass _ _ _ (at-none 13 _ none) (at-some 14 _ _ some refl)); cleared = cleared }
+
+  pub finish-passed : f .large ≡ 0 → f .other ≡ 0 → Finished (foundIn f) top old new (done [])
+  finish-passed none same = record { answered = answer-done (foundIn f) [] (pass _ _ _ (at-none 13 _ none) (at-none 14 _ same)); cleared = cleared }
+
+pub ruleset finishing = (finish-large, finish-other, finish-passed)
 
 -- refused before the scratch is used
 module _ (p : ℕ) (steps : List Step) (outputs amounts old : List ℕ) (n s : ℕ) (e : refused n s ≡ fittingRule p steps outputs amounts (length old)) where
@@ -36,18 +38,14 @@ module _ (p : ℕ) (steps : List Step) (outputs amounts old : List ℕ) (n s : �
   unfolding verifyScratch onFine
   early-scratch = rw (← e)
 
--- held: `v` is the verdict then, `d` the scratch that holding left, `d′` once it was cleared
-module _ (p : ℕ) (l outputs amounts old : List ℕ) (e : fine ≡ fittingRule p (pairs l) outputs amounts (length old)) where
-  pub late-answer : (v : Verdict) (a : Answer) → v ≡ (exponentsRule p (pairs l) then payslipsRule p amounts (pairs l) outputs) → a ≡ answer v []
-      → a ≡ verifyAnswer p (pairs l) outputs amounts (length old)
+-- held: `v` is the verdict then, `d` the scratch that holding left
+module _ (p : ℕ) (steps : List Step) (outputs amounts old : List ℕ) (e : fine ≡ fittingRule p steps outputs amounts (length old)) (v : Verdict) (top : ℕ)
+    (d d′ : List ℕ) (a : Answer) (ends : Finished v top d d′ a) where
+  pub late-answer : v ≡ (exponentsRule p steps then payslipsRule p amounts steps outputs) → a ≡ verifyAnswer p steps outputs amounts (length old)
   unfolding verifyAnswer verifyRule
-  late-answer v a f g = g ∙ ap (λ (w : Verdict). answer w []) (pass _ _ v e f)
+  late-answer f = ends .answered ∙ ap (λ (w : Verdict). answer w []) (pass _ _ v e f)
 
-  pub late-scratch : (d d′ : List ℕ) → drop (p + length l / 2 + 1) d ≡ drop (p + length l / 2 + 1) old → d′ ≡ over (replicate (p + length l / 2 + 1) 0) d
-      → d′ ≡ verifyScratch p (pairs l) outputs amounts old
+  pub late-scratch : top ≡ p + length steps + 1 → drop top d ≡ drop top old → d′ ≡ verifyScratch p steps outputs amounts old
   unfolding verifyScratch onFine over
-  late-scratch d d′ past cleared =
-      rw (← e)
-      (cleared
-      ∙ rw (length-pairs l, length-replicate {A = ℕ} (p + length l / 2 + 1) 0)
-      (ap (λ (t : List ℕ). replicate (p + length l / 2 + 1) 0 ++ t) past))
+  late-scratch is past =
+      rw (← e, ← is) (ends .cleared ∙ rw (length-replicate {A = ℕ} top 0) (ap (λ (t : List ℕ). replicate top 0 ++ t) past))

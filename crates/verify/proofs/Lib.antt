@@ -1,9 +1,10 @@
 pub mod Places
+pub mod Parts
 pub mod Over
 pub mod Other
 pub mod Cleared
 pub mod Sums
-pub mod Start
+pub mod Beginning
 pub mod Columns
 pub mod First
 pub mod Fitting

@@ -1,12 +1,28 @@
 -- Inner vocabulary: what the functions of this crate ask and leave. Nobody has to believe it to believe an entry point's promise.
 use mathlib.Core.Path.{_≡_}
-use mathlib.Core.List.{List}
-use Prim.Native.Nat.{ℕ, zero, suc, _+_}
-use lib.ListN.{take, drop}
-use Rattle.chain.specs.Verdict.{Verdict}
+use mathlib.Core.Bool.{cond}
+use mathlib.Core.List.{List, []}
+use Prim.Native.Nat.{ℕ, zero, suc, _+_, _*_, _<_}
+use lib.ListN.{length, getD, take, drop, set, replicate}
+use Rattle.chain.specs.Tests.{_<?_, _=?_}
+use Rattle.chain.specs.Verdict.{Verdict, _then_, refuseIf, refuseAt, Answer, answer}
 use Rattle.chain.specs.Written.{over}
+use Rattle.chain.specs.Chain.{mostSteps, shapeRule, outputsRule}
 use Rattle.chain.specs.declared.Step.{Step}
-use Rattle.verify.specs.Verify.{firstOver}
+use Rattle.sheet.specs.Sheet.{amountsRule}
+use Rattle.verify.specs.Verify.{earlier, firstOver, firstOther, scratchSize}
+use Rattle.verify.specs.declared.Found.{Found}
+
+-- the check's order in its parts: 1, 4, 2 for n steps, and after the steps 12, 5
+unfoldable pub startRule : ℕ → ℕ → ℕ → List ℕ → Verdict
+startRule p q n amounts = shapeRule mostSteps p q n then amountsRule p q amounts
+
+unfoldable pub endRule : ℕ → ℕ → List ℕ → ℕ → Verdict
+endRule p n outputs scratch = outputsRule (p + n) 1 outputs then refuseIf (scratch <? scratchSize p n) 5 0
+
+-- value 0 and the bases as column c has them, over the front
+unfoldable pub columnStart : ℕ → ℕ → List ℕ → List ℕ
+columnStart p c old = set (over (replicate (p + 1) 0) old) (c + 1) 1
 
 -- the steps before a place, all of them where it is 0
 unfoldable pub stepsBefore : ℕ → List Step → List Step
@@ -19,7 +35,30 @@ pub record SummedUp (p : ℕ) (f : List Step → List ℕ) (steps : List Step) (
   pub place : r ≡ firstOver 1 (drop (p + 1) (f steps))
   pub cells : new ≡ over (f (stepsBefore r steps)) old
 
+-- what the comparison of column c asks
+pub record Comparable (p c : ℕ) (outputs amounts : List ℕ) (room : ℕ) : Type 0 where
+  pub column : c < p
+  pub amounts-fit : length amounts ≡ p * length outputs
+  pub outputs-within : (i : ℕ) → i < length outputs → getD outputs i 0 < room
+
+-- what is found once column c is taken up, whose sums gave a place
+unfoldable pub takenUp : Found → ℕ → ℕ → ℕ → List ℕ → List ℕ → List ℕ → Found
+takenUp f place p c amounts scratch outputs =
+    record {
+      large = earlier (f .large) place;
+      other = cond (earlier (f .large) place =? 0) (earlier (f .other) (firstOther p c amounts scratch 0 outputs)) (f .other);
+    }
+
+-- 13, then 14
+abbrev pub foundIn : Found → Verdict
+foundIn f = refuseAt 13 (f .large) then refuseAt 14 (f .other)
+
 -- all columns held: what was found, and that no cell from `top` on changed
 pub record ColumnsHeld (found wanted : Verdict) (top : ℕ) (old new : List ℕ) : Type 0 where
   pub verdict : found ≡ wanted
   pub past : drop top new ≡ drop top old
+
+-- the check's end: the cells below `top` cleared, and the answer to what was found
+pub record Finished (found : Verdict) (top : ℕ) (old new : List ℕ) (r : Answer) : Type 0 where
+  pub answered : r ≡ answer found []
+  pub cleared : new ≡ over (replicate top 0) old

@@ -1,32 +1,48 @@
 // The check of a chain against a sheet.
 ghost use mathlib.Core.Path.{_≡_};
-ghost use mathlib.Core.List.{[]};
-ghost use Prim.Native.Nat.{ℕ, _+_, _*_, _/_, _≤_, _<_};
-ghost use lib.ListN.{length, getD, take, replicate};
-ghost use Rattle.chain.specs.Tests.{_<?_};
-ghost use Rattle.chain.specs.Verdict.{fine, _then_, refuseIf, answer};
+ghost use Prim.Native.Nat.{_+_, _*_, _/_, _≤_, _<_};
+ghost use lib.ListN.{length, take, replicate};
+ghost use Rattle.chain.specs.Verdict.{fine, _then_};
 ghost use Rattle.chain.specs.Written.{over};
-ghost use Rattle.chain.specs.Chain.{mostColumns, pairs, stepsRule, outputsRule, chainRule, values, exponents};
+ghost use Rattle.chain.specs.Chain.{mostColumns, mostSteps, pairs, stepsRule, outputsRule, values, exponents};
 ghost use Rattle.chain.specs.Judgement.{verdictOf};
-ghost use Rattle.verify.specs.Verify.{earlier, firstOther, exponentsRule, payslipsRule, scratchSize, fittingRule, verifyAnswer, verifyScratch};
+ghost use Rattle.verify.specs.Verify.{earlier, firstOther, exponentsRule, payslipsRule, fittingRule, verifyAnswer, verifyScratch};
 ghost use Rattle.answers.specs.Answers.{verifiedOf};
-ghost use Rattle.verify.specs.Inner.{SummedUp, ColumnsHeld};
+ghost use Rattle.verify.specs.Inner.{startRule, endRule, columnStart, SummedUp, Comparable, takenUp, foundIn, ColumnsHeld, Finished};
 use answers::Verified;
 use chain::Judgement;
 
-// The steps, 12, then 5: scratch is the number of cells lent.
-fn judge_room(p: usize, steps: &[u32], outputs: &[u32], scratch: usize) -> Judgement
-    requires { ⌜ p ≤ mostColumns ⌝ }
-    ensures { λ r. ⌜ verdictOf r ≡ (chainRule p (pairs (now (steps .entry))) (now (outputs .entry)) then refuseIf
-        (scratch <? scratchSize p (length (pairs (now (steps .entry))))) 5 0) ⌝ }
+// What is found of columns: the earliest step with too large an exponent and, while there is none, the earliest payslip that differs; 0 for none.
+pub struct Found {
+    pub large: usize,
+    pub other: usize,
+}
+
+// What is found before the n steps are looked at: 1, 4, 2.
+pub fn judge_start(p: usize, q: usize, n: usize, amounts: &[u32]) -> Judgement
+    ensures { λ r. ⌜ verdictOf r ≡ startRule p q n (now (amounts .entry)) ⌝ }
 {
-    match legal::judge_chain(p, steps, outputs) {
+    match shape::judge_shape(chain::MOST_STEPS, p, q, n) {
         Judgement::Refused(number, place) => {
             return Judgement::Refused(number, place);
         }
         Judgement::Fine => {}
     }
-    if scratch < p + steps.len() / 2 + 1 {
+    sheet::judge_amounts(p, q, amounts)
+}
+
+// And after the steps: 12, then 5, where scratch is the number of cells lent.
+pub fn judge_end(p: usize, n: usize, outputs: &[u32], scratch: usize) -> Judgement
+    requires { ⌜ (p ≤ mostColumns) × (n ≤ mostSteps) ⌝ }
+    ensures { λ r. ⌜ verdictOf r ≡ endRule p n (now (outputs .entry)) scratch ⌝ }
+{
+    match legal::judge_outputs(p + n, outputs) {
+        Judgement::Refused(number, place) => {
+            return Judgement::Refused(number, place);
+        }
+        Judgement::Fine => {}
+    }
+    if scratch < p + n + 1 {
         return Judgement::Refused(5, 0);
     }
     Judgement::Fine
@@ -36,19 +52,20 @@ fn judge_room(p: usize, steps: &[u32], outputs: &[u32], scratch: usize) -> Judge
 fn judge(p: usize, steps: &[u32], outputs: &[u32], amounts: &[u32], scratch: usize) -> Judgement
     ensures { λ r. ⌜ verdictOf r ≡ fittingRule p (pairs (now (steps .entry))) (now (outputs .entry)) (now (amounts .entry)) scratch ⌝ }
 {
-    match shape::judge_shape(chain::MOST_STEPS, p, outputs.len(), steps.len() / 2) {
+    let n = steps.len() / 2;
+    match judge_start(p, outputs.len(), n, amounts) {
         Judgement::Refused(number, place) => {
             return Judgement::Refused(number, place);
         }
         Judgement::Fine => {}
     }
-    match sheet::judge_amounts(p, outputs.len(), amounts) {
+    match legal::judge_steps(p, steps) {
         Judgement::Refused(number, place) => {
             return Judgement::Refused(number, place);
         }
         Judgement::Fine => {}
     }
-    judge_room(p, steps, outputs, scratch)
+    judge_end(p, n, outputs, scratch)
 }
 
 // The earlier of two places, 0 being none.
@@ -80,7 +97,7 @@ fn clear(n: usize, scratch: &mut [u32])
 }
 
 // The sum of two exponents, which 64 bits hold.
-fn plus(a: u32, b: u32) -> u64
+pub fn plus(a: u32, b: u32) -> u64
     ensures { λ r. ⌜ r ≡ a + b ⌝ }
 {
     (a as u64) + (b as u64)
@@ -109,20 +126,27 @@ fn sum(p: usize, steps: &[u32], scratch: &mut [u32]) -> usize
     0
 }
 
+// Value 0 and the bases as column c has them, over the front of the scratch.
+pub fn start(p: usize, c: usize, scratch: &mut [u32])
+    requires { ⌜ (c < p) × (p < length (now scratch)) ⌝ }
+    ensures { λ r. ⌜ now (scratch .exit) ≡ columnStart p c (now (scratch .entry)) ⌝ }
+{
+    clear(p + 1, scratch);
+    scratch[c + 1] = 1;
+}
+
 // The exponents of column c into the scratch, up to the first that is too large: its place, 0 for none.
 pub fn column(p: usize, c: usize, steps: &[u32], scratch: &mut [u32]) -> usize
     requires { ⌜ (c < p) × (p ≤ mostColumns) × (stepsRule p 1 (pairs (now steps)) ≡ fine) × (p + length (now steps) / 2 < length (now scratch)) ⌝ }
     ensures { λ r. ⌜ SummedUp p (exponents p c) (pairs (now (steps .entry))) (now (scratch .entry)) (now (scratch .exit)) r ⌝ }
 {
-    clear(p + 1, scratch);
-    scratch[c + 1] = 1;
+    start(p, c, scratch);
     sum(p, steps, scratch)
 }
 
 // The first payslip whose amount in column c is not what stands in the scratch for its output: its place, 0 for none.
 fn compare(p: usize, c: usize, outputs: &[u32], amounts: &[u32], scratch: &[u32]) -> usize
-    requires { ⌜ (c < p) × (length (now amounts) ≡ p * length (now outputs)) ×
-        ((i : ℕ) → i < length (now outputs) → getD (now outputs) i 0 < length (now scratch)) ⌝ }
+    requires { ⌜ Comparable p c (now outputs) (now amounts) (length (now scratch)) ⌝ }
     ensures { λ r. ⌜ r ≡ firstOther p c (now (amounts .entry)) (now (scratch .entry)) 0 (now (outputs .entry)) ⌝ }
 {
     let mut i: usize = 0;
@@ -136,43 +160,62 @@ fn compare(p: usize, c: usize, outputs: &[u32], amounts: &[u32], scratch: &[u32]
     0
 }
 
-// 13, then 14: column by column, each place the earliest over all columns. With an exponent too large no payslip is looked at any more.
-fn hold(p: usize, steps: &[u32], outputs: &[u32], amounts: &[u32], scratch: &mut [u32]) -> Judgement
+// What is found once column c stands in the scratch, up to the place whose exponent is too large. With one too large no payslip is looked at any more.
+pub fn take_up(
+    found: Found,
+    place: usize,
+    p: usize,
+    c: usize,
+    outputs: &[u32],
+    amounts: &[u32],
+    scratch: &[u32],
+) -> Found
+    requires { ⌜ Comparable p c (now outputs) (now amounts) (length (now scratch)) ⌝ }
+    ensures { λ r. ⌜ r ≡ takenUp found place p c (now (amounts .entry)) (now (scratch .entry)) (now (outputs .entry)) ⌝ }
+{
+    let large = earlier(found.large, place);
+    if large != 0 {
+        return Found {
+            large,
+            other: found.other,
+        };
+    }
+    let other = earlier(found.other, compare(p, c, outputs, amounts, scratch));
+    Found { large, other }
+}
+
+// What is found column by column: each place the earliest over all columns.
+fn hold(p: usize, steps: &[u32], outputs: &[u32], amounts: &[u32], scratch: &mut [u32]) -> Found
     requires { ⌜ (p ≤ mostColumns) × (stepsRule p 1 (pairs (now steps)) ≡ fine) ×
         (outputsRule (p + length (pairs (now steps))) 1 (now outputs) ≡ fine) × (length (now amounts) ≡ p * length (now outputs)) ×
         (p + length (now steps) / 2 < length (now scratch)) ⌝ }
-    ensures { λ r. ⌜ ColumnsHeld (verdictOf r) (exponentsRule p (pairs (now (steps .entry))) then payslipsRule p (now (amounts .entry))
+    ensures { λ r. ⌜ ColumnsHeld (foundIn r) (exponentsRule p (pairs (now (steps .entry))) then payslipsRule p (now (amounts .entry))
         (pairs (now (steps .entry))) (now (outputs .entry))) (p + length (now (steps .entry)) / 2 + 1) (now (scratch .entry))
         (now (scratch .exit)) ⌝ }
 {
-    let mut large: usize = 0;
-    let mut other: usize = 0;
+    let mut found = Found { large: 0, other: 0 };
     let mut c: usize = 0;
     while c < p {
         let place = column(p, c, steps, scratch);
-        large = earlier(large, place);
-        if large == 0 {
-            other = earlier(other, compare(p, c, outputs, amounts, scratch));
-        }
+        found = take_up(found, place, p, c, outputs, amounts, scratch);
         c += 1;
     }
-    if large != 0 {
-        return Judgement::Refused(13, large);
-    }
-    if other != 0 {
-        return Judgement::Refused(14, other);
-    }
-    Judgement::Fine
+    found
 }
 
-// The answer to a verdict.
-fn tell(found: Judgement) -> Verified
-    ensures { λ r. ⌜ verifiedOf r ≡ answer (verdictOf found) [] ⌝ }
+// The first cells are cleared up to top; 13, then 14, or that the chain passed.
+pub fn finish(found: Found, top: usize, scratch: &mut [u32]) -> Verified
+    requires { ⌜ top ≤ length (now scratch) ⌝ }
+    ensures { λ r. ⌜ Finished (foundIn found) top (now (scratch .entry)) (now (scratch .exit)) (verifiedOf r) ⌝ }
 {
-    match found {
-        Judgement::Refused(number, place) => Verified::Refused(number, place),
-        Judgement::Fine => Verified::Passed,
+    clear(top, scratch);
+    if found.large != 0 {
+        return Verified::Refused(13, found.large);
     }
+    if found.other != 0 {
+        return Verified::Refused(14, found.other);
+    }
+    Verified::Passed
 }
 
 // Whether a chain makes a sheet. Where the scratch was used (13, 14, passing) its first p + n + 1 cells are cleared; else it is as it was.
@@ -191,8 +234,7 @@ pub fn verify(
         Judgement::Refused(number, place) => Verified::Refused(number, place),
         Judgement::Fine => {
             let found = hold(p, steps, outputs, amounts, scratch);
-            clear(p + steps.len() / 2 + 1, scratch);
-            tell(found)
+            finish(found, p + steps.len() / 2 + 1, scratch)
         }
     }
 }

@@ -45,7 +45,7 @@ use Rattle.answers.specs.Answers.{ranOf}
 use Rattle.answers.specs.declared.Ran.{Ran}
 use Rattle.answers.proofs.Ran as E
 use Rattle.answers.proofs.Ran.Laws as E′
-use Rattle.flatten.proofs.Facts.{four-facts, ends-saying}
+use Rattle.pairs.proofs.Facts.{four-facts, ends-saying}
 use Rattle.pairs.proofs.run_pairs as runs
 use Rattle.pairs.proofs.run_pairs.Symbol as runs-def
 use Rattle.pairs.proofs.run_pairs.Symbol.{name as #pairs·run-pairs}

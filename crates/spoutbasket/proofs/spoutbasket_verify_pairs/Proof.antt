@@ -45,7 +45,7 @@ use Rattle.answers.specs.Answers.{verifiedOf}
 use Rattle.answers.specs.declared.Verified.{Verified}
 use Rattle.answers.proofs.Verified as E
 use Rattle.answers.proofs.Verified.Laws as E′
-use Rattle.flatten.proofs.Facts.{three-facts, ends-saying}
+use Rattle.pairs.proofs.Facts.{three-facts, ends-saying}
 use Rattle.pairs.proofs.verify_pairs as check
 use Rattle.pairs.proofs.verify_pairs.Symbol as check-def
 use Rattle.pairs.proofs.verify_pairs.Symbol.{name as #pairs·verify-pairs}

@@ -35,7 +35,7 @@ mul-if1 c = omega (arith, c .shared-slice-known4 .given (c .before .before .loop
 shared-slice-read-if1 : tie.Need-shared-slice-read-if1 Inv-loop μ-loop
 shared-slice-read-if1 c =
     let b = c .before .before .before in
-    b .before .before .before .before .pre .2 (b .loop .i) (c .before .before .loop-test .taken)
+    b .before .before .before .before .pre .outputs-within (b .loop .i) (c .before .before .loop-test .taken)
 
 amount-requires : tie.Need-amount-requires Inv-loop μ-loop
 amount-requires c κs = search amount-there

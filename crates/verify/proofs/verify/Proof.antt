@@ -1,7 +1,7 @@
 -- What is found first answers; else the columns' verdict does, and the cleared scratch is what the definition says.
 use borrow.Author.Needs.{needs}
-use mathlib.Core.Path.{_≡_, sym}
-use Prim.Native.Nat.{_+_, _/_, _<_}
+use mathlib.Core.Path.{_≡_, sym, ap}
+use Prim.Native.Nat.{ℕ, _+_, _/_, _<_}
 use native.Mathlib.Omega.{arith}
 use lib.ListN.{length}
 use Rattle.chain.specs.Verdict.{fine}
@@ -48,17 +48,14 @@ hold-requires c κs =
     let parts = chain-parts _ _ _ (k .chain) in
     (k .sizes .p-low, parts .0, parts .1, f .amounts-fit, room (c .before))
 
-add-clear : tie.Need-add-clear
-add-clear c = omega (arith, room (c .before .before .before .before))
+add-finish : tie.Need-add-finish
+add-finish c = omega (arith, room (c .before .before .before .before))
 
-add-clear-2 : tie.Need-add-clear-2
-add-clear-2 c = omega (arith, room (c .before .before .before .before))
+add-finish-2 : tie.Need-add-finish-2
+add-finish-2 c = omega (arith, room (c .before .before .before .before))
 
-clear-requires : tie.Need-clear-requires
-clear-requires c κs = omega (arith, room (c .before .before .before .before .before), c .before .before .before .hold .kept .1 .1 .1 .1 .0)
-
-tell-requires : tie.Need-tell-requires
-tell-requires c κs = search needs
+finish-requires : tie.Need-finish-requires
+finish-requires c κs = omega (arith, room (c .before .before .before .before .before), c .before .before .before .hold .kept .1 .1 .1 .1 .0)
 
 returns : tie.Need-returns
 returns c =
@@ -71,12 +68,13 @@ same-length c = search needs
 
 returns-2 : tie.Need-returns-2
 returns-2 c =
-    let k = c .before .before .before in
+    let k = c .before .before in
     let h = k .before .before .before .before in
     let a = h .before .before .before .before .before .before .before .before .before .args in
-    let e = first (h .before .before) in (
-      late-answer _ (a .steps .now) _ _ (a .scratch .now) e _ _ (h .hold .ensures .verdict) (c .tell .ensures),
-      late-scratch _ (a .steps .now) _ _ _ e (h .hold .last .1 .1 .1 .1 .0) _ (h .hold .ensures .past) (k .clear .ensures),
+    let e = first (h .before .before) in
+    let top = ap (λ (n : ℕ). a .p + n + 1) (sym (length-pairs (a .steps .now))) in (
+      late-answer _ (pairs (a .steps .now)) _ _ (a .scratch .now) e _ _ _ _ _ (k .finish .ensures) (h .hold .ensures .verdict),
+      late-scratch _ (pairs (a .steps .now)) _ _ (a .scratch .now) e _ _ _ _ _ (k .finish .ensures) top (h .hold .ensures .past),
     )
 
 pub verify-spec : {M : Type 1} → statement M
@@ -87,10 +85,9 @@ verify-spec =
     enum-known-number
     enum-told
     hold-requires
-    add-clear
-    add-clear-2
-    clear-requires
-    tell-requires
+    add-finish
+    add-finish-2
+    finish-requires
     returns
     same-length
     returns-2)

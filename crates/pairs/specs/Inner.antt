@@ -1,0 +1,110 @@
+-- Inner vocabulary: what is done with the steps of a lent slice, one after the other. Nobody has to believe it to believe an entry point's promise.
+use mathlib.Core.Path.{_≡_}
+use mathlib.Core.Bool.{Bool, true, false}
+use mathlib.Core.List.{List, [], _∷_}
+use Prim.Native.Nat.{ℕ, zero, suc, _+_, _%_, _^_, _≤_, _<_}
+use lib.ListN.{length, getD, set, replicate}
+use Rattle.chain.specs.Tests.{_<?_}
+use Rattle.chain.specs.Verdict.{Verdict, fine, refused, _then_, Answer, answer, onFine}
+use Rattle.chain.specs.Written.{over}
+use Rattle.chain.specs.Chain.{mostColumns, mostSteps, mostAmount, by, stepRule, stepsRule, pick}
+use Rattle.chain.specs.declared.Step.{Step}
+use Rattle.residue.specs.Residue.{timesMod}
+use Rattle.residue.specs.Inner.{inverseOf}
+use Rattle.verify.specs.Inner.{takenUp, foundIn}
+use Rattle.verify.specs.declared.Found.{Found}
+use Rattle.pairs.specs.declared.Task.{Task}
+use Rattle.pairs.specs.declared.Task.the-variants.{Judging, Multiplying, Adding, Refused}
+
+-- what a task has found
+abbrev pub foundBy : Task → Verdict
+foundBy (Judging p) = fine
+foundBy (Multiplying p m inverse) = fine
+foundBy (Adding p) = fine
+foundBy (Refused n s) = refused n s
+
+-- the task, unless something was found before it
+abbrev pub unless : Verdict → Task → Task
+unless fine t = t
+unless (refused n s) t = Refused n s
+
+-- the task and the cells as they are left
+pub record Left : Type 0 where
+  pub task : Task
+  pub cells : List ℕ
+
+abbrev pub left : Task → List ℕ → Left
+left t l = record { task = t; cells = l }
+
+-- a sum that may be too large
+abbrev pub summed : Bool → ℕ → ℕ → ℕ → List ℕ → Left
+summed true p i e l = left (Refused 13 (i + 1)) l
+summed false p i e l = left (Adding p) (set l (p + i + 1) e)
+
+-- step i, counted from 0: judged, multiplied or added, as the task says
+unfoldable pub afterStep : Task → List ℕ → ℕ → Step → Left
+afterStep (Judging p) l i x = left (unless (stepRule (p + i + 1) (i + 1) x) (Judging p)) l
+afterStep (Multiplying p m inverse) l i x =
+    left (Multiplying p m inverse) (set l (p + i + 1) (timesMod m (getD l (x .first) 0) (getD l (x .second) 0)))
+afterStep (Adding p) l i x =
+    summed (mostAmount <? getD l (x .first) 0 + getD l (x .second) 0) p i (getD l (x .first) 0 + getD l (x .second) 0) l
+afterStep (Refused n s) l i x = left (Refused n s) l
+
+-- the first i steps, in order
+unfoldable pub afterSteps : Task → List ℕ → List Step → ℕ → Left
+afterSteps t l steps zero = left t l
+afterSteps t l steps (suc i) = afterStep (afterSteps t l steps i .task) (afterSteps t l steps i .cells) i (getD steps i (by 0 0))
+
+-- what step i asks of its task, with how many cells there are
+unfoldable pub Ready : Task → ℕ → Step → ℕ → Type 0
+Ready (Judging p) i x room = p + i + 1 < 2 ^ 64
+Ready (Multiplying p m inverse) i x room =
+    (0 < m) × (inverse ≡ inverseOf m) × (p + i + 1 < room) × (x .first < room) × (x .second < room)
+Ready (Adding p) i x room = (p + i + 1 < room) × (x .first < room) × (x .second < room)
+Ready (Refused n s) i x room = Unit {0}
+
+-- what all steps ask
+unfoldable pub Able : Task → List Step → ℕ → Type 0
+Able (Judging p) steps room = p ≤ mostColumns
+Able (Multiplying p m inverse) steps room =
+    (0 < m) × (inverse ≡ inverseOf m) × (stepsRule p 1 steps ≡ fine) × (p + length steps < room)
+Able (Adding p) steps room = (stepsRule p 1 steps ≡ fine) × (p + length steps < room)
+Able (Refused n s) steps room = Unit {0}
+
+-- what a run whose steps were found fine may rely on
+pub record RunAble (p n m : ℕ) (bases : List ℕ) : Type 0 where
+  pub columns : p ≤ mostColumns
+  pub few : n ≤ mostSteps
+  pub modulus : 0 < m
+  pub bases-are-p : length bases ≡ p
+
+-- a run that begins to multiply where v is fine: value 0 and the bases stand over the front of the values
+pub record RunStarted (v : Verdict) (p m : ℕ) (bases old new : List ℕ) (r : Task) : Type 0 where
+  pub task-is : r ≡ unless v (Multiplying p m (inverseOf m))
+  pub values-are : new ≡ onFine v (over (1 % m ∷ bases) old) old
+
+-- what its figures ask
+pub record FiguresAble (outputs : List ℕ) (values figures : ℕ) : Type 0 where
+  pub figures-fit : length outputs ≤ figures
+  pub outputs-within : (i : ℕ) → i < length outputs → getD outputs i 0 < values
+
+-- a run that ends: the figures are the outputs' values where v is fine
+pub record RunEnded (v : Verdict) (n : ℕ) (outputs values values′ old new : List ℕ) (r : Answer) : Type 0 where
+  pub answered : r ≡ answer v (n ∷ [])
+  pub values-kept : values′ ≡ values
+  pub figures-are : new ≡ onFine v (over (pick values outputs) old) old
+
+-- the place that a verdict tells, 0 for none
+abbrev pub placeIn : Verdict → ℕ
+placeIn fine = 0
+placeIn (refused n s) = s
+
+-- column c taken up, of which the sums gave a place; the scratch is only looked at
+pub record ColumnTaken (f : Found) (place p c : ℕ) (outputs amounts old new : List ℕ) (r : Found) : Type 0 where
+  pub found-is : r ≡ takenUp f place p c amounts old outputs
+  pub scratch-kept : new ≡ old
+
+-- a check that ends: where v is fine the cells below `top` are cleared, and what was found of the columns is told
+pub record CheckEnded (v : Verdict) (f : Found) (top : ℕ) (old new : List ℕ) (r : Answer) : Type 0 where
+  pub answered : r ≡ answer (v then foundIn f) []
+  pub scratch-is : new ≡ onFine v (over (replicate top 0) old) old

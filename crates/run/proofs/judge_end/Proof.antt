@@ -1,0 +1,55 @@
+-- The verdict on the outputs, then the tests of the two lengths.
+use borrow.Author.Needs.{needs}
+use Rattle.chain.proofs.Rules.{judging, pass, refuse-no, or-none, lt-no}
+use Rattle.run.specs.Inner.{endRule}
+use Rattle.run.proofs.judge_end.Statement.{statement}
+use Rattle.run.proofs.judge_end.Tie as tie
+
+add-judge-outputs : tie.Need-add-judge-outputs
+add-judge-outputs c = search needs
+
+judge-outputs-requires : tie.Need-judge-outputs-requires
+judge-outputs-requires c κs = search needs
+
+enum-known-number : tie.Need-enum-known-number
+enum-known-number c = search needs
+
+returns : tie.Need-returns
+unfolding endRule
+returns c = search judging depth 12
+
+enum-told : tie.Need-enum-told
+enum-told c = search needs
+
+add-if1 : tie.Need-add-if1
+add-if1 c = search needs
+
+add-if1-2 : tie.Need-add-if1-2
+add-if1-2 c = search needs
+
+returns-2 : tie.Need-returns-2
+unfolding endRule
+returns-2 c = search judging depth 12
+
+returns-3 : tie.Need-returns-3
+unfolding endRule
+returns-3 c = search judging depth 12
+
+returns-4 : tie.Need-returns-4
+unfolding endRule
+returns-4 c = pass _ _ _ (search judging) (refuse-no _ _ _ (or-none _ _ (lt-no _ _ (search)) (lt-no _ _ (search))))
+
+pub judge-end-spec : {M : Type 1} → statement M
+judge-end-spec =
+    tie.close
+    (tie.spec
+    add-judge-outputs
+    judge-outputs-requires
+    enum-known-number
+    returns
+    enum-told
+    add-if1
+    add-if1-2
+    returns-2
+    returns-3
+    returns-4)

@@ -93,7 +93,7 @@ fn judge_file(
             if payslips != q {
                 return Judged::Refused(14, 0);
             }
-            match verify::verify(p, &steps[..2 * n], &outputs[..q], amounts, numbers) {
+            match checker::verify(p, &steps[..2 * n], &outputs[..q], amounts, numbers) {
                 Verified::Refused(number, place) => Judged::Refused(number, place),
                 Verified::Passed => Judged::Passed(n),
             }

@@ -138,9 +138,9 @@ fn measure(
     let mut large: usize = 0;
     let mut c: usize = 0;
     while c < p {
-        let place = verify::column(p, c, steps, scratch);
+        let place = checker::column(p, c, steps, scratch);
         gather(c, outputs, scratch, table);
-        large = verify::earlier(large, place);
+        large = columns::earlier(large, place);
         c += 1;
     }
     if large != 0 {

@@ -67,7 +67,7 @@ fn advance(task: Task, i: usize, first: u32, second: u32, cells: &mut [u32]) -> 
             Task::Multiplying(p, m, inverse)
         }
         Task::Adding(p) => {
-            let e = verify::plus(cells[a], cells[b]);
+            let e = columns::plus(cells[a], cells[b]);
             if (chain::MOST_AMOUNT as u64) < e {
                 return Task::Refused(13, i + 1);
             }
@@ -177,7 +177,7 @@ fn column_start(p: usize, c: usize, scratch: &mut [u32]) -> Task
     requires { ⌜ (c < p) × (p < length (now scratch)) ⌝ }
     ensures { λ r. ⌜ left r (now (scratch .exit)) ≡ left (Adding p) (columnStart p c (now (scratch .entry))) ⌝ }
 {
-    verify::start(p, c, scratch);
+    columns::start(p, c, scratch);
     Task::Adding(p)
 }
 
@@ -205,7 +205,7 @@ fn column_end(
     ensures { λ r. ⌜ ColumnTaken held (placeIn (foundBy task)) p c (now (outputs .entry)) (now (amounts .entry)) (now (scratch .entry))
         (now (scratch .exit)) r ⌝ }
 {
-    verify::take_up(held, place_of(task), p, c, outputs, amounts, scratch)
+    columns::take_up(held, place_of(task), p, c, outputs, amounts, scratch)
 }
 
 // A check once all columns are held: the scratch is cleared where it was used, and the answer.
@@ -215,7 +215,7 @@ fn check_end(task: Task, held: Found, p: usize, n: usize, scratch: &mut [u32]) -
 {
     match found(task) {
         Judgement::Refused(number, place) => Verified::Refused(number, place),
-        Judgement::Fine => verify::finish(held, p + n + 1, scratch),
+        Judgement::Fine => columns::finish(held, p + n + 1, scratch),
     }
 }
 

@@ -20,8 +20,8 @@ pub fn receive(
         (now (bases .entry)) (now (scratch .entry)) (now (values .entry)) (now (figures .entry)) (ranOf r)
         (now (scratch .exit)) (now (values .exit)) (now (figures .exit)) ⌝ }
 {
-    match verify::verify(p, steps, outputs, amounts, scratch) {
+    match checker::verify(p, steps, outputs, amounts, scratch) {
         Verified::Refused(number, place) => Ran::Refused(number, place),
-        Verified::Passed => run::run(p, steps, outputs, m, bases, values, figures),
+        Verified::Passed => runner::run(p, steps, outputs, m, bases, values, figures),
     }
 }

@@ -90,7 +90,7 @@ pub extern "C" fn spoutbasket_verify(
         (length (now (scratch .entry)))) ⌝ }
     ensures { λ r. ⌜ now (scratch .exit) ≡ verifyScratch p (pairs (now (steps .entry))) (now (outputs .entry)) (now (amounts .entry)) (now (scratch .entry)) ⌝ }
 {
-    let verified = verify::verify(p, steps, outputs, amounts, scratch);
+    let verified = checker::verify(p, steps, outputs, amounts, scratch);
     tell_receiver::tell_verified(verified, answer)
 }
 
@@ -134,7 +134,7 @@ pub extern "C" fn spoutbasket_run(
     ensures { λ r. ⌜ now (figures .exit) ≡ runFigures p (pairs (now (steps .entry))) (now (outputs .entry)) m (now (bases .entry))
         (length (now (values .entry))) (now (figures .entry)) ⌝ }
 {
-    let ran = run::run(p, steps, outputs, m, bases, values, figures);
+    let ran = runner::run(p, steps, outputs, m, bases, values, figures);
     tell_receiver::tell_ran(ran, answer)
 }
 

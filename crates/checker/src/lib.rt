@@ -1,0 +1,105 @@
+// The check of a chain whose steps are lent flat.
+ghost use mathlib.Core.Path.{_≡_};
+ghost use Prim.Native.Nat.{_+_, _*_, _/_, _≤_, _<_};
+ghost use lib.ListN.{length, take};
+ghost use Rattle.chain.specs.Verdict.{fine, _then_};
+ghost use Rattle.chain.specs.Chain.{mostColumns, pairs, stepsRule, outputsRule, values, exponents};
+ghost use Rattle.chain.specs.Judgement.{verdictOf};
+ghost use Rattle.verify.specs.Verify.{exponentsRule, payslipsRule, fittingRule, verifyAnswer, verifyScratch};
+ghost use Rattle.answers.specs.Answers.{verifiedOf};
+ghost use Rattle.verify.specs.Inner.{SummedUp, foundIn, ColumnsHeld};
+use answers::Verified;
+use chain::Judgement;
+use verify::Found;
+
+// What is found before the scratch is used: 1, 4, 2, steps, 12, 5.
+fn judge(p: usize, steps: &[u32], outputs: &[u32], amounts: &[u32], scratch: usize) -> Judgement
+    ensures { λ r. ⌜ verdictOf r ≡ fittingRule p (pairs (now (steps .entry))) (now (outputs .entry)) (now (amounts .entry)) scratch ⌝ }
+{
+    let n = steps.len() / 2;
+    match verify::judge_start(p, outputs.len(), n, amounts) {
+        Judgement::Refused(number, place) => {
+            return Judgement::Refused(number, place);
+        }
+        Judgement::Fine => {}
+    }
+    match legal::judge_steps(p, steps) {
+        Judgement::Refused(number, place) => {
+            return Judgement::Refused(number, place);
+        }
+        Judgement::Fine => {}
+    }
+    verify::judge_end(p, n, outputs, scratch)
+}
+
+// One sum for each step, after the p + 1 values that stand in the scratch already, up to the first that is too large, which is not stored: its place,
+// 0 for none.
+fn sum(p: usize, steps: &[u32], scratch: &mut [u32]) -> usize
+    requires { ⌜ (p ≤ mostColumns) × (stepsRule p 1 (pairs (now steps)) ≡ fine) × (p + length (now steps) / 2 < length (now scratch)) ⌝ }
+    ensures { λ r. ⌜ SummedUp p (values _+_ (take (p + 1) (now (scratch .entry)))) (pairs (now (steps .entry))) (now (scratch .entry))
+        (now (scratch .exit)) r ⌝ }
+{
+    let n = steps.len() / 2;
+    let mut s: usize = 0;
+    while s < n {
+        let x = chain::step_at(steps, s);
+        let a = x.first as usize;
+        let b = x.second as usize;
+        let e = columns::plus(scratch[a], scratch[b]);
+        if (chain::MOST_AMOUNT as u64) < e {
+            return s + 1;
+        }
+        scratch[p + s + 1] = e as u32;
+        s += 1;
+    }
+    0
+}
+
+// The exponents of column c into the scratch, up to the first that is too large: its place, 0 for none.
+pub fn column(p: usize, c: usize, steps: &[u32], scratch: &mut [u32]) -> usize
+    requires { ⌜ (c < p) × (p ≤ mostColumns) × (stepsRule p 1 (pairs (now steps)) ≡ fine) × (p + length (now steps) / 2 < length (now scratch)) ⌝ }
+    ensures { λ r. ⌜ SummedUp p (exponents p c) (pairs (now (steps .entry))) (now (scratch .entry)) (now (scratch .exit)) r ⌝ }
+{
+    columns::start(p, c, scratch);
+    sum(p, steps, scratch)
+}
+
+// What is found column by column: each place the earliest over all columns.
+fn hold(p: usize, steps: &[u32], outputs: &[u32], amounts: &[u32], scratch: &mut [u32]) -> Found
+    requires { ⌜ (p ≤ mostColumns) × (stepsRule p 1 (pairs (now steps)) ≡ fine) ×
+        (outputsRule (p + length (pairs (now steps))) 1 (now outputs) ≡ fine) × (length (now amounts) ≡ p * length (now outputs)) ×
+        (p + length (now steps) / 2 < length (now scratch)) ⌝ }
+    ensures { λ r. ⌜ ColumnsHeld (foundIn r) (exponentsRule p (pairs (now (steps .entry))) then payslipsRule p (now (amounts .entry))
+        (pairs (now (steps .entry))) (now (outputs .entry))) (p + length (now (steps .entry)) / 2 + 1) (now (scratch .entry))
+        (now (scratch .exit)) ⌝ }
+{
+    let mut found = Found { large: 0, other: 0 };
+    let mut c: usize = 0;
+    while c < p {
+        let place = column(p, c, steps, scratch);
+        found = columns::take_up(found, place, p, c, outputs, amounts, scratch);
+        c += 1;
+    }
+    found
+}
+
+// Whether a chain makes a sheet. Where the scratch was used (13, 14, passing) its first p + n + 1 cells are cleared; else it is as it was.
+pub fn verify(
+    p: usize,
+    steps: &[u32],
+    outputs: &[u32],
+    amounts: &[u32],
+    scratch: &mut [u32],
+) -> Verified
+    ensures { λ r. ⌜ verifiedOf r ≡ verifyAnswer p (pairs (now (steps .entry))) (now (outputs .entry)) (now (amounts .entry))
+        (length (now (scratch .entry))) ⌝ }
+    ensures { λ r. ⌜ now (scratch .exit) ≡ verifyScratch p (pairs (now (steps .entry))) (now (outputs .entry)) (now (amounts .entry)) (now (scratch .entry)) ⌝ }
+{
+    match judge(p, steps, outputs, amounts, scratch.len()) {
+        Judgement::Refused(number, place) => Verified::Refused(number, place),
+        Judgement::Fine => {
+            let found = hold(p, steps, outputs, amounts, scratch);
+            columns::finish(found, p + steps.len() / 2 + 1, scratch)
+        }
+    }
+}

@@ -4,7 +4,7 @@ ghost use Prim.Native.Nat.{_+_, _*_, _%_, _^_, _≤_, _<_};
 ghost use lib.ListN.{length, take, getD};
 ghost use Rattle.chain.specs.Written.{laid};
 ghost use Rattle.bits.specs.Bits.{bits};
-ghost use Rattle.bits.specs.Inner.{spread, WordAt, FieldRoom, FieldTaken, FieldFill, FieldStored};
+ghost use Rattle.bits.specs.Inner.{spread, WordAt, FieldRoom, FieldTaken, TwoTaken, FieldFill, FieldStored};
 
 // A bit position of a file.
 pub struct Cursor {
@@ -14,6 +14,13 @@ pub struct Cursor {
 // A field that was read, and the position past it.
 pub struct Field {
     pub value: usize,
+    pub next: Cursor,
+}
+
+// Two fields that were read, one behind the other, and the position past them.
+pub struct TwoFields {
+    pub first: usize,
+    pub second: usize,
     pub next: Cursor,
 }
 
@@ -49,23 +56,43 @@ fn byte_or_zero(file: &[u8], i: usize) -> u64
     if i < file.len() { byte(file, i) } else { 0 }
 }
 
-// The four bytes from i on as one number. Where all are there, they are read as one word.
+// The four bytes from i on as one number. They are read as one word.
+fn word(file: &[u8], i: usize) -> u64
+    requires { ⌜ i + 4 ≤ length (now file) ⌝ }
+    ensures { λ r. ⌜ WordAt 4 (now (file .entry)) i r ⌝ }
+{
+    let a = byte(file, i);
+    let b = byte(file, i + 1);
+    let c = byte(file, i + 2);
+    let d = byte(file, i + 3);
+    ((a * 256 + b) * 256 + c) * 256 + d
+}
+
+// The same, with 0 past the end.
+fn word_or_zero(file: &[u8], i: usize) -> u64
+    requires { ⌜ i + 4 < 2 ^ 64 ⌝ }
+    ensures { λ r. ⌜ WordAt 4 (now (file .entry)) i r ⌝ }
+{
+    let a = byte_or_zero(file, i);
+    let b = byte_or_zero(file, i + 1);
+    let c = byte_or_zero(file, i + 2);
+    let d = byte_or_zero(file, i + 3);
+    ((a * 256 + b) * 256 + c) * 256 + d
+}
+
+// The eight bytes from i on as one number, with 0 past the end. Where all are there, they are read as two words.
 fn gather(file: &[u8], i: usize) -> u64
     requires { ⌜ i ≤ length (now file) ⌝ }
-    ensures { λ r. ⌜ WordAt (now (file .entry)) i r ⌝ }
+    ensures { λ r. ⌜ WordAt 8 (now (file .entry)) i r ⌝ }
 {
-    if i + 4 <= file.len() {
-        let a = byte(file, i);
-        let b = byte(file, i + 1);
-        let c = byte(file, i + 2);
-        let d = byte(file, i + 3);
-        ((a * 256 + b) * 256 + c) * 256 + d
+    if i + 8 <= file.len() {
+        let x = word(file, i);
+        let y = word(file, i + 4);
+        x * 4294967296 + y
     } else {
-        let a = byte_or_zero(file, i);
-        let b = byte_or_zero(file, i + 1);
-        let c = byte_or_zero(file, i + 2);
-        let d = byte_or_zero(file, i + 3);
-        ((a * 256 + b) * 256 + c) * 256 + d
+        let x = word_or_zero(file, i);
+        let y = word_or_zero(file, i + 4);
+        x * 4294967296 + y
     }
 }
 
@@ -111,18 +138,33 @@ fn scatter_wide(buf: &mut [u8], i: usize, count: usize, head: u64, x: u64)
 }
 
 impl Cursor {
-    // The field of width bits at the cursor, and the cursor past it.
+    // The field of width bits at the cursor, and the cursor past it. Of the eight bytes that cover it the last bit is never part of it, and the shift stays below 64.
     pub fn take(self, file: &[u8], width: usize) -> Field
         requires { ⌜ FieldRoom (now file) (self .at) width ⌝ }
         ensures { λ r. ⌜ FieldTaken (now (file .entry)) (self .at) width (r .value) (r .next .at) ⌝ }
     {
         let at = self.at;
         let all = gather(file, at / 8);
-        let right = 32 - (at % 8 + width);
-        let value = (all >> right) % (1u64 << width);
+        let right = 63 - (at % 8 + width);
+        let value = (all / 2 >> right) % (1u64 << width);
         Field {
             value: value as usize,
             next: Cursor { at: at + width },
+        }
+    }
+
+    // The next two fields of width bits, taken as one of twice the width.
+    pub fn take_two(self, file: &[u8], width: usize) -> TwoFields
+        requires { ⌜ FieldRoom (now file) (self .at) (2 * width) ⌝ }
+        ensures { λ r. ⌜ TwoTaken (now (file .entry)) (self .at) width (r .first) (r .second) (r .next .at) ⌝ }
+    {
+        let both = self.take(file, 2 * width);
+        let value = both.value;
+        let next = both.next;
+        TwoFields {
+            first: value >> width,
+            second: value % (1usize << width),
+            next: next,
         }
     }
 

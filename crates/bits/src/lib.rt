@@ -49,13 +49,6 @@ fn byte(file: &[u8], i: usize) -> u64
     wide(file[i])
 }
 
-// The byte at i, and 0 past the end.
-fn byte_or_zero(file: &[u8], i: usize) -> u64
-    ensures { λ r. ⌜ (r ≡ getD (now (file .entry)) i 0) × (r < 256) ⌝ }
-{
-    if i < file.len() { byte(file, i) } else { 0 }
-}
-
 // The four bytes from i on as one number. They are read as one word.
 fn word(file: &[u8], i: usize) -> u64
     requires { ⌜ i + 4 ≤ length (now file) ⌝ }
@@ -68,16 +61,18 @@ fn word(file: &[u8], i: usize) -> u64
     ((a * 256 + b) * 256 + c) * 256 + d
 }
 
-// The same, with 0 past the end.
-fn word_or_zero(file: &[u8], i: usize) -> u64
-    requires { ⌜ i + 4 < 2 ^ 64 ⌝ }
-    ensures { λ r. ⌜ WordAt 4 (now (file .entry)) i r ⌝ }
+// The bytes from i to the end, fewer than eight, as the first of eight with 0 after them. A loop is short, so that what gathers is compiled into its callers.
+fn gather_last(file: &[u8], i: usize) -> u64
+    requires { ⌜ (i ≤ length (now file)) × (length (now file) < i + 8) ⌝ }
+    ensures { λ r. ⌜ WordAt 8 (now (file .entry)) i r ⌝ }
 {
-    let a = byte_or_zero(file, i);
-    let b = byte_or_zero(file, i + 1);
-    let c = byte_or_zero(file, i + 2);
-    let d = byte_or_zero(file, i + 3);
-    ((a * 256 + b) * 256 + c) * 256 + d
+    let mut x: u64 = 0;
+    let mut j: usize = 0;
+    while i + j < file.len() {
+        x += byte(file, i + j) << (56 - 8 * j);
+        j += 1;
+    }
+    x
 }
 
 // The eight bytes from i on as one number, with 0 past the end. Where all are there, they are read as two words.
@@ -90,9 +85,7 @@ fn gather(file: &[u8], i: usize) -> u64
         let y = word(file, i + 4);
         x * 4294967296 + y
     } else {
-        let x = word_or_zero(file, i);
-        let y = word_or_zero(file, i + 4);
-        x * 4294967296 + y
+        gather_last(file, i)
     }
 }
 

@@ -1,4 +1,4 @@
--- Both branches read the same two words, the second with 0 past the end; `joined` makes one number of them.
+-- Two words that are there are one number (`joined`); fewer bytes are gathered one by one.
 use Rattle.bits.proofs.Take.{joined}
 use borrow.Author.Needs.{needs}
 use Rattle.bits.proofs.gather.Statement.{statement}
@@ -7,17 +7,7 @@ use Rattle.bits.proofs.gather.Tie as tie
 pub gather-spec : {M : Type 1} → statement M
 gather-spec =
     tie.close
-    (tie.spec
-    (λ c. search needs)
+    (tie.spec (λ c. search needs) (λ c κs. search needs) (λ c. search needs) (λ c κs. search needs) (λ c. search needs) (λ c. search needs)
     (λ c κs. search needs)
-    (λ c. search needs)
-    (λ c κs. search needs)
-    (λ c. search needs)
-    (λ c. search needs)
-    (λ c κs. search needs)
-    (λ c. search needs)
-    (λ c κs. search needs)
-    (λ c. search needs)
-    (λ c. search needs)
     (λ c. joined _ _ _ _ (c .before .word .ensures) (c .word2 .ensures))
-    (λ c. joined _ _ _ _ (c .before .word-or-zero .ensures) (c .word-or-zero2 .ensures)))
+    (λ c. search needs))

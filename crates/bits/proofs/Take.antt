@@ -1,4 +1,4 @@
--- Eight bytes as one word cover any field of up to 56 bits, whatever bit it begins at, so a shift and a remainder of the word are the field; two fields are split alike.
+-- Eight bytes as one word cover any field of up to 56 bits from any bit on, so a shift and a remainder of the word are the field; two fields are split alike.
 use mathlib.Core.Path.{_≡_, refl, sym, ap, ap₂, _∙_, subst}
 use mathlib.Core.List.{List, [], _∷_, _++_}
 use Prim.Native.Nat.{ℕ, zero, suc, _+_, _-_, _*_, _/_, _%_, _^_, _≤_, _<_}

@@ -131,7 +131,7 @@ fn scatter_wide(buf: &mut [u8], i: usize, count: usize, head: u64, x: u64)
 }
 
 impl Cursor {
-    // The field of width bits at the cursor, and the cursor past it. Of the eight bytes that cover it the last bit is never part of it, and the shift stays below 64.
+    // The field of width bits at the cursor, and the cursor past it. Eight bytes cover it with a bit to spare, so that the shift stays below 64.
     pub fn take(self, file: &[u8], width: usize) -> Field
         requires { ⌜ FieldRoom (now file) (self .at) width ⌝ }
         ensures { λ r. ⌜ FieldTaken (now (file .entry)) (self .at) width (r .value) (r .next .at) ⌝ }

@@ -42,8 +42,10 @@ pub fn take_fields(file: &[u8], from: Cursor, width: usize, count: usize, out: &
     let mut i = 0;
     while count - i >= 2 {
         let two = c.take_two(file, width);
-        out[i] = two.first as u32;
-        out[i + 1] = two.second as u32;
+        let first = two.first as u32;
+        let second = two.second as u32;
+        out[i] = first;
+        out[i + 1] = second;
         let next = two.next;
         c = next;
         i += 2;

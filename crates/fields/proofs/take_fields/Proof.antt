@@ -26,21 +26,21 @@ sub-loop c = search needs
 take-two-requires : tie.Need-take-two-requires Inv-loop μ-loop
 take-two-requires c κs = two-room _ _ _ _ _ _ (c .before .before .before .before .pre) _ _ _ (c .before .loop .inv .1) (c .loop-test .taken)
 
-cast-out : tie.Need-cast-out Inv-loop μ-loop
-cast-out c =
+cast-first : tie.Need-cast-first Inv-loop μ-loop
+cast-first c =
     let t = c .before in
     record { fits = number-fits _ _ (t .before .before .before .before .before .pre .narrow) (t .take-two .ensures .first .small) }
+
+cast-second : tie.Need-cast-second Inv-loop μ-loop
+cast-second c =
+    let t = c .before .before in
+    record { fits = number-fits _ _ (t .before .before .before .before .before .pre .narrow) (t .take-two .ensures .second .small) }
 
 mul-out : tie.Need-mul-out Inv-loop μ-loop
 mul-out c = search needs
 
 slice-write-out : tie.Need-slice-write-out Inv-loop μ-loop
-slice-write-out c = omega (arith, c .before .before .before .loop .inv .1 .room)
-
-cast-out-2 : tie.Need-cast-out-2 Inv-loop μ-loop
-cast-out-2 c =
-    let t = c .before .before in
-    record { fits = number-fits _ _ (t .before .before .before .before .before .pre .narrow) (t .take-two .ensures .second .small) }
+slice-write-out c = omega (arith, c .before .before .before .before .loop .inv .1 .room)
 
 add-out : tie.Need-add-out Inv-loop μ-loop
 add-out c = search needs
@@ -70,8 +70,8 @@ take-requires c κs =
     let l = c .before .before in
     one-room _ _ _ _ _ _ (l .before .before .before .pre) _ _ _ (l .loop .inv .1) (c .if1 .taken)
 
-cast-out-3 : tie.Need-cast-out-3 Inv-loop μ-loop
-cast-out-3 c =
+cast-out : tie.Need-cast-out Inv-loop μ-loop
+cast-out c =
     let t = c .before in
     record { fits = number-fits _ _ (t .before .before .before .before .before .before .pre .narrow) (t .take .ensures .small) }
 
@@ -107,10 +107,10 @@ take-fields-spec =
     loop-holds
     sub-loop
     take-two-requires
-    cast-out
+    cast-first
+    cast-second
     mul-out
     slice-write-out
-    cast-out-2
     add-out
     mul-out-2
     slice-write-out-2
@@ -118,7 +118,7 @@ take-fields-spec =
     loop-less
     loop-again
     take-requires
-    cast-out-3
+    cast-out
     mul-out-3
     slice-write-out-3
     same-length

@@ -8,7 +8,7 @@ use native.Mathlib.Decide.{decLe}
 use native.Mathlib.Omega.{arith}
 use lib.ListN.{length, take, drop, getD, length-append, length-take, length-drop}
 use lib.Seq.{length-take-le, take-nil, take-add, drop-nil, drop-drop, drop-cons, take-append-add, drop-append-add}
-use lib.Pow.{pow-mono}
+use lib.Pow.{pow-mono, high, low}
 use Rattle.bits.specs.Bits.{bits, fields, value, bytesBits, fieldAt, fieldsAt}
 use Rattle.bits.specs.Inner.{window}
 use Rattle.bits.proofs.Parts.{drop-take, take-none, take-both}
@@ -122,6 +122,19 @@ length-fieldsAt f at w (suc n) = ap suc (length-fieldsAt f (at + w) w n)
 pub field-lt : (f : List ℕ) (at w : ℕ) → fieldAt f at w < 2 ^ w
 field-lt f at w =
     lt-of-lt-of-le (value-lt (take w (drop at (bytesBits f)))) (pow-mono {j = w} (omega (arith, length-take w (drop at (bytesBits f)))))
+
+-- a field of twice the width is two fields: the first is its high half, the second its low one
+pub field-two : (f : List ℕ) (at w : ℕ) → at + 2 * w ≤ 8 * length f
+    → (fieldAt f at (2 * w) / 2 ^ w ≡ fieldAt f at w) × (fieldAt f at (2 * w) % 2 ^ w ≡ fieldAt f (at + w) w)
+field-two f at w h =
+    let rest : List Bool = drop at (bytesBits f) in
+    let e : 2 * w ≡ w + w = omega arith in
+    let long : length (take w (drop w rest)) ≡ w =
+    length-take-le w (drop w rest) (omega (arith, length-drop w rest, length-drop at (bytesBits f), length-bytesBits f)) in
+    let both : fieldAt f at (2 * w) ≡ fieldAt f at w * 2 ^ w + fieldAt f (at + w) w =
+    ap (λ (k : ℕ). value (take k rest)) e ∙ ap value (take-add w w rest) ∙ value-append (take w rest) (take w (drop w rest))
+    ∙ ap₂ (λ (k : ℕ) (r : List Bool). value (take w rest) * 2 ^ k + value (take w r)) long (drop-drop w at (bytesBits f)) in
+    (rw both (high (fieldAt f at w) w (field-lt f (at + w) w)), rw both (low (fieldAt f at w) w (field-lt f (at + w) w)))
 
 -- the bits of a file are those of its fields
 module _ (f : List ℕ) (w : ℕ) where

@@ -11,7 +11,7 @@ use lib.Pow.{split, pow-add, shl-exact, shr-le, shr-mod, shr-shr}
 use Rattle.chain.specs.Written.{over, laid}
 use Rattle.chain.proofs.Written.{laid-nil, laid-one, laid-laid, laid-length}
 use Rattle.bits.specs.Bits.{bits, value, bytesBits, front, pack, bytesFor}
-use Rattle.bits.specs.Inner.{widestPut, filed, spread, FieldFill, FieldStored}
+use Rattle.bits.specs.Inner.{widestField, filed, spread, FieldFill, FieldStored}
 use Rattle.bits.proofs.Values.{length-bits, value-bits, value-bits-lt, bits-value, bits-add, value-append, value-slice}
 use Rattle.bits.proofs.Fields.{length-bytesBits, bytesBits-cons, take-bytesBits, drop-bytesBits}
 use Rattle.bits.proofs.Pack.{Bytes, length-front, front-take, value-front, length-pack, pack-onto, take-pack, pack-front, Bytes-take}
@@ -213,7 +213,7 @@ module _ (l : List ℕ) (at w v b : ℕ) (ok : Bytes l) (fill : FieldFill l at w
   put-stored new en =
       let i : ℕ = at / 8 in
       let m : ℕ = (at % 8 + w + 7) / 8 in
-      let narrow : w ≤ widestPut = fill .narrow in
+      let narrow : w ≤ widestField = fill .narrow in
       let li : length (take i l) ≡ i = length-take-le i l (omega (arith, fill .within)) in
       let s : take m (spread 8 (head * 2 ^ 56 + field)) ≡ pack m ends =
       ap (λ (x : ℕ). take m (spread 8 x)) shifted ∙ spread-pack ends m (omega (arith, length-ends)) (omega arith) in

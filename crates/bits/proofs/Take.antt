@@ -1,15 +1,16 @@
--- Four bytes as one word cover any field of up to 25 bits, whatever bit it begins at, so a shift and a remainder of the word are the field.
+-- Eight bytes as one word cover any field of up to 56 bits from any bit on, so a shift and a remainder of the word are the field; two fields are split alike.
 use mathlib.Core.Path.{_≡_, refl, sym, ap, ap₂, _∙_, subst}
-use mathlib.Core.List.{List, [], _∷_}
-use Prim.Native.Nat.{ℕ, suc, _+_, _-_, _*_, _/_, _%_, _^_, _≤_, _<_}
-use native.Mathlib.Nat.{mod-lt, one-mul}
+use mathlib.Core.List.{List, [], _∷_, _++_}
+use Prim.Native.Nat.{ℕ, zero, suc, _+_, _-_, _*_, _/_, _%_, _^_, _≤_, _<_}
+use native.Mathlib.Nat.{mod-lt, one-mul, zero-mul}
 use native.Mathlib.Omega.{arith}
-use lib.ListN.{getD}
+use lib.ListN.{length, getD, List·getD-eq-default}
 use lib.Dec.{lit<}
-use lib.Pow.{pow-pos, shl-exact}
-use Rattle.bits.specs.Bits.{value, bytesBits}
-use Rattle.bits.specs.Inner.{widestField, window, WordAt, FieldRoom, FieldTaken}
-use Rattle.bits.proofs.Fields.{field-window, value-bytes}
+use lib.Pow.{pow-pos, shl-exact, shr-shr}
+use Rattle.bits.specs.Bits.{value, bytesBits, fieldAt}
+use Rattle.bits.specs.Inner.{widestField, window, WordAt, FieldRoom, FieldTaken, TwoTaken}
+use Rattle.bits.proofs.Values.{value-lt, value-append}
+use Rattle.bits.proofs.Fields.{length-bytesBits, bytesBits-append, length-window, field-window, value-bytes, field-lt, field-two}
 
 no-bytes : value (bytesBits []) ≡ 0
 unfolding value bytesBits
@@ -19,24 +20,89 @@ four : (a b c d : ℕ) → a < 256 → b < 256 → c < 256 → d < 256 → value
 four a b c d ha hb hc hd =
     omega (arith, value-bytes a (b ∷ c ∷ d ∷ []) ha, value-bytes b (c ∷ d ∷ []) hb, value-bytes c (d ∷ []) hc, value-bytes d [] hd, no-bytes)
 
+-- what n bytes spell is a word
+word-is : (n : ℕ) (l : List ℕ) (i r : ℕ) → r ≡ value (bytesBits (window n l i)) → WordAt n l i r
+word-is n l i r e =
+    let long : length (bytesBits (window n l i)) ≡ n * 8 = length-bytesBits (window n l i) ∙ ap (λ (k : ℕ). k * 8) (length-window n l i) in
+    record { is = e; small = rw (e, ← long) (value-lt (bytesBits (window n l i))) }
+
 -- a is the byte at i
 abbrev ByteAt : List ℕ → ℕ → ℕ → Type 0
 ByteAt l i a = (a ≡ getD l i 0) × (a < 256)
 
 pub gathered : (l : List ℕ) (i a b c d : ℕ) → ByteAt l i a → ByteAt l (i + 1) b → ByteAt l (i + 2) c → ByteAt l (i + 3) d
-    → WordAt l i (((a * 256 + b) * 256 + c) * 256 + d)
+    → WordAt 4 l i (((a * 256 + b) * 256 + c) * 256 + d)
 unfolding window
 gathered l i a b c d pa pb pc pd =
     let at : (j k x : ℕ) → j ≡ k → x ≡ getD l j 0 → x ≡ getD l k 0 = λ j k x e p. p ∙ ap (λ (m : ℕ). getD l m 0) e in
-    record {
-      is =
-          sym (four a b c d (pa .1) (pb .1) (pc .1) (pd .1))
-          ∙ ap₂ (λ (x : ℕ) (r : List ℕ). value (bytesBits (x ∷ r))) (pa .0)
-          (ap₂ (λ (x : ℕ) (r : List ℕ). x ∷ r) (at (i + 1) (suc i) b (omega arith) (pb .0))
-          (ap₂ (λ (x : ℕ) (r : List ℕ). x ∷ r) (at (i + 2) (suc (suc i)) c (omega arith) (pc .0))
-          (ap (λ (x : ℕ). x ∷ []) (at (i + 3) (suc (suc (suc i))) d (omega arith) (pd .0)))));
-      small = omega arith;
-    }
+    word-is 4 l i _
+    (sym (four a b c d (pa .1) (pb .1) (pc .1) (pd .1))
+    ∙ ap₂ (λ (x : ℕ) (r : List ℕ). value (bytesBits (x ∷ r))) (pa .0)
+    (ap₂ (λ (x : ℕ) (r : List ℕ). x ∷ r) (at (i + 1) (suc i) b (omega arith) (pb .0))
+    (ap₂ (λ (x : ℕ) (r : List ℕ). x ∷ r) (at (i + 2) (suc (suc i)) c (omega arith) (pc .0))
+    (ap (λ (x : ℕ). x ∷ []) (at (i + 3) (suc (suc (suc i))) d (omega arith) (pd .0))))))
+
+window-halves : (l : List ℕ) (i : ℕ) → window 8 l i ≡ window 4 l i ++ window 4 l (i + 4)
+unfolding window
+window-halves l i =
+    let e : suc (suc (suc (suc i))) ≡ i + 4 = omega arith in
+    ap (λ (k : ℕ). window 4 l i ++ window 4 l k) e
+
+-- two words, one behind the other
+pub joined : (l : List ℕ) (i x y : ℕ) → WordAt 4 l i x → WordAt 4 l (i + 4) y → WordAt 8 l i (x * 2 ^ 32 + y)
+joined l i x y hx hy =
+    let a : List ℕ = window 4 l i in
+    let b : List ℕ = window 4 l (i + 4) in
+    let long : length (bytesBits b) ≡ 32 = length-bytesBits b ∙ ap (λ (n : ℕ). n * 8) (length-window 4 l (i + 4)) in
+    word-is 8 l i _
+    (ap₂ (λ (m n : ℕ). m * 2 ^ 32 + n) (hx .is) (hy .is)
+    ∙ ap (λ (n : ℕ). value (bytesBits a) * 2 ^ n + value (bytesBits b)) (sym long)
+    ∙ sym (ap value (ap bytesBits (window-halves l i) ∙ bytesBits-append a b) ∙ value-append (bytesBits a) (bytesBits b)))
+
+-- byte by byte: x is what the first j bytes come to, and the others are still to be added
+pub record Gathering (l : List ℕ) (i x j : ℕ) : Type 0 where
+  pub within : i + j ≤ length l
+  pub is : value (bytesBits (window 8 l i)) ≡ x + value (bytesBits (window (8 - j) l (i + j)))
+
+-- past the end there is nothing to add
+nothing-past : (n : ℕ) (l : List ℕ) (i : ℕ) → length l ≤ i → value (bytesBits (window n l i)) ≡ 0
+unfolding window
+nothing-past zero l i h = no-bytes
+nothing-past (suc n) l i h =
+    let rest : List ℕ = window n l (suc i) in
+    ap (λ (b : ℕ). value (bytesBits (b ∷ rest))) (List·getD-eq-default l 0 h)
+    ∙ value-bytes 0 rest (lit< tt) ∙ omega (arith, zero-mul (2 ^ (length rest * 8)), nothing-past n l (suc i) (omega arith))
+
+pub gather-start : (l : List ℕ) (i : ℕ) → i ≤ length l → Gathering l i 0 0
+gather-start l i h =
+    let e : i ≡ i + 0 = omega arith in
+    record { within = omega arith; is = ap (λ (k : ℕ). value (bytesBits (window 8 l k))) e ∙ omega arith }
+
+module _ (l : List ℕ) (i x j : ℕ) (inv : Gathering l i x j) where
+  pub gather-end : length l ≤ i + j → WordAt 8 l i x
+  gather-end h = word-is 8 l i x (omega (arith, inv .is, nothing-past (8 - j) l (i + j) h))
+
+  module _ (short : length l < i + 8) (h : i + j < length l) (b : ℕ) (is : ByteAt l (i + j) b) where
+    shifted : b * 2 ^ (56 - 8 * j) % 2 ^ 64 ≡ b * 2 ^ (56 - 8 * j)
+    shifted = shl-exact 8 (56 - 8 * j) 64 (is .1) (omega arith)
+
+    next-byte : value (bytesBits (window (8 - j) l (i + j))) ≡ b * 2 ^ (56 - 8 * j) + value (bytesBits (window (8 - (j + 1)) l (i + (j + 1))))
+    unfolding window
+    next-byte =
+        let n : ℕ = 8 - (j + 1) in
+        let m : 8 - j ≡ suc n = omega arith in
+        let k : suc (i + j) ≡ i + (j + 1) = omega arith in
+        let e : length (window n l (i + (j + 1))) * 8 ≡ 56 - 8 * j = ap (λ (z : ℕ). z * 8) (length-window n l (i + (j + 1))) ∙ omega arith in
+        ap (λ (z : ℕ). value (bytesBits (window z l (i + j)))) m
+        ∙ ap₂ (λ (y z : ℕ). value (bytesBits (y ∷ window n l z))) (sym (is .0)) k
+        ∙ value-bytes b (window n l (i + (j + 1))) (is .1)
+        ∙ ap (λ (z : ℕ). b * 2 ^ z + value (bytesBits (window n l (i + (j + 1))))) e
+
+    pub gather-on : Gathering l i (x + b * 2 ^ (56 - 8 * j) % 2 ^ 64) (j + 1)
+    gather-on = record { within = omega arith; is = omega (arith, inv .is, next-byte, shifted) }
+
+    pub gather-fits : x + b * 2 ^ (56 - 8 * j) % 2 ^ 64 < 2 ^ 64
+    gather-fits = omega (arith, gather-on .is, word-is 8 l i _ refl .small)
 
 one-shl : (w : ℕ) → w ≤ widestField → 1 * 2 ^ w % 2 ^ 64 ≡ 2 ^ w
 one-shl w h = shl-exact 1 w 64 (lit< tt) (omega arith) ∙ one-mul (2 ^ w)
@@ -44,16 +110,30 @@ one-shl w h = shl-exact 1 w 64 (lit< tt) (omega arith) ∙ one-mul (2 ^ w)
 pub one-shl-pos : (w : ℕ) → w ≤ widestField → 0 < 1 * 2 ^ w % 2 ^ 64
 one-shl-pos w h = subst (λ (m : ℕ). 0 < m) (sym (one-shl w h)) (pow-pos w)
 
-pub taken : (l : List ℕ) (at w g : ℕ) → FieldRoom l at w → WordAt l (at / 8) g
-    → FieldTaken l at w (g / 2 ^ (32 - (at % 8 + w)) % (1 * 2 ^ w % 2 ^ 64)) (at + w)
-taken l at w g room got =
-    let e : g / 2 ^ (32 - (at % 8 + w)) % (1 * 2 ^ w % 2 ^ 64) ≡ g / 2 ^ (32 - (at % 8 + w)) % 2 ^ w =
-    ap (λ (m : ℕ). g / 2 ^ (32 - (at % 8 + w)) % m) (one-shl w (room .narrow)) in
-    record {
-      is =
-          e
-          ∙ ap (λ (m : ℕ). m / 2 ^ (32 - (at % 8 + w)) % 2 ^ w) (got .is)
-          ∙ sym (field-window 4 l at w (omega (arith, room .narrow)) (room .within));
-      small = subst (λ (m : ℕ). m < 2 ^ w) (sym e) (mod-lt (g / 2 ^ (32 - (at % 8 + w))) (pow-pos w));
-      moved = refl;
-    }
+module _ (l : List ℕ) (at w : ℕ) where
+  pub taken : (g : ℕ) → FieldRoom l at w → WordAt 8 l (at / 8) g → FieldTaken l at w (g / 2 / 2 ^ (63 - (at % 8 + w)) % (1 * 2 ^ w % 2 ^ 64)) (at + w)
+  taken g room got =
+      let r : ℕ = 63 - (at % 8 + w) in
+      let all : 1 + r ≡ 64 - (at % 8 + w) = omega (arith, room .narrow) in
+      let e : g / 2 / 2 ^ r % (1 * 2 ^ w % 2 ^ 64) ≡ g / 2 ^ (64 - (at % 8 + w)) % 2 ^ w =
+      ap₂ (λ (x m : ℕ). x % m) (shr-shr g 1 r ∙ ap (λ (k : ℕ). g / 2 ^ k) all) (one-shl w (room .narrow)) in
+      record {
+        is =
+            e
+            ∙ ap (λ (m : ℕ). m / 2 ^ (64 - (at % 8 + w)) % 2 ^ w) (got .is)
+            ∙ sym (field-window 8 l at w (omega (arith, room .narrow)) (room .within));
+        small = subst (λ (m : ℕ). m < 2 ^ w) (sym e) (mod-lt (g / 2 ^ (64 - (at % 8 + w))) (pow-pos w));
+        moved = refl;
+      }
+
+  -- a field of twice the width is two fields
+  pub two-taken : (v next : ℕ) → FieldRoom l at (2 * w) → FieldTaken l at (2 * w) v next → TwoTaken l at w (v / 2 ^ w) (v % (1 * 2 ^ w % 2 ^ 64)) next
+  two-taken v next room t =
+      let halves = field-two l at w (room .within) in
+      let a : v / 2 ^ w ≡ fieldAt l at w = ap (λ (x : ℕ). x / 2 ^ w) (t .is) ∙ halves .0 in
+      let b : v % (1 * 2 ^ w % 2 ^ 64) ≡ fieldAt l (at + w) w =
+      ap₂ (λ (x m : ℕ). x % m) (t .is) (one-shl w (omega (arith, room .narrow))) ∙ halves .1 in
+      record {
+        first = record { is = a; small = rw a (field-lt l at w); moved = refl };
+        second = record { is = b; small = rw b (field-lt l (at + w) w); moved = omega (arith, t .moved) };
+      }

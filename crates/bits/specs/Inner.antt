@@ -7,13 +7,9 @@ use lib.ListN.{length, take, getD}
 use Rattle.chain.specs.Written.{over}
 use Rattle.bits.specs.Bits.{value, bytesBits, pack, bytesFor, fieldAt}
 
--- how wide a field that is read may be, so that four bytes cover it from any bit on
+-- how wide a field may be, so that eight bytes cover it from any bit on, with a bit to spare
 abbrev pub widestField : ℕ
-widestField = 25
-
--- how wide a field that is written may be, so that eight bytes do
-abbrev pub widestPut : ℕ
-widestPut = 57
+widestField = 56
 
 -- a field of w bits at position at is short enough, lies within the file, and its end is a usize
 pub record FieldRoom (file : List ℕ) (at w : ℕ) : Type 0 where
@@ -27,9 +23,14 @@ pub record FieldTaken (file : List ℕ) (at w v next : ℕ) : Type 0 where
   pub small : v < 2 ^ w
   pub moved : next ≡ at + w
 
+-- v and u are the next two fields of w bits, and next the position past both
+pub record TwoTaken (file : List ℕ) (at w v u next : ℕ) : Type 0 where
+  pub first : FieldTaken file at w v (at + w)
+  pub second : FieldTaken file (at + w) w u next
+
 -- a field of w bits, one at least, whose value is v, has room at position at
 pub record FieldFill (buf : List ℕ) (at w v : ℕ) : Type 0 where
-  pub narrow : w ≤ widestPut
+  pub narrow : w ≤ widestField
   pub within : at + w ≤ 8 * length buf
   pub fits : at + w < 2 ^ 64
   pub some : 0 < w
@@ -49,10 +50,10 @@ unfoldable pub window : ℕ → List ℕ → ℕ → List ℕ
 window zero l i = []
 window (suc n) l i = getD l i 0 ∷ window n l (suc i)
 
--- r is the number of the four bytes from i on
-pub record WordAt (file : List ℕ) (i r : ℕ) : Type 0 where
-  pub is : r ≡ value (bytesBits (window 4 file i))
-  pub small : r < 2 ^ 32
+-- r is the number of the n bytes from i on
+pub record WordAt (n : ℕ) (file : List ℕ) (i r : ℕ) : Type 0 where
+  pub is : r ≡ value (bytesBits (window n file i))
+  pub small : r < 2 ^ (n * 8)
 
 -- the lowest n bytes of a number, the highest first
 unfoldable pub spread : ℕ → ℕ → List ℕ

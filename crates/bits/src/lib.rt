@@ -4,7 +4,7 @@ ghost use Prim.Native.Nat.{_+_, _*_, _%_, _^_, _≤_, _<_};
 ghost use lib.ListN.{length, take, getD};
 ghost use Rattle.chain.specs.Written.{laid};
 ghost use Rattle.bits.specs.Bits.{bits};
-ghost use Rattle.bits.specs.Inner.{spread, WordAt, FieldRoom, FieldTaken, FieldFill, FieldStored};
+ghost use Rattle.bits.specs.Inner.{spread, WordAt, FieldRoom, FieldTaken, TwoTaken, FieldFill, FieldStored};
 
 // A bit position of a file.
 pub struct Cursor {
@@ -14,6 +14,13 @@ pub struct Cursor {
 // A field that was read, and the position past it.
 pub struct Field {
     pub value: usize,
+    pub next: Cursor,
+}
+
+// Two fields that were read, one behind the other, and the position past them.
+pub struct TwoFields {
+    pub first: usize,
+    pub second: usize,
     pub next: Cursor,
 }
 
@@ -42,30 +49,43 @@ fn byte(file: &[u8], i: usize) -> u64
     wide(file[i])
 }
 
-// The byte at i, and 0 past the end.
-fn byte_or_zero(file: &[u8], i: usize) -> u64
-    ensures { λ r. ⌜ (r ≡ getD (now (file .entry)) i 0) × (r < 256) ⌝ }
+// The four bytes from i on as one number. They are read as one word.
+fn word(file: &[u8], i: usize) -> u64
+    requires { ⌜ i + 4 ≤ length (now file) ⌝ }
+    ensures { λ r. ⌜ WordAt 4 (now (file .entry)) i r ⌝ }
 {
-    if i < file.len() { byte(file, i) } else { 0 }
+    let a = byte(file, i);
+    let b = byte(file, i + 1);
+    let c = byte(file, i + 2);
+    let d = byte(file, i + 3);
+    ((a * 256 + b) * 256 + c) * 256 + d
 }
 
-// The four bytes from i on as one number. Where all are there, they are read as one word.
+// The bytes from i to the end, fewer than eight, as the first of eight with 0 after them. A loop is short, so that what gathers is compiled into its callers.
+fn gather_last(file: &[u8], i: usize) -> u64
+    requires { ⌜ (i ≤ length (now file)) × (length (now file) < i + 8) ⌝ }
+    ensures { λ r. ⌜ WordAt 8 (now (file .entry)) i r ⌝ }
+{
+    let mut x: u64 = 0;
+    let mut j: usize = 0;
+    while i + j < file.len() {
+        x += byte(file, i + j) << (56 - 8 * j);
+        j += 1;
+    }
+    x
+}
+
+// The eight bytes from i on as one number, with 0 past the end. Where all are there, they are read as two words.
 fn gather(file: &[u8], i: usize) -> u64
     requires { ⌜ i ≤ length (now file) ⌝ }
-    ensures { λ r. ⌜ WordAt (now (file .entry)) i r ⌝ }
+    ensures { λ r. ⌜ WordAt 8 (now (file .entry)) i r ⌝ }
 {
-    if i + 4 <= file.len() {
-        let a = byte(file, i);
-        let b = byte(file, i + 1);
-        let c = byte(file, i + 2);
-        let d = byte(file, i + 3);
-        ((a * 256 + b) * 256 + c) * 256 + d
+    if i + 8 <= file.len() {
+        let x = word(file, i);
+        let y = word(file, i + 4);
+        x * 4294967296 + y
     } else {
-        let a = byte_or_zero(file, i);
-        let b = byte_or_zero(file, i + 1);
-        let c = byte_or_zero(file, i + 2);
-        let d = byte_or_zero(file, i + 3);
-        ((a * 256 + b) * 256 + c) * 256 + d
+        gather_last(file, i)
     }
 }
 
@@ -111,18 +131,33 @@ fn scatter_wide(buf: &mut [u8], i: usize, count: usize, head: u64, x: u64)
 }
 
 impl Cursor {
-    // The field of width bits at the cursor, and the cursor past it.
+    // The field of width bits at the cursor, and the cursor past it. Eight bytes cover it with a bit to spare, so that the shift stays below 64.
     pub fn take(self, file: &[u8], width: usize) -> Field
         requires { ⌜ FieldRoom (now file) (self .at) width ⌝ }
         ensures { λ r. ⌜ FieldTaken (now (file .entry)) (self .at) width (r .value) (r .next .at) ⌝ }
     {
         let at = self.at;
         let all = gather(file, at / 8);
-        let right = 32 - (at % 8 + width);
-        let value = (all >> right) % (1u64 << width);
+        let right = 63 - (at % 8 + width);
+        let value = (all / 2 >> right) % (1u64 << width);
         Field {
             value: value as usize,
             next: Cursor { at: at + width },
+        }
+    }
+
+    // The next two fields of width bits, taken as one of twice the width.
+    pub fn take_two(self, file: &[u8], width: usize) -> TwoFields
+        requires { ⌜ FieldRoom (now file) (self .at) (2 * width) ⌝ }
+        ensures { λ r. ⌜ TwoTaken (now (file .entry)) (self .at) width (r .first) (r .second) (r .next .at) ⌝ }
+    {
+        let both = self.take(file, 2 * width);
+        let value = both.value;
+        let next = both.next;
+        TwoFields {
+            first: value >> width,
+            second: value % (1usize << width),
+            next: next,
         }
     }
 

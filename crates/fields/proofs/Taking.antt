@@ -1,16 +1,16 @@
--- The loop's invariant: the cells as they will be are the cells so far with the fields still to be read laid behind them; each turn moves one over.
+-- The loop's invariant: the cells as they will be are the cells so far with the fields still to be read laid behind them; each turn moves some over.
 use mathlib.Core.Path.{_≡_, sym, ap, ap₂, _∙_}
 use mathlib.Core.List.{List, _∷_}
 use Prim.Native.Nat.{ℕ, suc, _+_, _-_, _*_, _^_, _≤_, _<_}
-use native.Mathlib.Nat.{zero-mul, suc-mul, lt-of-lt-of-le}
+use native.Mathlib.Nat.{zero-mul, one-mul, add-mul, lt-of-lt-of-le}
 use native.Mathlib.Omega.{arith}
 use lib.ListN.{length, set, length-set}
 use lib.Pow.{pow-mono}
 use Rattle.chain.specs.Written.{over, laid}
 use Rattle.chain.proofs.Written.{over-laid, laid-nil, laid-one}
 use Rattle.bits.specs.Bits.{fieldsAt}
-use Rattle.bits.specs.Inner.{FieldRoom, FieldTaken}
-use Rattle.fields.specs.Inner.{FieldsRoom, FieldsTaken}
+use Rattle.bits.specs.Inner.{widestField, FieldRoom, FieldTaken, TwoTaken}
+use Rattle.fields.specs.Inner.{widestNumber, FieldsRoom, FieldsTaken}
 
 -- what out will be, from what it is with n fields to come, the first at position c for cell j
 unfoldable pub takenFrom : List ℕ → ℕ → ℕ → ℕ → ℕ → List ℕ → List ℕ
@@ -45,35 +45,49 @@ module _ (file : List ℕ) (at w n : ℕ) (old : List ℕ) where
       }
 
 -- a turn
-module _ (file whole : List ℕ) (at w n : ℕ) (old out : List ℕ) (c j : ℕ) (ok : FieldsRoom file at w n old) (h : j < n)
-    (inv : Taking file whole (at + n * w) w n out c j) where
-  left : (n - j) * w ≡ w + (n - (j + 1)) * w
-  left =
-      let e : n - j ≡ suc (n - (j + 1)) = omega arith in
-      ap (λ (k : ℕ). k * w) e ∙ omega (arith, suc-mul (n - (j + 1)) w)
+module _ (file whole : List ℕ) (at w n : ℕ) (old : List ℕ) (ok : FieldsRoom file at w n old) where
+  module _ (out : List ℕ) (c j : ℕ) (inv : Taking file whole (at + n * w) w n out c j) where
+    -- k fields, and those after them
+    parts : (k : ℕ) → j + k ≤ n → (n - j) * w ≡ k * w + (n - (j + k)) * w
+    parts k h =
+        let e : n - j ≡ k + (n - (j + k)) = omega arith in
+        ap (λ (m : ℕ). m * w) e ∙ add-mul k (n - (j + k)) w
 
-  pub take-room : FieldRoom file c w
-  take-room =
-      record {
-        narrow = ok .narrow;
-        within = omega (arith, ok .within, inv .place, left);
-        fits = omega (arith, ok .fits, inv .place, left);
-      }
+    room-some : (k : ℕ) → j + k ≤ n → k * w ≤ widestField → FieldRoom file c (k * w)
+    room-some k h narrow =
+        record {
+          narrow = narrow;
+          within = omega (arith, ok .within, inv .place, parts k h);
+          fits = omega (arith, ok .fits, inv .place, parts k h);
+        }
 
-  pub take-on : (v next : ℕ) → FieldTaken file c w v next → Taking file whole (at + n * w) w n (set out j v) next (j + 1)
-  unfolding takenFrom fieldsAt
-  take-on v next t =
-      let e : n - j ≡ suc (n - (j + 1)) = omega arith in
-      record {
-        some-left = omega arith;
-        place = omega (arith, inv .place, left, t .moved);
-        room = simp length-set (inv .room);
-        is =
-            inv .is ∙ ap (λ (k : ℕ). laid j (fieldsAt file c w k) out) e
-            ∙ ap₂ (λ (x m : ℕ). laid j (x ∷ fieldsAt file m w (n - (j + 1))) out) (sym (t .is)) (sym (t .moved))
-            ∙ sym (laid-one j v (fieldsAt file next w (n - (j + 1))) out (omega (arith, inv .room)));
-      }
+    pub one-room : j < n → FieldRoom file c w
+    one-room h = rw (one-mul w) at (room-some 1 (omega arith) (omega (arith, ok .narrow)))
 
--- a narrow field fits a value number
-pub narrow-fits : (w v : ℕ) → w ≤ 25 → v < 2 ^ w → v < 2 ^ 32
-narrow-fits w v h k = lt-of-lt-of-le k (pow-mono {j = 32} (omega arith))
+    pub two-room : 2 ≤ n - j → FieldRoom file c (2 * w)
+    two-room h = room-some 2 (omega arith) (omega (arith, ok .narrow))
+
+    pub one-on : j < n → (v next : ℕ) → FieldTaken file c w v next → Taking file whole (at + n * w) w n (set out j v) next (j + 1)
+    unfolding takenFrom fieldsAt
+    one-on h v next t =
+        let e : n - j ≡ suc (n - (j + 1)) = omega arith in
+        record {
+          some-left = omega arith;
+          place = omega (arith, inv .place, parts 1 (omega arith), one-mul w, t .moved);
+          room = simp length-set (inv .room);
+          is =
+              inv .is ∙ ap (λ (k : ℕ). laid j (fieldsAt file c w k) out) e
+              ∙ ap₂ (λ (x m : ℕ). laid j (x ∷ fieldsAt file m w (n - (j + 1))) out) (sym (t .is)) (sym (t .moved))
+              ∙ sym (laid-one j v (fieldsAt file next w (n - (j + 1))) out (omega (arith, inv .room)));
+        }
+
+  pub two-on : (out : List ℕ) (c j : ℕ) → Taking file whole (at + n * w) w n out c j → 2 ≤ n - j → (v u next : ℕ) → TwoTaken file c w v u next
+      → Taking file whole (at + n * w) w n (set (set out j v) (j + 1) u) next (j + 2)
+  two-on out c j inv h v u next t =
+      let e : j + 1 + 1 ≡ j + 2 = omega arith in
+      let first = one-on out c j inv (omega arith) v (c + w) (t .first) in
+      rw e at (one-on (set out j v) (c + w) (j + 1) first (omega arith) u next (t .second))
+
+-- a number of a list fits a value number
+pub number-fits : (w v : ℕ) → w ≤ widestNumber → v < 2 ^ w → v < 2 ^ 32
+number-fits w v h k = lt-of-lt-of-le k (pow-mono {j = 32} (omega arith))

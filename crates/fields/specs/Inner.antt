@@ -5,7 +5,11 @@ use Prim.Native.Nat.{ℕ, _+_, _*_, _^_, _≤_, _<_}
 use lib.ListN.{length, take, getD}
 use Rattle.chain.specs.Written.{over}
 use Rattle.bits.specs.Bits.{bytesBits, fieldsAt}
-use Rattle.bits.specs.Inner.{widestField, filed}
+use Rattle.bits.specs.Inner.{filed}
+
+-- how wide the fields of a list may be, so that two of them are read and written as one (`widestField`)
+abbrev pub widestNumber : ℕ
+widestNumber = 28
 
 -- a buffer whose bits from at on are zero to the end of the byte
 abbrev pub Clean : List ℕ → ℕ → Type 0
@@ -13,7 +17,7 @@ Clean buf at = filed (take at (bytesBits buf)) buf ≡ buf
 
 -- fields of w bits for the numbers of l have room in buf at position at
 pub record FieldsFill (buf : List ℕ) (at w : ℕ) (l : List ℕ) : Type 0 where
-  pub narrow : w ≤ widestField
+  pub narrow : w ≤ widestNumber
   pub some : 0 < w
   pub within : at + length l * w ≤ 8 * length buf
   pub fits : at + length l * w < 2 ^ 64
@@ -22,7 +26,7 @@ pub record FieldsFill (buf : List ℕ) (at w : ℕ) (l : List ℕ) : Type 0 wher
 
 -- n fields of w bits lie within the file from position at on, and out has a cell for each
 pub record FieldsRoom (file : List ℕ) (at w n : ℕ) (out : List ℕ) : Type 0 where
-  pub narrow : w ≤ widestField
+  pub narrow : w ≤ widestNumber
   pub within : at + n * w ≤ 8 * length file
   pub fits : at + n * w < 2 ^ 64
   pub room : n ≤ length out

@@ -33,19 +33,28 @@ pub fn put_fields(buf: &mut [u8], from: Cursor, width: usize, list: &[u32], coun
     c
 }
 
-// Reads count fields of width bits into the first cells of out.
+// Reads count fields of width bits into the first cells of out, two at a time and a last odd one by itself.
 pub fn take_fields(file: &[u8], from: Cursor, width: usize, count: usize, out: &mut [u32]) -> Cursor
     requires { ⌜ FieldsRoom (now file) (from .at) width count (now out) ⌝ }
     ensures { λ r. ⌜ FieldsTaken (now (file .entry)) (from .at) width count (now (out .entry)) (now (out .exit)) (r .at) ⌝ }
 {
     let mut c = from;
     let mut i = 0;
-    while i < count {
-        let f = c.take(file, width);
-        out[i] = f.value as u32;
-        let next = f.next;
+    while count - i >= 2 {
+        let two = c.take_two(file, width);
+        let first = two.first as u32;
+        let second = two.second as u32;
+        out[i] = first;
+        out[i + 1] = second;
+        let next = two.next;
         c = next;
-        i += 1;
+        i += 2;
+    }
+    if i < count {
+        let one = c.take(file, width);
+        out[i] = one.value as u32;
+        let next = one.next;
+        c = next;
     }
     c
 }

@@ -2,11 +2,10 @@
 use mathlib.Core.Path.{_≡_, refl, sym, ap, ap₂, _∙_}
 use mathlib.Core.List.{List}
 use Prim.Native.Nat.{ℕ, suc, _+_, _-_, _*_, _^_, _≤_, _<_}
-use native.Mathlib.Nat.{suc-mul, lt-of-lt-of-le}
+use native.Mathlib.Nat.{suc-mul}
 use native.Mathlib.Numerals.{add-one}
 use native.Mathlib.Omega.{arith}
 use lib.ListN.{length}
-use lib.Pow.{pow-mono}
 use Rattle.chain.specs.Tests.{_<?_}
 use Rattle.chain.specs.Verdict.{Verdict, fine, refused, _then_, refuseIf}
 use Rattle.chain.specs.Judgement.{verdictOf}
@@ -15,13 +14,14 @@ use Rattle.chain.specs.declared.Judgement.{Judgement}
 use Rattle.chain.specs.declared.Judgement.the-variants.{Fine, Refused}
 use Rattle.chain.proofs.Rules.{stop, pass, told-fine, told-refused, refuse-yes, refuse-no, lt-yes, lt-no}
 use Rattle.bits.specs.Bits.{fieldAt, fieldsAt}
-use Rattle.bits.specs.Inner.{widestField, FieldRoom, FieldTaken}
+use Rattle.bits.specs.Inner.{FieldRoom, FieldTaken, TwoTaken}
+use Rattle.fields.specs.Inner.{widestNumber}
 use Rattle.layout.specs.declared.Extent.{Extent}
 use Rattle.reading.specs.Inner.{Contained}
 
 -- n fields of w bits from position at on may be read
 pub record FieldsWithin (bytes : List ℕ) (at w n : ℕ) : Type 0 where
-  pub narrow : w ≤ widestField
+  pub narrow : w ≤ widestNumber
   pub within : at + n * w ≤ 8 * length bytes
   pub fits : at + n * w < 2 ^ 64
 
@@ -53,10 +53,6 @@ within-rest bytes at w n v next ok t =
       fits = omega (arith, ok .fits, suc-mul n w, t .moved);
     }
 
--- a field fits a value number
-pub field-fits : (w v : ℕ) → w ≤ widestField → v < 2 ^ w → v < 2 ^ 32
-field-fits w v h k = lt-of-lt-of-le k (pow-mono {j = 32} (omega arith))
-
 -- the invariant of the steps' loop: s steps are judged, and whole is the verdict on those that are left, from position c on
 pub record StepsLeft (whole : Verdict) (bytes : List ℕ) (p w n c s : ℕ) : Type 0 where
   pub some-left : s ≤ n
@@ -77,46 +73,50 @@ module _ (whole : Verdict) (bytes : List ℕ) (p w n c s : ℕ) (inv : StepsLeft
       sym (inv .same ∙ ap (λ (k : ℕ). stepsRule p (s + 1) (pairs (fieldsAt bytes c w k))) e)
 
   module _ (h : s < n) where
-    left : 2 * (n - s) ≡ suc (suc (2 * (n - (s + 1))))
+    -- the steps' fields that are left after this one's two
+    abbrev after : ℕ
+    after = 2 * (n - (s + 1))
+
+    left : 2 * (n - s) ≡ suc (suc after)
     left = omega arith
 
-    two : FieldsWithin bytes c w (suc (suc (2 * (n - (s + 1)))))
+    two : FieldsWithin bytes c w (suc (suc after))
     two = rw (← left) (inv .room)
 
-    pub first-room : FieldRoom bytes c w
-    first-room = within-take bytes c w (suc (2 * (n - (s + 1)))) two
+    pub step-room : FieldRoom bytes c (2 * w)
+    step-room =
+        record {
+          narrow = omega (arith, two .narrow);
+          within = omega (arith, two .within, suc-mul (suc after) w, suc-mul after w);
+          fits = omega (arith, two .fits, suc-mul (suc after) w, suc-mul after w);
+        }
 
-    module _ (a m : ℕ) (one : FieldTaken bytes c w a m) where
-      pub second-room : FieldRoom bytes m w
-      second-room = within-take bytes m w (2 * (n - (s + 1))) (within-rest bytes c w (suc (2 * (n - (s + 1)))) a m two one)
+    module _ (a b next : ℕ) (t : TwoTaken bytes c w a b next) (j : Judgement) (told : verdictOf j ≡ stepRule (p + s + 1) (s + 1) (by a b)) where
+      rest : Verdict
+      rest = stepsRule p (s + 1 + 1) (pairs (fieldsAt bytes next w after))
 
-      module _ (b next : ℕ) (other : FieldTaken bytes m w b next) (j : Judgement) (told : verdictOf j ≡ stepRule (p + s + 1) (s + 1) (by a b)) where
-        rest : Verdict
-        rest = stepsRule p (s + 1 + 1) (pairs (fieldsAt bytes next w (2 * (n - (s + 1)))))
+      here : whole ≡ (stepRule (p + s + 1) (s + 1) (by a b) then rest)
+      unfolding fieldsAt rest
+      here =
+          let e : p + (s + 1) ≡ p + s + 1 = omega arith in
+          inv .same ∙ ap (λ (i : ℕ). stepsRule p (s + 1) (pairs (fieldsAt bytes c w i))) left
+          ∙ ap (λ (v : ℕ). stepRule (p + (s + 1)) (s + 1) (by v (fieldAt bytes (c + w) w)) then stepsRule p (suc (s + 1))
+          (pairs (fieldsAt bytes (c + w + w) w after))) (sym (t .first .is))
+          ∙ ap₂ (λ (i v : ℕ). stepRule (p + (s + 1)) (s + 1) (by a v) then stepsRule p (suc (s + 1)) (pairs (fieldsAt bytes i w after)))
+          (sym (t .second .moved)) (sym (t .second .is))
+          ∙ ap₂ (λ (i v : ℕ). stepRule v (s + 1) (by a b) then stepsRule p i (pairs (fieldsAt bytes next w after))) (sym (add-one (s + 1))) e
 
-        here : whole ≡ (stepRule (p + s + 1) (s + 1) (by a b) then rest)
-        unfolding fieldsAt rest
-        here =
-            let k : ℕ = 2 * (n - (s + 1)) in
-            let e : p + (s + 1) ≡ p + s + 1 = omega arith in
-            inv .same ∙ ap (λ (i : ℕ). stepsRule p (s + 1) (pairs (fieldsAt bytes c w i))) left
-            ∙ ap₂ (λ (i v : ℕ). stepRule (p + (s + 1)) (s + 1) (by v (fieldAt bytes i w)) then stepsRule p (suc (s + 1))
-            (pairs (fieldsAt bytes (i + w) w k))) (sym (one .moved)) (sym (one .is))
-            ∙ ap₂ (λ (i v : ℕ). stepRule (p + (s + 1)) (s + 1) (by a v) then stepsRule p (suc (s + 1)) (pairs (fieldsAt bytes i w k)))
-            (sym (other .moved)) (sym (other .is))
-            ∙ ap₂ (λ (i v : ℕ). stepRule v (s + 1) (by a b) then stepsRule p i (pairs (fieldsAt bytes next w k))) (sym (add-one (s + 1))) e
+      pub step-bad : (number place : ℕ) → j ≡ Refused number place → refused number place ≡ whole
+      step-bad number place e = stop _ _ number place (told-refused j _ number place told e) ∙ sym here
 
-        pub step-bad : (number place : ℕ) → j ≡ Refused number place → refused number place ≡ whole
-        step-bad number place e = stop _ _ number place (told-refused j _ number place told e) ∙ sym here
-
-        pub step-on : j ≡ Fine → StepsLeft whole bytes p w n next (s + 1)
-        unfolding rest
-        step-on e =
-            record {
-              some-left = omega arith;
-              room = within-rest bytes m w (2 * (n - (s + 1))) b next (within-rest bytes c w (suc (2 * (n - (s + 1)))) a m two one) other;
-              same = here ∙ sym (pass _ _ _ (told-fine j _ told e) refl);
-            }
+      pub step-on : j ≡ Fine → StepsLeft whole bytes p w n next (s + 1)
+      unfolding rest
+      step-on e =
+          record {
+            some-left = omega arith;
+            room = within-rest bytes (c + w) w after b next (within-rest bytes c w (suc after) a (c + w) two (t .first)) (t .second);
+            same = here ∙ sym (pass _ _ _ (told-fine j _ told e) refl);
+          }
 
 -- the invariant of the outputs' loop
 pub record OutputsLeft (whole : Verdict) (bytes : List ℕ) (top w q c i : ℕ) : Type 0 where

@@ -9,7 +9,7 @@ use Rattle.chain.specs.Written.{over}
 use Rattle.chain.specs.Chain.{pairs, flat, lengthRule, chainRule}
 use Rattle.chain.specs.declared.Step.{Step}
 use Rattle.bits.specs.Bits.{bytesFor, fieldAt, fieldsAt}
-use Rattle.bits.specs.Inner.{widestField}
+use Rattle.fields.specs.Inner.{widestNumber}
 use Rattle.layout.specs.declared.Layout.{Layout}
 use Rattle.layout.specs.declared.Extent.{Extent}
 use Rattle.layout.specs.File.{editionOf, columnsOf, payslipsOf, lengthOf, readAnswer, readSteps, readOutputs}
@@ -45,7 +45,7 @@ headed L bytes (Refused number place) = refused number place ≡ headerRule L by
 
 -- an extent whose parts add up, with numbers that are small enough
 pub record Proper (x : Extent) : Type 0 where
-  pub narrow : x .width ≤ widestField
+  pub narrow : x .width ≤ widestNumber
   pub parts : x .total ≡ x .start + 2 * x .n * x .width + x .q * x .width
   pub low : x .total < 2 ^ 32
   pub top : x .p + x .n < 2 ^ 32

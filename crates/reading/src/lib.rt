@@ -79,18 +79,16 @@ fn judge_steps(bytes: &[u8], x: Extent) -> Judgement
     let mut c = Cursor { at: x.start };
     let mut s: usize = 0;
     while s < n {
-        let first = c.take(bytes, x.width);
-        let middle = first.next;
-        let second = middle.take(bytes, x.width);
-        let a = first.value as u32;
-        let b = second.value as u32;
+        let step = c.take_two(bytes, x.width);
+        let a = step.first as u32;
+        let b = step.second as u32;
         match legal::judge_step(x.p + s + 1, s + 1, a, b) {
             Judgement::Refused(number, place) => {
                 return Judgement::Refused(number, place);
             }
             Judgement::Fine => {}
         }
-        let next = second.next;
+        let next = step.next;
         c = next;
         s += 1;
     }

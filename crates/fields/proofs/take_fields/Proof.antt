@@ -1,11 +1,11 @@
--- The loop keeps `Taking`: what the cells are to become does not change while fields move from the file into them.
+-- The loop keeps `Taking`: what the cells are to become does not change while fields move from the file into them, two at a time, and a last one by itself.
 use mathlib.Core.Path.{_≡_, refl}
 use Prim.Native.Nat.{_+_, _-_, _*_}
 use native.Mathlib.Omega.{arith}
 use lib.ListN.{length, length-set}
 use Rattle.chain.specs.Written.{over}
 use Rattle.bits.specs.Bits.{fieldsAt}
-use Rattle.fields.proofs.Taking.{Taking, take-start, take-room, take-on, take-end, narrow-fits}
+use Rattle.fields.proofs.Taking.{Taking, take-start, one-room, one-on, two-room, two-on, take-end, number-fits}
 use borrow.Author.Needs.{needs}
 use Rattle.fields.proofs.take_fields.Statement.{statement}
 use Rattle.fields.proofs.take_fields.Tie as tie
@@ -20,21 +20,36 @@ abbrev μ-loop : tie.MeasureT-loop
 loop-holds : tie.Need-loop-holds Inv-loop μ-loop
 loop-holds c = (refl, take-start _ _ _ _ _ (c .before .before .pre))
 
-take-requires : tie.Need-take-requires Inv-loop μ-loop
-take-requires c κs =
-    let s = c .before .before .before .before in
-    take-room _ _ _ _ _ _ _ _ _ (s .pre) (c .loop-test .taken) (c .before .loop .inv .1)
+sub-loop : tie.Need-sub-loop Inv-loop μ-loop
+sub-loop c = search needs
 
-cast-out : tie.Need-cast-out Inv-loop μ-loop
-cast-out c =
+take-two-requires : tie.Need-take-two-requires Inv-loop μ-loop
+take-two-requires c κs = two-room _ _ _ _ _ _ (c .before .before .before .before .pre) _ _ _ (c .before .loop .inv .1) (c .loop-test .taken)
+
+cast-first : tie.Need-cast-first Inv-loop μ-loop
+cast-first c =
     let t = c .before in
-    record { fits = narrow-fits _ _ (t .before .before .before .before .before .pre .narrow) (t .take .ensures .small) }
+    record { fits = number-fits _ _ (t .before .before .before .before .before .pre .narrow) (t .take-two .ensures .first .small) }
+
+cast-second : tie.Need-cast-second Inv-loop μ-loop
+cast-second c =
+    let t = c .before .before in
+    record { fits = number-fits _ _ (t .before .before .before .before .before .pre .narrow) (t .take-two .ensures .second .small) }
 
 mul-out : tie.Need-mul-out Inv-loop μ-loop
 mul-out c = search needs
 
 slice-write-out : tie.Need-slice-write-out Inv-loop μ-loop
-slice-write-out c = omega (arith, c .before .before .before .loop .inv .1 .room)
+slice-write-out c = omega (arith, c .before .before .before .before .loop .inv .1 .room)
+
+add-out : tie.Need-add-out Inv-loop μ-loop
+add-out c = search needs
+
+mul-out-2 : tie.Need-mul-out-2 Inv-loop μ-loop
+mul-out-2 c = search needs
+
+slice-write-out-2 : tie.Need-slice-write-out-2 Inv-loop μ-loop
+slice-write-out-2 c = simp length-set (omega (arith, c .before .before .before .before .loop .inv .1 .room))
 
 add-i : tie.Need-add-i Inv-loop μ-loop
 add-i c = search needs
@@ -44,16 +59,44 @@ loop-less c = search needs
 
 loop-again : tie.Need-loop-again Inv-loop μ-loop
 loop-again c =
-    let t = c .before .before in
+    let t = c .before .before .before in
     let l = t .before in
     let s = l .before .before .before .before in
-    (simp length-set (l .before .loop .inv .0), take-on _ _ _ _ _ _ _ _ _ (s .pre) (l .loop-test .taken) (l .before .loop .inv .1) _ _ (t .take .ensures))
+    let i = l .before .loop .inv in
+    (simp length-set (i .0), two-on _ _ _ _ _ _ (s .pre) _ _ _ (i .1) (l .loop-test .taken) _ _ _ (t .take-two .ensures))
+
+take-requires : tie.Need-take-requires Inv-loop μ-loop
+take-requires c κs =
+    let l = c .before .before in
+    one-room _ _ _ _ _ _ (l .before .before .before .pre) _ _ _ (l .loop .inv .1) (c .if1 .taken)
+
+cast-out : tie.Need-cast-out Inv-loop μ-loop
+cast-out c =
+    let t = c .before in
+    record { fits = number-fits _ _ (t .before .before .before .before .before .before .pre .narrow) (t .take .ensures .small) }
+
+mul-out-3 : tie.Need-mul-out-3 Inv-loop μ-loop
+mul-out-3 c = search needs
+
+slice-write-out-3 : tie.Need-slice-write-out-3 Inv-loop μ-loop
+slice-write-out-3 c = omega (arith, c .before .before .before .before .loop .inv .1 .room)
 
 same-length : tie.Need-same-length Inv-loop μ-loop
-same-length c = c .before .loop .inv .0
+same-length c = simp length-set (c .before .before .before .before .before .loop .inv .0)
 
 returns : tie.Need-returns Inv-loop μ-loop
-returns c = take-end _ _ _ _ _ _ _ _ (c .loop-test .left) (c .before .loop .inv .1)
+returns c =
+    let t = c .before .before in
+    let b = t .before in
+    let l = b .before .before in
+    let last = one-on _ _ _ _ _ _ (l .before .before .before .pre) _ _ _ (l .loop .inv .1) (b .if1 .taken) _ _ (t .take .ensures) in
+    take-end _ _ _ _ _ _ _ _ (omega (arith, b .before .loop-test .left)) last
+
+same-length-2 : tie.Need-same-length-2 Inv-loop μ-loop
+same-length-2 c = c .before .before .loop .inv .0
+
+returns-2 : tie.Need-returns-2 Inv-loop μ-loop
+returns-2 c = take-end _ _ _ _ _ _ _ _ (c .if1 .left) (c .before .before .loop .inv .1)
 
 pub take-fields-spec : {M : Type 1} → statement M
 take-fields-spec =
@@ -62,12 +105,23 @@ take-fields-spec =
     Inv-loop
     μ-loop
     loop-holds
-    take-requires
-    cast-out
+    sub-loop
+    take-two-requires
+    cast-first
+    cast-second
     mul-out
     slice-write-out
+    add-out
+    mul-out-2
+    slice-write-out-2
     add-i
     loop-less
     loop-again
+    take-requires
+    cast-out
+    mul-out-3
+    slice-write-out-3
     same-length
-    returns)
+    returns
+    same-length-2
+    returns-2)

@@ -1,8 +1,9 @@
 -- The loop keeps `StepsLeft`: the verdict on all steps is the verdict on those from the cursor on; each turn judges one and moves past it.
 use Prim.Native.Nat.{_-_}
 use Rattle.chain.specs.Chain.{stepsRule}
+use Rattle.fields.proofs.Taking.{number-fits}
 use Rattle.reading.specs.Inner.{fileSteps}
-use Rattle.reading.proofs.Judging.{StepsLeft, steps-within, steps-start, first-room, second-room, field-fits, step-bad, step-on, steps-end}
+use Rattle.reading.proofs.Judging.{StepsLeft, steps-within, steps-start, step-room, step-bad, step-on, steps-end}
 use borrow.Author.Needs.{needs}
 use Rattle.reading.proofs.judge_steps.Statement.{statement}
 use Rattle.reading.proofs.judge_steps.Tie as tie
@@ -16,24 +17,18 @@ abbrev μ-loop : tie.MeasureT-loop
 loop-holds : tie.Need-loop-holds Inv-loop μ-loop
 loop-holds c = steps-start _ _ _ _ _ (steps-within _ _ (c .before .pre))
 
-take-requires : tie.Need-take-requires Inv-loop μ-loop
-take-requires c κs = first-room _ _ _ _ _ _ _ (c .before .loop .inv) (c .loop-test .taken)
-
-take-requires-2 : tie.Need-take-requires-2 Inv-loop μ-loop
-take-requires-2 c κs =
-    let t = c .before in
-    let l = t .before in
-    second-room _ _ _ _ _ _ _ (l .before .loop .inv) (l .loop-test .taken) _ _ (t .take .ensures)
+take-two-requires : tie.Need-take-two-requires Inv-loop μ-loop
+take-two-requires c κs = step-room _ _ _ _ _ _ _ (c .before .loop .inv) (c .loop-test .taken)
 
 cast-a : tie.Need-cast-a Inv-loop μ-loop
 cast-a c =
-    let t = c .before .before .before in
-    record { fits = field-fits _ _ (t .before .before .loop .inv .room .narrow) (t .take .ensures .small) }
+    let t = c .before in
+    record { fits = number-fits _ _ (t .before .before .loop .inv .room .narrow) (t .take-two .ensures .first .small) }
 
 cast-b : tie.Need-cast-b Inv-loop μ-loop
 cast-b c =
     let t = c .before .before in
-    record { fits = field-fits _ _ (t .before .before .before .before .loop .inv .room .narrow) (t .take2 .ensures .small) }
+    record { fits = number-fits _ _ (t .before .before .loop .inv .room .narrow) (t .take-two .ensures .second .small) }
 
 add-judge-step : tie.Need-add-judge-step Inv-loop μ-loop
 add-judge-step c = search needs
@@ -53,10 +48,9 @@ enum-known-number c = search needs
 returns : tie.Need-returns Inv-loop μ-loop
 returns c =
     let j = c .before .before .before in
-    let u = j .before .before .before .before in
-    let t = u .before .before in
+    let t = j .before .before .before .before in
     let l = t .before in
-    step-bad _ _ _ _ _ _ _ (l .before .loop .inv) (l .loop-test .taken) _ _ (t .take .ensures) _ _ (u .take2 .ensures) _ (j .judge-step .ensures) _ _
+    step-bad _ _ _ _ _ _ _ (l .before .loop .inv) (l .loop-test .taken) _ _ _ (t .take-two .ensures) _ (j .judge-step .ensures) _ _
     (c .before .number .given .1)
 
 enum-told : tie.Need-enum-told Inv-loop μ-loop
@@ -71,10 +65,9 @@ loop-less c = search needs
 loop-again : tie.Need-loop-again Inv-loop μ-loop
 loop-again c =
     let j = c .before .before .before in
-    let u = j .before .before .before .before in
-    let t = u .before .before in
+    let t = j .before .before .before .before in
     let l = t .before in
-    step-on _ _ _ _ _ _ _ (l .before .loop .inv) (l .loop-test .taken) _ _ (t .take .ensures) _ _ (u .take2 .ensures) _ (j .judge-step .ensures)
+    step-on _ _ _ _ _ _ _ (l .before .loop .inv) (l .loop-test .taken) _ _ _ (t .take-two .ensures) _ (j .judge-step .ensures)
     (c .before .enum-told .given .1)
 
 returns-2 : tie.Need-returns-2 Inv-loop μ-loop
@@ -87,8 +80,7 @@ judge-steps-spec =
     Inv-loop
     μ-loop
     loop-holds
-    take-requires
-    take-requires-2
+    take-two-requires
     cast-a
     cast-b
     add-judge-step

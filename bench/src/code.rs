@@ -11,7 +11,7 @@ fn archive() -> String {
     format!("{folder}/libspoutbasket.a")
 }
 
-/// Prints how many wide multiplications and divisions the function `run::run` has.
+/// Prints how many wide multiplications and divisions the function `runner::run` has.
 pub fn look() {
     let listed = Command::new("objdump")
         .args(["--disassemble", "--no-show-raw-insn", &archive()])
@@ -22,7 +22,7 @@ pub fn look() {
     let text = String::from_utf8_lossy(&listed.stdout);
     let body = text
         .split("\n\n")
-        .find(|part| part.lines().any(|line| line.ends_with("<run::run>:")));
+        .find(|part| part.lines().any(|line| line.ends_with("<runner::run>:")));
     let Some(body) = body else {
         return println!("the run as compiled: not looked at, it has no function of its own");
     };

@@ -25,9 +25,9 @@ extern "C" {
 
 /* The version of this header and of the library. */
 #define SPOUTBASKET_VERSION_MAJOR 0
-#define SPOUTBASKET_VERSION_MINOR 2
+#define SPOUTBASKET_VERSION_MINOR 3
 #define SPOUTBASKET_VERSION_PATCH 0
-#define SPOUTBASKET_VERSION "0.2.0"
+#define SPOUTBASKET_VERSION "0.3.0"
 
 /* The bytes of stack that are enough for a call, whatever it is given. */
 #define SPOUTBASKET_STACK (64 * 1024)

@@ -2,7 +2,8 @@
 use mathlib.Core.Bool.{Bool, true, false, cond}
 use mathlib.Core.Path.{_≡_, refl, sym, ap, subst, _∙_}
 use Prim.Native.Nat.{ℕ, zero, suc, _+_, _-_, _*_, _/_, _%_, _^_, _≤_, _<_}
-use native.Mathlib.Nat.{add-comm, add-mul, mul-add, mul-suc, mul-zero, mul-assoc, one-mul, zero-mul, mul-le-mul-right, le-refl, zero-div, zero-mod, div-eq-of-lt, div-div-eq-div-mul, div-add-mod', mod-one, mod-lt, mod-eq-of-lt, add-mul-div-right, add-mul-mod-self-right}
+use native.Mathlib.Nat.{add-comm, add-mul, mul-add, mul-suc, mul-zero, mul-assoc, one-mul, zero-mul, mul-le-mul-right, le-refl, zero-div, zero-mod, div-eq-of-lt}
+use native.Mathlib.Nat.{div-div-eq-div-mul, div-add-mod', mod-one, mod-lt, mod-eq-of-lt, add-mul-div-right, add-mul-mod-self-right}
 use native.Mathlib.Decide.{decLt, ℕ-discrete}
 use native.Mathlib.Omega.{arith}
 use lib.Arith.{digits-lt}

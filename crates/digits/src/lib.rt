@@ -1,25 +1,7 @@
-// Digits of numbers in base 2^k, powers of two, and what sums and maxima over ranges are made of.
+// Digits of numbers in base 2^k, powers of two, and the bit length.
 ghost use mathlib.Core.Path.{_≡_};
-ghost use Prim.Native.Nat.{_-_, _*_, _^_, _≤_, _<_, max};
+ghost use Prim.Native.Nat.{_*_, _^_, _≤_, _<_};
 ghost use Rattle.digits.specs.Digits.{digitCount, bitLength, digit};
-ghost use Rattle.digits.specs.Range.{sign};
-
-// The larger of two numbers.
-pub fn larger(x: u32, y: u32) -> u32
-    ensures { λ r. ⌜ r ≡ max x y ⌝ }
-{
-    if x < y { y } else { x }
-}
-
-// 0 for 0, else 1.
-pub fn sign(x: u32) -> usize
-    ensures { λ r. ⌜ r ≡ sign x ⌝ }
-{
-    if x == 0 {
-        return 0;
-    }
-    1
-}
 
 // 2^e
 pub fn power(e: usize) -> u32
@@ -70,14 +52,4 @@ pub fn bit_length(top: usize) -> usize
         4096..=8191 => 13,
         _ => 14,
     }
-}
-
-// x less some, or 0.
-pub fn lessened(x: usize, less: usize) -> usize
-    ensures { λ r. ⌜ r ≡ x - less ⌝ }
-{
-    if x < less {
-        return 0;
-    }
-    x - less
 }

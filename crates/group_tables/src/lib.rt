@@ -36,7 +36,7 @@ fn number_inputs(bits: &[u32], cells: &mut [u32])
         let n = bits[col] as usize;
         number_column(col, first, n, at, cells);
         at += n;
-        first += digits::lessened(n, 1);
+        first += counting::lessened(n, 1);
         col += 1;
     }
 }
@@ -48,7 +48,7 @@ fn count_squarings(bits: &[u32], cells: &mut [u32])
 {
     let mut col: usize = 0;
     while col < bits.len() {
-        cells[col] = digits::lessened(bits[col] as usize, 1) as u32;
+        cells[col] = counting::lessened(bits[col] as usize, 1) as u32;
         col += 1;
     }
 }

@@ -27,7 +27,7 @@ fn column_sum(bits: &[u32], less: usize) -> usize
     let mut s: usize = 0;
     let mut col: usize = 0;
     while col < bits.len() {
-        s += digits::lessened(bits[col] as usize, less);
+        s += counting::lessened(bits[col] as usize, less);
         col += 1;
     }
     s

@@ -15,7 +15,7 @@ fn largest_in(p: usize, q: usize, amounts: &[u32], c: usize) -> u32
     let mut most: u32 = 0;
     let mut i: usize = 0;
     while i < q {
-        most = digits::larger(most, sheet::amount(p, amounts, i, c));
+        most = counting::larger(most, sheet::amount(p, amounts, i, c));
         i += 1;
     }
     most

@@ -19,7 +19,7 @@ fn joins(numbers: &[u32]) -> usize
     let mut n: usize = 0;
     let mut g: usize = 0;
     while g < numbers.len() {
-        n += digits::sign(numbers[g]);
+        n += counting::sign(numbers[g]);
         g += 1;
     }
     if n == 0 {

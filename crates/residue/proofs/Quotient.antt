@@ -1,7 +1,8 @@
 -- A number divided by way of v, the largest with v * m below B: the quotient taken, z * v / B, is that of z by m or one less.
 use mathlib.Core.Path.{_≡_, sym, ap, ap₂, _∙_}
 use Prim.Native.Nat.{ℕ, _+_, _-_, _*_, _/_, _%_, _^_, _≤_, _<_}
-use native.Mathlib.Nat.{le-of-lt, le-trans, le-of-eq, lt-of-le-of-lt, suc-mul, mul-assoc, mul-comm, mul-right-comm, mul-add, add-mul, mul-le-mul-left, mul-le-mul-right, le-of-mul-le-mul-right, lt-of-mul-lt-mul-right, div-mul-le-self, lt-div-mul-add, mul-add-mod-self-left}
+use native.Mathlib.Nat.{le-of-lt, le-trans, le-of-eq, lt-of-le-of-lt, suc-mul, mul-assoc, mul-comm, mul-right-comm, mul-add, add-mul, mul-le-mul-left}
+use native.Mathlib.Nat.{mul-le-mul-right, le-of-mul-le-mul-right, lt-of-mul-lt-mul-right, div-mul-le-self, lt-div-mul-add, mul-add-mod-self-left}
 use native.Mathlib.Omega.{arith}
 use Rattle.residue.specs.Inner.{inverseOf}
 use Rattle.residue.proofs.Width.{product-fits}

@@ -20,7 +20,7 @@ fn payslip_count(p: usize, amounts: &[u32], k: usize, i: usize) -> usize
     let mut n = lower * k;
     let mut j: usize = 0;
     while j < lower {
-        n += digits::sign(digits::digit(k, all, j));
+        n += counting::sign(digits::digit(k, all, j));
         j += 1;
     }
     n

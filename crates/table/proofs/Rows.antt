@@ -57,7 +57,8 @@ module _ (by : Parting) (p n j c : ℕ) (line old : List ℕ) where
       row-reads a new h r = found-same _ _ c old a new (rw (eq-no j mostPayslips few, ← told, ne-no f p same, lt-no n (c + p) h)) r
 
 -- a line, where the line is another one
-pub row-of : (by : Parting) (p n j c : ℕ) (l l′ old : List ℕ) (a : Parsed) (new : List ℕ) → l ≡ l′ → FoundTo (rowFound by p n j c l) c old a new → FoundTo (rowFound by p n j c l′) c old a new
+pub row-of : (by : Parting) (p n j c : ℕ) (l l′ old : List ℕ) (a : Parsed) (new : List ℕ) → l ≡ l′
+    → FoundTo (rowFound by p n j c l) c old a new → FoundTo (rowFound by p n j c l′) c old a new
 row-of by p n j c l l′ old a new e r = rw e at r
 
 -- a line that is read has as many amounts as it answers, and there were cells for them
@@ -66,9 +67,15 @@ row-count : (by : Parting) (p n j c : ℕ) (line : List ℕ) (x : ℕ) → rowFo
 unfolding rowFound
 row-count by p n j c line x = by-tests (j =? mostPayslips) (fieldsIn (tallyOf line) by ≠? p) (n <? c + p) (λ e. not-lt n (c + p) e)
   where
+    -- what is found of the line, by its three tests
+    tested : Bool → Bool → Bool → Found
+    tested s t u =
+        cond s (found (Fault outOfRange 1 (mostPayslips + 1) mostPayslips) [])
+        (cond t (found (Fault otherFields (length line + 1) (fieldsIn (tallyOf line) by) p) [])
+        (cond u (found (Fault noRoom 1 n (c + p)) []) (readText by line p)))
+
     by-tests : (s t u : Bool) → (u ≡ false → c + p ≤ n)
-        → cond s (found (Fault outOfRange 1 (mostPayslips + 1) mostPayslips) []) (cond t (found (Fault otherFields (length line + 1) (fieldsIn (tallyOf line) by) p) []) (cond u (found (Fault noRoom 1 n (c + p)) []) (readText by line p))) .answer ≡ Numbers x
-        → (x ≡ length (cond s (found (Fault outOfRange 1 (mostPayslips + 1) mostPayslips) []) (cond t (found (Fault otherFields (length line + 1) (fieldsIn (tallyOf line) by) p) []) (cond u (found (Fault noRoom 1 n (c + p)) []) (readText by line p))) .numbers)) × (c + x ≤ n)
+        → tested s t u .answer ≡ Numbers x → (x ≡ length (tested s t u .numbers)) × (c + x ≤ n)
     by-tests true t u h e = let z : _≡_ {A = ℕ} 0 1 = cc in absurd (omega arith)
     by-tests false true u h e = let z : _≡_ {A = ℕ} 0 1 = cc in absurd (omega arith)
     by-tests false false true h e = let z : _≡_ {A = ℕ} 0 1 = cc in absurd (omega arith)
@@ -168,7 +175,9 @@ module _ (by : Parting) (p : ℕ) (text old : List ℕ) (whole : Outcome) where
               fits = count .1;
               answer = r .answer ∙ ap (λ (o : Outcome). o .answer) s;
               numbers =
-                  r .numbers ∙ ap (λ (o : Outcome). laid c (o .numbers) cells) s ∙ stores (rowsLeft (j + 1) (c + x) (k + 1) (end + 1) .numbers) ∙ ap (λ (n : ℕ). laid (c + n) (rowsLeft (j + 1) (c + x) (k + 1) (end + 1) .numbers) cells′) (sym (count .0));
+                  r .numbers ∙ ap (λ (o : Outcome). laid c (o .numbers) cells) s
+                  ∙ stores (rowsLeft (j + 1) (c + x) (k + 1) (end + 1) .numbers)
+                  ∙ ap (λ (n : ℕ). laid (c + n) (rowsLeft (j + 1) (c + x) (k + 1) (end + 1) .numbers) cells′) (sym (count .0));
             }
 
       pub rows-stop : (fault i seen wanted : ℕ) → a ≡ Fault fault i seen wanted → ReadTo whole old (Refused fault k i seen wanted) cells′

@@ -1,6 +1,6 @@
 // The check of a chain against a sheet, in what the flat form and the form over step structs share: what is found before and after the steps.
 ghost use mathlib.Core.Path.{_≡_};
-ghost use Prim.Native.Nat.{_+_, _≤_, _<_};
+ghost use Prim.Native.Nat.{_≤_};
 ghost use Rattle.chain.specs.Chain.{mostColumns, mostSteps};
 ghost use Rattle.chain.specs.Judgement.{verdictOf};
 ghost use Rattle.verify.specs.Inner.{startRule, endRule};

@@ -32,8 +32,8 @@ fn amount_count(k: usize, digits: usize, x: u32) -> usize
     let mut j: usize = 0;
     while j < digits {
         let d = digits::digit(k, x, j);
-        z += digits::sign(d);
-        h = digits::larger(h, d);
+        z += counting::sign(d);
+        h = counting::larger(h, d);
         j += 1;
     }
     let t = z + h as usize;
@@ -55,7 +55,7 @@ fn payslip_count(p: usize, q: usize, amounts: &[u32], k: usize, columns: &[u32],
         let digits = columns[c] as usize;
         let x = sheet::amount(p, amounts, i, c);
         n += amount_count(k, digits, x);
-        z += digits::sign(x);
+        z += counting::sign(x);
         c += 1;
     }
     if z == 0 {

@@ -346,7 +346,8 @@ module _ {M : Type 1} (𝓤 : URA M) (H : Heap 𝓤) (A : Atoms 𝓤) (W : Given
           move ! (9 ∷ 13 ∷ []) $ free1 ! $ move ! (4 ∷ 12 ∷ []) $ free1 ! $ move ! (3 ∷ 11 ∷ []) $ free1 ! $ move ! (3 ∷ 10 ∷ []) $ free1 ! $
           move ! (3 ∷ 9 ∷ []) $ free1 ! $ move ! (3 ∷ 8 ∷ []) $ free1 ! $ move ! (3 ∷ 7 ∷ []) $ free1 ! $ free0 ! $
           -- [κ's token; cells; κ₂'s token; the fractured borrow; res; steps's fact]
-          move ! (4 ∷ 3 ∷ []) $ fjoin ! $ move ! (4 ∷ 0 ∷ []) $ fjoin ! $ by ! (exits (u .task) (u .cells) (u .fits) (u .so-far ∙ ap (afterSteps t₀ zs ys) all) (long u))
+          move ! (4 ∷ 3 ∷ []) $ fjoin ! $ move ! (4 ∷ 0 ∷ []) $ fjoin !
+          $ by ! (exits (u .task) (u .cells) (u .fits) (u .so-far ∙ ap (afterSteps t₀ zs ys) all) (long u))
         where
           all : u .at ≡ onFine (foundBy t₀) (length ys) 0
           all = le-antisymm (u .within) (ltb-false (u .at) k test) ∙ count

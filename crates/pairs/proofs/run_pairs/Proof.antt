@@ -297,20 +297,26 @@ module _ {M : Type 1} (𝓤 : URA M) (H : Heap 𝓤) (A : Atoms 𝓤) (W : Given
         -- [figures'; true; the values; bases'; outputs'; steps'; κ₄'s token; true; κ₃'s; κ₂'s; κ₁'s; κ's]
         keep ! (2 ∷ 8 ∷ 5 ∷ 11 ∷ 4 ∷ 10 ∷ 3 ∷ 9 ∷ 0 ∷ 6 ∷ []) $
         enter ! C Λ code.function args _ $
-        alloc1 ! (λ b₀. alloc1 ! (λ b₁. alloc1 ! (λ b₂. alloc1 ! (λ b₃. alloc1 ! (λ b₄. alloc1 ! (λ b₅. alloc1 ! (λ b₆. alloc1 ! (λ b₇. alloc1 ! (λ b₈. alloc1 ! (λ b₉. alloc1 ! (λ b₁₀. alloc1 ! (λ b₁₁. alloc1 ! (λ b₁₂. alloc1 ! (λ b₁₃. alloc1 ! (λ b₁₄. alloc1 ! (λ b₁₅. alloc1 ! (λ b₁₆. alloc1 ! (λ b₁₇. alloc1 ! (λ b₁₈. alloc1 ! (λ b₁₉. alloc1 ! (λ b₂₀. alloc1 ! (λ b₂₁. alloc1 ! (λ b₂₂. alloc1 ! (λ b₂₃. alloc0 ! $ params1 ! $
+        alloc1 ! (λ b₀. alloc1 ! (λ b₁. alloc1 ! (λ b₂. alloc1 ! (λ b₃. alloc1 ! (λ b₄. alloc1 ! (λ b₅. alloc1 ! (λ b₆. alloc1 ! (λ b₇. alloc1 ! (λ b₈.
+        alloc1 ! (λ b₉. alloc1 ! (λ b₁₀. alloc1 ! (λ b₁₁. alloc1 ! (λ b₁₂. alloc1 ! (λ b₁₃. alloc1 ! (λ b₁₄. alloc1 ! (λ b₁₅. alloc1 ! (λ b₁₆. alloc1 ! (λ b₁₇.
+        alloc1 ! (λ b₁₈. alloc1 ! (λ b₁₉. alloc1 ! (λ b₂₀. alloc1 ! (λ b₂₁. alloc1 ! (λ b₂₂. alloc1 ! (λ b₂₃. alloc0 ! $ params1 ! $
         pass1 ! (init ! 44 refl (tt, record { fits = p-fits })) $ pass1 ! (init ! 42 refl (tt, (tt, (record { fits = g .0 }, tt)))) $
         pass1 ! (init ! 40 refl (tt, (tt, (record { fits = g₁ .0 }, tt)))) $ pass1 ! (init ! 38 refl (tt, record { fits = m-fits })) $
         pass1 ! (init ! 36 refl (tt, (tt, (record { fits = g₂ .0 }, tt)))) $ pass1 ! (init ! 34 refl (tt, (tt, (record { fits = g₃ .0 }, tt)))) $
         pass1 ! (init ! 32 refl (tt, (tt, (record { fits = g₄ .0 }, tt)))) $ pass0 ! $
         move ! (48 ∷ 49 ∷ 50 ∷ 51 ∷ 52 ∷ 53 ∷ 54 ∷ 55 ∷ 56 ∷ 57 ∷ []) $
         -- [the values; κ₃'s token; steps'; κ's; outputs'; κ₁'s; bases'; κ₂'s; figures'; κ₄'s; _23; …; _0; …]: so it stands before each call
-        assigns ! (of-opd ! (load ! (from ! (fld ! refl (stop !))) (look-in ! 52 (sub ! 1 refl (whole !))))) (from ! (stop !)) (init ! 40 refl (tt, record { fits = g .0 })) $
-        assigns ! (of-opd ! (load ! (from ! (fld ! refl (stop !))) (look-in ! 50 (sub ! 1 refl (whole !))))) (from ! (stop !)) (init ! 30 refl (tt, record { fits = g₁ .0 })) $
+        assigns ! (of-opd ! (load ! (from ! (fld ! refl (stop !))) (look-in ! 52 (sub ! 1 refl (whole !))))) (from ! (stop !))
+        (init ! 40 refl (tt, record { fits = g .0 })) $
+        assigns ! (of-opd ! (load ! (from ! (fld ! refl (stop !))) (look-in ! 50 (sub ! 1 refl (whole !))))) (from ! (stop !))
+        (init ! 30 refl (tt, record { fits = g₁ .0 })) $
         move ! (6 ∷ []) $ shares ! (named 2) κ₂ u32 x₂ (val x₂ ∷ []) $ move ! (8 ∷ 0 ∷ []) $
         use2 W (raw (Open 𝓤 H A at-mem run .pre to-open)) asks-open $
         -- [what `run_open` asks; bases'; the values; κ₃'s token; steps'; κ's; outputs'; κ₁'s; figures'; κ₄'s; _23; …]
         calls-at ! fm (Open 𝓤 H A at-mem run) known₁ to-open
-        (and-then ! (load ! (from ! (stop !)) (look ! 54 refl)) (and-then ! (load ! (from ! (stop !)) (look ! 30 refl)) (and-then ! (load ! (from ! (stop !)) (look ! 40 refl)) (and-then ! (load ! (from ! (stop !)) (look ! 48 refl)) (and-then ! (load ! (from ! (stop !)) (look ! 46 refl)) (no-more !)))))) (λ w.
+        (and-then ! (load ! (from ! (stop !)) (look ! 54 refl)) (and-then ! (load ! (from ! (stop !)) (look ! 30 refl)) (and-then ! (load !
+        (from ! (stop !)) (look ! 40 refl)) (and-then ! (load ! (from ! (stop !)) (look ! 48 refl)) (and-then ! (load !
+        (from ! (stop !)) (look ! 46 refl)) (no-more !)))))) (λ w.
         use1 W (later (some (λ (t : Task). ((‵ (flft κ₂ q₂) ⊛ ‵ ftrue) ⊛ ‵ (K.the-row .own t (w ∷ [])))
         ⊛ raw (ensured 𝓤 H A opens.ended (opens.clauses 𝓤 H A at-mem run) (κ₂, tt) given-open tt t)))) (id⊢ 𝓤 _) $ await ! tt $ pick ! (λ t₁.
         split ! $ move ! (1 ∷ []) $ use1 W (raw (fact 𝓤 (Opened t₁))) (said-open t₁) $ heard ! (Opened t₁) (λ opened.
@@ -326,21 +332,26 @@ module _ {M : Type 1} (𝓤 : URA M) (H : Heap 𝓤) (A : Atoms 𝓤) (W : Given
         move ! (2 ∷ []) $ shares ! (named 0) κ R x (vx ∷ []) $ move ! (4 ∷ 0 ∷ []) $ join ! $ move ! (2 ∷ 3 ∷ 0 ∷ []) $
         passes 𝓤 H A at-mem run κ q x t₁ (x₃ .ptr) room (x₃ .now) ! fm known (named 3) κ₃ q₃ (x₃ .name) refl g₃ (task-is t₁ w is)
         (open-able p (x .now) (x₁ .now) m (x₂ .now) (x₃ .now) places t₁ opened room)
-        (λ ν δ. (and-then ! (load ! (from ! (stop !)) (look ! 37 refl)) (and-then ! (load ! (from ! (stop !)) (look ! 51 refl)) (and-then ! (load ! (from ! (stop !)) (look ! 25 refl)) (no-more !))))) (λ t₂ l₂ is₂ len₂ gone.
+        (λ ν δ. (and-then ! (load ! (from ! (stop !)) (look ! 37 refl)) (and-then ! (load ! (from ! (stop !)) (look ! 51 refl)) (and-then ! (load !
+        (from ! (stop !)) (look ! 25 refl)) (no-more !))))) (λ t₂ l₂ is₂ len₂ gone.
         land ! (from ! (stop !)) (init ! 36 refl (task-typed 𝓤 H A W t₂ is₂)) $ move ! (0 ∷ 1 ∷ 3 ∷ 2 ∷ []) $
         -- value 0 and the bases
         assigns ! (addr ! (from ! (fld ! refl (hop ! (look-in ! 44 (sub ! 0 refl (whole !))) (stop !))))) (from ! (stop !)) (init ! 24 refl (tt, tt)) $
         assigns ! (agg ! (and-then ! (load ! (from ! (stop !)) (look ! 24 refl))
         (and-then ! (load ! (from ! (fld ! refl (stop !))) (look-in ! 44 (sub ! 1 refl (whole !)))) (no-more !)))) (from ! (stop !))
         (init ! 22 refl (tt, (tt, (record { fits = g₃ .0 }, tt)))) $
-        assigns ! (of-opd ! (load ! (from ! (fld ! refl (stop !))) (look-in ! 42 (sub ! 1 refl (whole !))))) (from ! (stop !)) (store ! 30 refl (tt, record { fits = g₄ .0 })) $
+        assigns ! (of-opd ! (load ! (from ! (fld ! refl (stop !))) (look-in ! 42 (sub ! 1 refl (whole !)))))
+        (from ! (stop !)) (store ! 30 refl (tt, record { fits = g₄ .0 })) $
         move ! (4 ∷ []) $ shares ! (named 1) κ₁ u32 x₁ (val x₁ ∷ []) $ move ! (7 ∷ []) $ shares ! (named 2) κ₂ u32 x₂ (val x₂ ∷ []) $
         move ! (2 ∷ 0 ∷ []) $ join ! $ move ! (8 ∷ 0 ∷ []) $ join ! $ move ! (7 ∷ 0 ∷ []) $ join ! $ move ! (3 ∷ 4 ∷ 0 ∷ []) $
         calls-lent ! fm (Start 𝓤 H A at-mem run) known₂ K.the-row taskVal task-tells (named 3) κ₃ q₃ (x₃ .ptr) (x₃ .name) room l₂ len₂ g₃ (named 2)
         (to-start t₂ l₂) (‵ (flft κ₁ q₁) ⊛ ‵ (flft κ₂ q₂) ⊛ Outputs ⊛ Bases) (Back t₂ l₂) (Started t₂ l₂)
         (λ ν δ. asks-start t₂ l₂ ν δ is₂ (start-able p (x .now) (x₁ .now) m (x₂ .now) (x₃ .now) places t₁ opened t₂ l₂ gone))
         (λ ν δ. leaves-start t₂ l₂ ν δ len₂)
-        (λ ν δ. (and-then ! (load ! (from ! (stop !)) (look ! 34 refl)) (and-then ! (load ! (from ! (stop !)) (look ! 52 refl)) (and-then ! (load ! (from ! (stop !)) (look ! 38 refl)) (and-then ! (load ! (from ! (stop !)) (look ! 48 refl)) (and-then ! (load ! (from ! (stop !)) (look ! 46 refl)) (and-then ! (load ! (from ! (stop !)) (look ! 44 refl)) (and-then ! (load ! (from ! (stop !)) (look ! 20 refl)) (and-then ! (load ! (from ! (stop !)) (look ! 28 refl)) (no-more !)))))))))) (λ t₃ l₃ is₃ len₃ begun.
+        (λ ν δ. (and-then ! (load ! (from ! (stop !)) (look ! 34 refl)) (and-then ! (load ! (from ! (stop !)) (look ! 52 refl)) (and-then ! (load !
+        (from ! (stop !)) (look ! 38 refl)) (and-then ! (load ! (from ! (stop !)) (look ! 48 refl)) (and-then ! (load ! (from ! (stop !)) (look ! 46 refl))
+        (and-then ! (load ! (from ! (stop !)) (look ! 44 refl)) (and-then ! (load ! (from ! (stop !)) (look ! 20 refl)) (and-then ! (load !
+        (from ! (stop !)) (look ! 28 refl)) (no-more !)))))))))) (λ t₃ l₃ is₃ len₃ begun.
         land ! (from ! (stop !)) (init ! 33 refl (task-typed 𝓤 H A W t₃ (task-is t₃ _ is₃))) $
         move ! (2 ∷ []) $ split ! $ move ! (2 ∷ 3 ∷ 6 ∷ 7 ∷ 5 ∷ 0 ∷ 4 ∷ 1 ∷ []) $
         -- the steps are multiplied
@@ -351,7 +362,8 @@ module _ {M : Type 1} (𝓤 : URA M) (H : Heap 𝓤) (A : Atoms 𝓤) (W : Given
         move ! (2 ∷ []) $ shares ! (named 0) κ R x (vx ∷ []) $ move ! (4 ∷ 0 ∷ []) $ join ! $ move ! (2 ∷ 3 ∷ 0 ∷ []) $
         passes 𝓤 H A at-mem run κ q x t₃ (x₃ .ptr) room l₃ ! fm known (named 3) κ₃ q₃ (x₃ .name) len₃ g₃ (task-is t₃ _ is₃)
         (multiply-able p (x .now) (x₁ .now) m (x₂ .now) (x₃ .now) places t₁ opened t₂ l₂ gone t₃ l₃ begun len₃)
-        (λ ν δ. (and-then ! (load ! (from ! (stop !)) (look ! 33 refl)) (and-then ! (load ! (from ! (stop !)) (look ! 51 refl)) (and-then ! (load ! (from ! (stop !)) (look ! 17 refl)) (no-more !))))) (λ t₄ l₄ is₄ len₄ gone′.
+        (λ ν δ. (and-then ! (load ! (from ! (stop !)) (look ! 33 refl)) (and-then ! (load ! (from ! (stop !)) (look ! 51 refl)) (and-then ! (load !
+        (from ! (stop !)) (look ! 17 refl)) (no-more !))))) (λ t₄ l₄ is₄ len₄ gone′.
         land ! (from ! (stop !)) (init ! 32 refl (task-typed 𝓤 H A W t₄ is₄)) $ move ! (0 ∷ 1 ∷ 3 ∷ 2 ∷ []) $
         -- the figures, and the answer
         assigns ! (addr ! (from ! (fld ! refl (hop ! (look-in ! 44 (sub ! 0 refl (whole !))) (stop !))))) (from ! (stop !)) (init ! 16 refl (tt, tt)) $
@@ -366,7 +378,9 @@ module _ {M : Type 1} (𝓤 : URA M) (H : Heap 𝓤) (A : Atoms 𝓤) (W : Given
         (asks-end t₄ l₄ is₄ (figures-able p (x .now) (x₁ .now) m (x₂ .now) (x₃ .now) places t₁ opened t₂ l₂ gone t₃ l₃ begun len₃ t₄ l₄ gone′ len₄)) $
         -- [what `run_end` asks; steps'; κ's token; bases'; κ₂'s; _23; …]
         calls-at ! fm (End 𝓤 H A at-mem run) known₃ (to-end t₄ l₄)
-        (and-then ! (load ! (from ! (stop !)) (look ! 27 refl)) (and-then ! (load ! (from ! (stop !)) (look ! 35 refl)) (and-then ! (load ! (from ! (stop !)) (look ! 45 refl)) (and-then ! (load ! (from ! (stop !)) (look ! 9 refl)) (and-then ! (load ! (from ! (stop !)) (look ! 5 refl)) (no-more !)))))) (λ w₅.
+        (and-then ! (load ! (from ! (stop !)) (look ! 27 refl)) (and-then ! (load ! (from ! (stop !)) (look ! 35 refl)) (and-then ! (load !
+        (from ! (stop !)) (look ! 45 refl)) (and-then ! (load ! (from ! (stop !)) (look ! 9 refl)) (and-then ! (load !
+        (from ! (stop !)) (look ! 5 refl)) (no-more !)))))) (λ w₅.
         use1 W (later (some (λ (r : Ran). ((‵ (flft κ₁ q₁) ⊛ ‵ (flft κ₃ q₃) ⊛ ‵ (flft κ₄ q₄) ⊛ ‵ ftrue) ⊛ ‵ (E.the-row .own r (w₅ ∷ [])))
         ⊛ raw (ensured 𝓤 H A ends.ended (ends.clauses 𝓤 H A at-mem run) (κ₁, (κ₃, (κ₄, tt))) (given-end t₄ l₄) tt r)))) (id⊢ 𝓤 _) $ await ! tt $ pick ! (λ r.
         split ! $ move ! (1 ∷ []) $ use1 W (some (λ (ws : Lasts ends.ended (κ₁, (κ₃, (κ₄, tt))) (given-end t₄ l₄)). ‵ (lasts ends.ended (κ₁, (κ₃, (κ₄, tt)))
@@ -381,10 +395,14 @@ module _ {M : Type 1} (𝓤 : URA M) (H : Heap 𝓤) (A : Atoms 𝓤) (W : Given
         forget ! 9 refl $ forget ! 11 refl $ forget ! 13 refl $ forget ! 15 refl $ forget ! 17 refl $ forget ! 19 refl $ forget ! 21 refl $ forget ! 23 refl $
         forget ! 25 refl $ forget ! 27 refl $ forget ! 29 refl $ forget ! 31 refl $ forget ! 33 refl $ forget ! 35 refl $ forget ! 37 refl $ forget ! 39 refl $
         forget ! 41 refl $ forget ! 43 refl $ forget ! 45 refl $ forget ! 47 refl $ forget ! 49 refl $ forget ! 51 refl $ forget ! 53 refl $ forget ! 55 refl $
-        move ! (55 ∷ 56 ∷ []) $ free1 ! $ move ! (53 ∷ 54 ∷ []) $ free1 ! $ move ! (51 ∷ 52 ∷ []) $ free1 ! $ move ! (49 ∷ 50 ∷ []) $ free1 ! $ move ! (47 ∷ 48 ∷ []) $ free1 ! $
-        move ! (45 ∷ 46 ∷ []) $ free1 ! $ move ! (43 ∷ 44 ∷ []) $ free1 ! $ move ! (41 ∷ 42 ∷ []) $ free1 ! $ move ! (39 ∷ 40 ∷ []) $ free1 ! $ move ! (37 ∷ 38 ∷ []) $ free1 ! $
-        move ! (35 ∷ 36 ∷ []) $ free1 ! $ move ! (33 ∷ 34 ∷ []) $ free1 ! $ move ! (31 ∷ 32 ∷ []) $ free1 ! $ move ! (29 ∷ 30 ∷ []) $ free1 ! $ move ! (27 ∷ 28 ∷ []) $ free1 ! $
-        move ! (25 ∷ 26 ∷ []) $ free1 ! $ move ! (23 ∷ 24 ∷ []) $ free1 ! $ move ! (21 ∷ 22 ∷ []) $ free1 ! $ move ! (19 ∷ 20 ∷ []) $ free1 ! $ move ! (17 ∷ 18 ∷ []) $ free1 ! $
+        move ! (55 ∷ 56 ∷ []) $ free1 ! $ move ! (53 ∷ 54 ∷ []) $ free1 ! $ move ! (51 ∷ 52 ∷ []) $ free1 ! $ move ! (49 ∷ 50 ∷ []) $ free1 ! $ move ! (47 ∷ 48 ∷ [])
+        $ free1 ! $
+        move ! (45 ∷ 46 ∷ []) $ free1 ! $ move ! (43 ∷ 44 ∷ []) $ free1 ! $ move ! (41 ∷ 42 ∷ []) $ free1 ! $ move ! (39 ∷ 40 ∷ []) $ free1 ! $ move ! (37 ∷ 38 ∷ [])
+        $ free1 ! $
+        move ! (35 ∷ 36 ∷ []) $ free1 ! $ move ! (33 ∷ 34 ∷ []) $ free1 ! $ move ! (31 ∷ 32 ∷ []) $ free1 ! $ move ! (29 ∷ 30 ∷ []) $ free1 ! $ move ! (27 ∷ 28 ∷ [])
+        $ free1 ! $
+        move ! (25 ∷ 26 ∷ []) $ free1 ! $ move ! (23 ∷ 24 ∷ []) $ free1 ! $ move ! (21 ∷ 22 ∷ []) $ free1 ! $ move ! (19 ∷ 20 ∷ []) $ free1 ! $ move ! (17 ∷ 18 ∷ [])
+        $ free1 ! $
         move ! (15 ∷ 16 ∷ []) $ free1 ! $ move ! (13 ∷ 14 ∷ []) $ free1 ! $ move ! (11 ∷ 12 ∷ []) $ free1 ! $ move ! (9 ∷ 10 ∷ []) $ free1 ! $ free0 ! $
         -- [the result; the tokens; the figures' last list; true; the values'; steps'; κ's token; bases'; κ₂'s]
         move ! (1 ∷ []) $ split ! $ move ! (1 ∷ []) $ split ! $ move ! (1 ∷ []) $ split ! $

@@ -465,7 +465,8 @@ module _ {M : Type 1} (𝓤 : URA M) (H : Heap 𝓤) (A : Atoms 𝓤) (W : Given
           nothing ! $ move ! (1 ∷ 2 ∷ 0 ∷ []) $
           calls-lent ! (fmOf 𝓤 H (W .laws) 𝓣) (Begin 𝓤 H A at-mem run) known₁ K.the-row taskVal task-tells (named 3) κ₃ q₃ (x₃ .ptr) (x₃ .name) room l len g₃ (named 0)
           (to-begin c l) (‵ ftrue) (‵ ftrue) (Begun c l) (λ ν δ. asks-begin c l ν δ c-fits below fits) (λ ν δ. leaves-begin c l ν δ len)
-          (λ ν δ. (and-then ! (load ! (from ! (stop !)) (look ! 58 refl)) (and-then ! (load ! (from ! (stop !)) (look ! 36 refl)) (and-then ! (load ! (from ! (stop !)) (look ! 20 refl)) (no-more !))))) (λ t l′ is len′ begun.
+          (λ ν δ. (and-then ! (load ! (from ! (stop !)) (look ! 58 refl)) (and-then ! (load ! (from ! (stop !)) (look ! 36 refl)) (and-then ! (load !
+          (from ! (stop !)) (look ! 20 refl)) (no-more !))))) (λ t l′ is len′ begun.
           land ! (from ! (stop !)) (init ! 35 refl (task-typed 𝓤 H A W t (task-is t _ is))) $ move ! (2 ∷ []) $ dropᴷ ! $
           -- the steps are added
           assigns ! (addr ! (from ! (fld ! refl (hop ! (look-in ! 50 (sub ! 0 refl (whole !))) (stop !))))) (from ! (stop !)) (init ! 18 refl (tt, tt)) $
@@ -474,7 +475,8 @@ module _ {M : Type 1} (𝓤 : URA M) (H : Heap 𝓤) (A : Atoms 𝓤) (W : Given
           (init ! 16 refl (tt, (tt, (record { fits = g₃ .0 }, tt)))) $
           move ! (2 ∷ []) $ shares ! (named 0) κ R x (vx ∷ []) $ move ! (4 ∷ 0 ∷ []) $ join ! $ move ! (2 ∷ 3 ∷ 0 ∷ []) $
           passes 𝓤 H A at-mem run κ q x t (x₃ .ptr) room l′ ! (fmOf 𝓤 H (W .laws) 𝓣) known (named 3) κ₃ q₃ (x₃ .name) len′ g₃ (task-is t _ is) (able t l′ begun len′)
-          (λ ν δ. (and-then ! (load ! (from ! (stop !)) (look ! 33 refl)) (and-then ! (load ! (from ! (stop !)) (look ! 55 refl)) (and-then ! (load ! (from ! (stop !)) (look ! 15 refl)) (no-more !))))) (λ t′ l″ is′ len″ passed.
+          (λ ν δ. (and-then ! (load ! (from ! (stop !)) (look ! 33 refl)) (and-then ! (load ! (from ! (stop !)) (look ! 55 refl)) (and-then ! (load !
+          (from ! (stop !)) (look ! 15 refl)) (no-more !))))) (λ t′ l″ is′ len″ passed.
           land ! (from ! (stop !)) (init ! 32 refl (task-typed 𝓤 H A W t′ is′)) $ move ! (0 ∷ 1 ∷ 3 ∷ 2 ∷ []) $
           -- what the column says is taken up
           assigns ! (addr ! (from ! (fld ! refl (hop ! (look-in ! 50 (sub ! 0 refl (whole !))) (stop !))))) (from ! (stop !)) (init ! 14 refl (tt, tt)) $
@@ -486,7 +488,10 @@ module _ {M : Type 1} (𝓤 : URA M) (H : Heap 𝓤) (A : Atoms 𝓤) (W : Given
           calls-lent ! (fmOf 𝓤 H (W .laws) 𝓣) (Take 𝓤 H A at-mem run) known₂ F.the-row foundVal found-tells (named 3) κ₃ q₃ (x₃ .ptr) (x₃ .name) room l″ len″ g₃ (named 2)
           (to-take c f t′ l″) (‵ (flft κ₁ q₁) ⊛ ‵ (flft κ₂ q₂) ⊛ Outputs ⊛ Amounts) (Back c f t′ l″) (Taken c f t′ l″)
           (λ ν δ. asks-take c f t′ l″ ν δ (u .fits) is′ c-fits (compared l″ len″)) (λ ν δ. leaves-take c f t′ l″ ν δ len″)
-          (λ ν δ. (and-then ! (load ! (from ! (stop !)) (look ! 36 refl)) (and-then ! (load ! (from ! (stop !)) (look ! 30 refl)) (and-then ! (load ! (from ! (stop !)) (look ! 56 refl)) (and-then ! (load ! (from ! (stop !)) (look ! 34 refl)) (and-then ! (load ! (from ! (stop !)) (look ! 52 refl)) (and-then ! (load ! (from ! (stop !)) (look ! 50 refl)) (and-then ! (load ! (from ! (stop !)) (look ! 10 refl)) (no-more !))))))))) (λ f′ l‴ f-is len‴ taken.
+          (λ ν δ. (and-then ! (load ! (from ! (stop !)) (look ! 36 refl)) (and-then ! (load ! (from ! (stop !)) (look ! 30 refl)) (and-then ! (load !
+          (from ! (stop !)) (look ! 56 refl)) (and-then ! (load ! (from ! (stop !)) (look ! 34 refl)) (and-then ! (load ! (from ! (stop !)) (look ! 52 refl))
+          (and-then ! (load ! (from ! (stop !)) (look ! 50 refl)) (and-then ! (load !
+          (from ! (stop !)) (look ! 10 refl)) (no-more !))))))))) (λ f′ l‴ f-is len‴ taken.
           land ! (from ! (stop !)) (store ! 37 refl (found-typed 𝓤 H A W f′ (found-is f′ f-is))) $
           move ! (2 ∷ []) $ split ! $ move ! (2 ∷ 3 ∷ 6 ∷ 7 ∷ 5 ∷ 0 ∷ 4 ∷ 1 ∷ []) $
           assigns-last ! (bin ! (load ! (from ! (stop !)) (look ! 36 refl)) (lit ! tt) (record { fits = next-c })) (from ! (stop !))
@@ -558,7 +563,9 @@ module _ {M : Type 1} (𝓤 : URA M) (H : Heap 𝓤) (A : Atoms 𝓤) (W : Given
           (end-able p (x .now) (x₁ .now) (x₂ .now) (x₃ .now) t₁ opened t₂ l₂ gone t₃ started k count (u .at) all (u .found) (u .cells) (u .long) (u .stands))) $
           -- [what `check_end` asks; steps'; κ's token; outputs'; κ₁'s; amounts'; κ₂'s; _26; …]
           calls-at ! (fmOf 𝓤 H (W .laws) 𝓣) (End 𝓤 H A at-mem run) known₃ (to-end t₃ (u .found) (u .cells))
-          (and-then ! (load ! (from ! (stop !)) (look ! 41 refl)) (and-then ! (load ! (from ! (stop !)) (look ! 37 refl)) (and-then ! (load ! (from ! (stop !)) (look ! 57 refl)) (and-then ! (load ! (from ! (stop !)) (look ! 47 refl)) (and-then ! (load ! (from ! (stop !)) (look ! 7 refl)) (no-more !)))))) (λ w.
+          (and-then ! (load ! (from ! (stop !)) (look ! 41 refl)) (and-then ! (load ! (from ! (stop !)) (look ! 37 refl)) (and-then ! (load !
+          (from ! (stop !)) (look ! 57 refl)) (and-then ! (load ! (from ! (stop !)) (look ! 47 refl)) (and-then ! (load !
+          (from ! (stop !)) (look ! 7 refl)) (no-more !)))))) (λ w.
           use1 W (later (some (λ (r : Verified). ((‵ (flft κ₃ q₃) ⊛ ‵ ftrue) ⊛ ‵ (E.the-row .own r (w ∷ [])))
           ⊛ raw (ensured 𝓤 H A ends.ended (ends.clauses 𝓤 H A at-mem run) (κ₃, tt) (given-end t₃ (u .found) (u .cells)) tt r)))) (id⊢ 𝓤 _) $ await ! tt $ pick ! (λ r.
           split ! $ move ! (1 ∷ []) $ use1 W (some (λ (ws : Lasts ends.ended (κ₃, tt) (given-end t₃ (u .found) (u .cells))). ‵ (lasts ends.ended (κ₃, tt)
@@ -571,11 +578,16 @@ module _ {M : Type 1} (𝓤 : URA M) (H : Heap 𝓤) (A : Atoms 𝓤) (W : Given
           returns ! (look ! 62 refl) $
           forget ! 62 refl $ forget ! 60 refl $ forget ! 58 refl $ forget ! 56 refl $ forget ! 54 refl $ forget ! 52 refl $ forget ! 50 refl $ forget ! 44 refl $
           forget ! 42 refl $ forget ! 40 refl $ forget ! 38 refl $ forget ! 26 refl $ forget ! 12 refl $ forget ! 10 refl $
-          move ! (62 ∷ 63 ∷ []) $ free1 ! $ move ! (60 ∷ 61 ∷ []) $ free1 ! $ move ! (58 ∷ 59 ∷ []) $ free1 ! $ move ! (56 ∷ 57 ∷ []) $ free1 ! $ move ! (54 ∷ 55 ∷ []) $ free1 ! $
-          move ! (52 ∷ 53 ∷ []) $ free1 ! $ move ! (50 ∷ 51 ∷ []) $ free1 ! $ move ! (48 ∷ 49 ∷ []) $ free1 ! $ move ! (46 ∷ 47 ∷ []) $ free1 ! $ move ! (44 ∷ 45 ∷ []) $ free1 ! $
-          move ! (42 ∷ 43 ∷ []) $ free1 ! $ move ! (40 ∷ 41 ∷ []) $ free1 ! $ move ! (38 ∷ 39 ∷ []) $ free1 ! $ move ! (36 ∷ 37 ∷ []) $ free1 ! $ move ! (34 ∷ 35 ∷ []) $ free1 ! $
-          move ! (32 ∷ 33 ∷ []) $ free1 ! $ move ! (30 ∷ 31 ∷ []) $ free1 ! $ move ! (28 ∷ 29 ∷ []) $ free1 ! $ move ! (26 ∷ 27 ∷ []) $ free1 ! $ move ! (24 ∷ 25 ∷ []) $ free1 ! $
-          move ! (22 ∷ 23 ∷ []) $ free1 ! $ move ! (20 ∷ 21 ∷ []) $ free1 ! $ move ! (18 ∷ 19 ∷ []) $ free1 ! $ move ! (16 ∷ 17 ∷ []) $ free1 ! $ move ! (14 ∷ 15 ∷ []) $ free1 ! $
+          move ! (62 ∷ 63 ∷ []) $ free1 ! $ move ! (60 ∷ 61 ∷ []) $ free1 ! $ move ! (58 ∷ 59 ∷ []) $ free1 ! $ move ! (56 ∷ 57 ∷ []) $ free1 ! $
+          move ! (54 ∷ 55 ∷ []) $ free1 ! $
+          move ! (52 ∷ 53 ∷ []) $ free1 ! $ move ! (50 ∷ 51 ∷ []) $ free1 ! $ move ! (48 ∷ 49 ∷ []) $ free1 ! $ move ! (46 ∷ 47 ∷ []) $ free1 ! $
+          move ! (44 ∷ 45 ∷ []) $ free1 ! $
+          move ! (42 ∷ 43 ∷ []) $ free1 ! $ move ! (40 ∷ 41 ∷ []) $ free1 ! $ move ! (38 ∷ 39 ∷ []) $ free1 ! $ move ! (36 ∷ 37 ∷ []) $ free1 ! $
+          move ! (34 ∷ 35 ∷ []) $ free1 ! $
+          move ! (32 ∷ 33 ∷ []) $ free1 ! $ move ! (30 ∷ 31 ∷ []) $ free1 ! $ move ! (28 ∷ 29 ∷ []) $ free1 ! $ move ! (26 ∷ 27 ∷ []) $ free1 ! $
+          move ! (24 ∷ 25 ∷ []) $ free1 ! $
+          move ! (22 ∷ 23 ∷ []) $ free1 ! $ move ! (20 ∷ 21 ∷ []) $ free1 ! $ move ! (18 ∷ 19 ∷ []) $ free1 ! $ move ! (16 ∷ 17 ∷ []) $ free1 ! $
+          move ! (14 ∷ 15 ∷ []) $ free1 ! $
           move ! (12 ∷ 13 ∷ []) $ free1 ! $ move ! (10 ∷ 11 ∷ []) $ free1 ! $ free0 ! $
           -- [the result; κ₃'s token; the last list; true; steps'; κ's token; outputs'; κ₁'s; amounts'; κ₂'s]
           move ! (1 ∷ []) $ split ! $ keep ! (6 ∷ 8 ∷ 10 ∷ 0 ∷ 3 ∷ 2 ∷ []) $ by ! (exits w r (ws .1 .1 .1 .1 .0)
@@ -609,18 +621,23 @@ module _ {M : Type 1} (𝓤 : URA M) (H : Heap 𝓤) (A : Atoms 𝓤) (W : Given
       -- [the scratch; true; amounts'; outputs'; steps'; κ₃'s token; true; κ₂'s; κ₁'s; κ's]
       keep ! (0 ∷ 5 ∷ 4 ∷ 9 ∷ 3 ∷ 8 ∷ 2 ∷ 7 ∷ []) $
       enter ! (𝓣 .C) (𝓣 .Λ) code.function args _ $
-      alloc1 ! (λ b₀. alloc1 ! (λ b₁. alloc1 ! (λ b₂. alloc1 ! (λ b₃. alloc1 ! (λ b₄. alloc1 ! (λ b₅. alloc1 ! (λ b₆. alloc1 ! (λ b₇. alloc1 ! (λ b₈. alloc1 ! (λ b₉. alloc1 ! (λ b₁₀. alloc1 ! (λ b₁₁. alloc1 ! (λ b₁₂. alloc1 ! (λ b₁₃. alloc1 ! (λ b₁₄. alloc1 ! (λ b₁₅. alloc1 ! (λ b₁₆. alloc1 ! (λ b₁₇. alloc1 ! (λ b₁₈. alloc1 ! (λ b₁₉. alloc1 ! (λ b₂₀. alloc1 ! (λ b₂₁. alloc1 ! (λ b₂₂. alloc1 ! (λ b₂₃. alloc1 ! (λ b₂₄. alloc1 ! (λ b₂₅. alloc1 ! (λ b₂₆. alloc0 ! $ params1 ! $
+      alloc1 ! (λ b₀. alloc1 ! (λ b₁. alloc1 ! (λ b₂. alloc1 ! (λ b₃. alloc1 ! (λ b₄. alloc1 ! (λ b₅. alloc1 ! (λ b₆. alloc1 ! (λ b₇. alloc1 ! (λ b₈. alloc1 ! (λ b₉.
+      alloc1 ! (λ b₁₀. alloc1 ! (λ b₁₁. alloc1 ! (λ b₁₂. alloc1 ! (λ b₁₃. alloc1 ! (λ b₁₄. alloc1 ! (λ b₁₅. alloc1 ! (λ b₁₆. alloc1 ! (λ b₁₇. alloc1 ! (λ b₁₈.
+      alloc1 ! (λ b₁₉. alloc1 ! (λ b₂₀. alloc1 ! (λ b₂₁. alloc1 ! (λ b₂₂. alloc1 ! (λ b₂₃. alloc1 ! (λ b₂₄. alloc1 ! (λ b₂₅. alloc1 ! (λ b₂₆. alloc0 ! $ params1 ! $
       pass1 ! (init ! 50 refl (tt, record { fits = p-fits })) $ pass1 ! (init ! 48 refl (tt, (tt, (record { fits = g .0 }, tt)))) $
       pass1 ! (init ! 46 refl (tt, (tt, (record { fits = g₁ .0 }, tt)))) $ pass1 ! (init ! 44 refl (tt, (tt, (record { fits = g₂ .0 }, tt)))) $
       pass1 ! (init ! 42 refl (tt, (tt, (record { fits = g₃ .0 }, tt)))) $ pass0 ! $
       move ! (54 ∷ 55 ∷ 56 ∷ 57 ∷ 58 ∷ 59 ∷ 60 ∷ 61 ∷ []) $
       -- [the scratch; κ₃'s token; steps'; κ's; outputs'; κ₁'s; amounts'; κ₂'s; _26; …; _0; …]: so it stands before each call
-      assigns ! (of-opd ! (load ! (from ! (fld ! refl (stop !))) (look-in ! 56 (sub ! 1 refl (whole !))))) (from ! (stop !)) (init ! 48 refl (tt, record { fits = g .0 })) $
-      assigns ! (of-opd ! (load ! (from ! (fld ! refl (stop !))) (look-in ! 54 (sub ! 1 refl (whole !))))) (from ! (stop !)) (init ! 30 refl (tt, record { fits = g₁ .0 })) $
+      assigns ! (of-opd ! (load ! (from ! (fld ! refl (stop !))) (look-in ! 56 (sub ! 1 refl (whole !))))) (from ! (stop !))
+      (init ! 48 refl (tt, record { fits = g .0 })) $
+      assigns ! (of-opd ! (load ! (from ! (fld ! refl (stop !))) (look-in ! 54 (sub ! 1 refl (whole !))))) (from ! (stop !))
+      (init ! 30 refl (tt, record { fits = g₁ .0 })) $
       move ! (6 ∷ []) $ shares ! (named 2) κ₂ u32 x₂ (val x₂ ∷ []) $ move ! (8 ∷ 0 ∷ []) $
       use2 W (raw (Open 𝓤 H A at-mem run .pre to-open)) asks-open $
       calls-at ! (fmOf 𝓤 H (W .laws) 𝓣) (Open 𝓤 H A at-mem run) known-open to-open
-      (and-then ! (load ! (from ! (stop !)) (look ! 58 refl)) (and-then ! (load ! (from ! (stop !)) (look ! 30 refl)) (and-then ! (load ! (from ! (stop !)) (look ! 48 refl)) (and-then ! (load ! (from ! (stop !)) (look ! 52 refl)) (no-more !))))) (λ w.
+      (and-then ! (load ! (from ! (stop !)) (look ! 58 refl)) (and-then ! (load ! (from ! (stop !)) (look ! 30 refl)) (and-then ! (load !
+      (from ! (stop !)) (look ! 48 refl)) (and-then ! (load ! (from ! (stop !)) (look ! 52 refl)) (no-more !))))) (λ w.
       use1 W (later (some (λ (t : Task). ((‵ (flft κ₂ q₂) ⊛ ‵ ftrue) ⊛ ‵ (K.the-row .own t (w ∷ [])))
       ⊛ raw (ensured 𝓤 H A opens.ended (opens.clauses 𝓤 H A at-mem run) (κ₂, tt) given-open tt t)))) (id⊢ 𝓤 _) $ await ! tt $ pick ! (λ t₁.
       split ! $ move ! (1 ∷ []) $ use1 W (raw (fact 𝓤 (Opened t₁))) (said-open t₁) $ heard ! (Opened t₁) (λ opened.
@@ -636,16 +653,20 @@ module _ {M : Type 1} (𝓤 : URA M) (H : Heap 𝓤) (A : Atoms 𝓤) (W : Given
       move ! (2 ∷ []) $ shares ! (named 0) κ R x (vx ∷ []) $ move ! (4 ∷ 0 ∷ []) $ join ! $ move ! (2 ∷ 3 ∷ 0 ∷ []) $
       passes 𝓤 H A at-mem run κ q x t₁ (x₃ .ptr) room (x₃ .now) ! (fmOf 𝓤 H (W .laws) 𝓣) known (named 3) κ₃ q₃ (x₃ .name) refl g₃ (task-is t₁ w is)
       (open-able p (x .now) (x₁ .now) (x₂ .now) (x₃ .now) t₁ opened room)
-      (λ ν δ. (and-then ! (load ! (from ! (stop !)) (look ! 45 refl)) (and-then ! (load ! (from ! (stop !)) (look ! 55 refl)) (and-then ! (load ! (from ! (stop !)) (look ! 25 refl)) (no-more !))))) (λ t₂ l₂ is₂ len₂ gone.
+      (λ ν δ. (and-then ! (load ! (from ! (stop !)) (look ! 45 refl)) (and-then ! (load ! (from ! (stop !)) (look ! 55 refl)) (and-then ! (load !
+      (from ! (stop !)) (look ! 25 refl)) (no-more !))))) (λ t₂ l₂ is₂ len₂ gone.
       land ! (from ! (stop !)) (init ! 44 refl (task-typed 𝓤 H A W t₂ is₂)) $ move ! (0 ∷ 1 ∷ 3 ∷ 2 ∷ []) $
       rewrite ! 0 (λ (l : List ℕ). Scratch l) (scratch-same p (x .now) (x₁ .now) (x₂ .now) (x₃ .now) t₁ opened t₂ l₂ gone) refl $
       -- 12, 5
-      assigns ! (of-opd ! (load ! (from ! (fld ! refl (stop !))) (look-in ! 50 (sub ! 1 refl (whole !))))) (from ! (stop !)) (store ! 30 refl (tt, record { fits = g₃ .0 })) $
+      assigns ! (of-opd ! (load ! (from ! (fld ! refl (stop !))) (look-in ! 50 (sub ! 1 refl (whole !)))))
+      (from ! (stop !)) (store ! 30 refl (tt, record { fits = g₃ .0 })) $
       move ! (4 ∷ []) $ shares ! (named 1) κ₁ u32 x₁ (val x₁ ∷ []) $ move ! (6 ∷ 0 ∷ []) $
       use2 W (raw (Start 𝓤 H A at-mem run .pre (to-start t₂)))
       (asks-start t₂ is₂ (start-able p (x .now) (x₁ .now) (x₂ .now) (x₃ .now) t₁ opened t₂ l₂ gone)) $
       calls-at ! (fmOf 𝓤 H (W .laws) 𝓣) (Start 𝓤 H A at-mem run) known-start (to-start t₂)
-      (and-then ! (load ! (from ! (stop !)) (look ! 44 refl)) (and-then ! (load ! (from ! (stop !)) (look ! 58 refl)) (and-then ! (load ! (from ! (stop !)) (look ! 48 refl)) (and-then ! (load ! (from ! (stop !)) (look ! 54 refl)) (and-then ! (load ! (from ! (stop !)) (look ! 30 refl)) (no-more !)))))) (λ w₃.
+      (and-then ! (load ! (from ! (stop !)) (look ! 44 refl)) (and-then ! (load ! (from ! (stop !)) (look ! 58 refl)) (and-then ! (load !
+      (from ! (stop !)) (look ! 48 refl)) (and-then ! (load ! (from ! (stop !)) (look ! 54 refl)) (and-then ! (load !
+      (from ! (stop !)) (look ! 30 refl)) (no-more !)))))) (λ w₃.
       use1 W (later (some (λ (t : Task). ((‵ (flft κ₁ q₁) ⊛ ‵ ftrue) ⊛ ‵ (K.the-row .own t (w₃ ∷ [])))
       ⊛ raw (ensured 𝓤 H A starts.ended (starts.clauses 𝓤 H A at-mem run) (κ₁, tt) (given-start t₂) tt t)))) (id⊢ 𝓤 _) $ await ! tt $ pick ! (λ t₃.
       split ! $ move ! (1 ∷ []) $ use1 W (raw (fact 𝓤 (Started t₂ t₃))) (said-start t₂ t₃) $ heard ! (Started t₂ t₃) (λ started.
@@ -670,8 +691,10 @@ module _ {M : Type 1} (𝓤 : URA M) (H : Heap 𝓤) (A : Atoms 𝓤) (W : Given
       forget ! 46 refl $ forget ! 44 refl $ forget ! 30 refl $ forget ! 28 refl $ forget ! 26 refl $
       first ! $ blocks ! $ loops ! 𝓣 (Nearer t₁ opened t₂ l₂ gone t₃ (task-is t₃ w₃ is₃) started k (is₄ .1) count)
       (Nearer-wf t₁ opened t₂ l₂ gone t₃ (task-is t₃ w₃ is₃) started k (is₄ .1) count)
-      (At t₁ opened t₂ l₂ gone t₃ (task-is t₃ w₃ is₃) started k (is₄ .1) count 𝓣 known known₁ known₂ known₃ b₀ b₁ b₂ b₃ b₄ b₅ b₆ b₇ b₈ b₉ b₁₀ b₁₁ b₁₂ b₁₃ b₁₄ b₁₅ b₁₆ b₁₇ b₁₈ b₁₉ b₂₀ b₂₁ b₂₂ b₂₃ b₂₄ b₂₅ b₂₆)
-      (columns-turn t₁ opened t₂ l₂ gone t₃ (task-is t₃ w₃ is₃) started k (is₄ .1) count 𝓣 known known₁ known₂ known₃ b₀ b₁ b₂ b₃ b₄ b₅ b₆ b₇ b₈ b₉ b₁₀ b₁₁ b₁₂ b₁₃ b₁₄ b₁₅ b₁₆ b₁₇ b₁₈ b₁₉ b₂₀ b₂₁ b₂₂ b₂₃ b₂₄ b₂₅ b₂₆)
+      (At t₁ opened t₂ l₂ gone t₃ (task-is t₃ w₃ is₃) started k (is₄ .1) count 𝓣 known known₁ known₂ known₃
+      b₀ b₁ b₂ b₃ b₄ b₅ b₆ b₇ b₈ b₉ b₁₀ b₁₁ b₁₂ b₁₃ b₁₄ b₁₅ b₁₆ b₁₇ b₁₈ b₁₉ b₂₀ b₂₁ b₂₂ b₂₃ b₂₄ b₂₅ b₂₆)
+      (columns-turn t₁ opened t₂ l₂ gone t₃ (task-is t₃ w₃ is₃) started k (is₄ .1) count 𝓣 known known₁ known₂ known₃
+      b₀ b₁ b₂ b₃ b₄ b₅ b₆ b₇ b₈ b₉ b₁₀ b₁₁ b₁₂ b₁₃ b₁₄ b₁₅ b₁₆ b₁₇ b₁₈ b₁₉ b₂₀ b₂₁ b₂₂ b₂₃ b₂₄ b₂₅ b₂₆)
       (no-column t₁ opened t₂ l₂ gone t₃ (task-is t₃ w₃ is₃) started k (is₄ .1) count)))))))))))))))))))))))))))))))))))))))))
 
 module _ {M : Type 1} (𝓤 : URA M) (H : Heap 𝓤) (A : Atoms 𝓤) (W : Given 𝓤 H A) (at-mem : Memory → SProp 𝓤) (run : Routine → Fun 𝓤) (𝓣 : Tables 𝓤 H)

@@ -35,7 +35,10 @@ same-length : tie.Need-same-length
 same-length c = search needs
 
 returns-4 : tie.Need-returns-4
-returns-4 c = row-reads _ _ _ _ _ _ _ (c .before .before .before .before .before .before .before .if1 .left) _ (c .before .before .before .before .before .before .field-count .ensures) (c .before .before .before .before .before .if2 .left) _ _ (c .before .before .before .before .if3 .left) (c .before .before .parse .ensures)
+returns-4 c =
+    let t = c .before .before .before .before in
+    let f = t .before .before in
+    row-reads _ _ _ _ _ _ _ (f .before .if1 .left) _ (f .field-count .ensures) (t .before .if2 .left) _ _ (t .if3 .left) (c .before .before .parse .ensures)
 
 pub read-content-spec : {M : Type 1} → statement M
 read-content-spec =

@@ -26,7 +26,9 @@ same-length : tie.Need-same-length
 same-length c = search needs
 
 returns-3 : tie.Need-returns-3
-returns-3 c = head-names _ _ _ _ _ (c .before .before .before .before .before .before .before .if1 .left) (c .before .before .before .before .before .before .if2 .left) _ _ (c .before .before .before .before .if3 .taken) (c .before .before .read-rows .ensures)
+returns-3 c =
+    let t = c .before .before .before .before in
+    head-names _ _ _ _ _ (t .before .before .before .if1 .left) (t .before .before .if2 .left) _ _ (t .if3 .taken) (c .before .before .read-rows .ensures)
 
 read-rows-requires-2 : tie.Need-read-rows-requires-2
 read-rows-requires-2 c κs = search needs
@@ -35,7 +37,9 @@ same-length-2 : tie.Need-same-length-2
 same-length-2 c = search needs
 
 returns-4 : tie.Need-returns-4
-returns-4 c = head-amounts _ _ _ _ _ (c .before .before .before .before .before .before .before .if1 .left) (c .before .before .before .before .before .before .if2 .left) _ _ (c .before .before .before .before .if3 .left) (c .before .before .read-rows2 .ensures)
+returns-4 c =
+    let t = c .before .before .before .before in
+    head-amounts _ _ _ _ _ (t .before .before .before .if1 .left) (t .before .before .if2 .left) _ _ (t .if3 .left) (c .before .before .read-rows2 .ensures)
 
 pub read-headed-spec : {M : Type 1} → statement M
 read-headed-spec =

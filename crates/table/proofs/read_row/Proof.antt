@@ -20,7 +20,10 @@ same-length : tie.Need-same-length
 same-length c = search needs
 
 returns : tie.Need-returns
-returns c = row-of _ _ _ _ _ _ _ _ _ _ (ap (λ n. take n (c .before .before .before .before .before .before .before .before .args .line .now)) (c .before .before .before .before .before .content-length .ensures)) (c .before .before .read-content .ensures)
+returns c =
+    let l = c .before .before .before .before .before in
+    row-of _ _ _ _ _ _ _ _ _ _ (ap (λ n. take n (l .before .before .before .args .line .now)) (l .content-length .ensures))
+    (c .before .before .read-content .ensures)
 
 pub read-row-spec : {M : Type 1} → statement M
 read-row-spec =

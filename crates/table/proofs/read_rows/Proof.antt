@@ -48,16 +48,27 @@ enum-known-n : tie.Need-enum-known-n Inv-loop μ-loop
 enum-known-n c = search needs
 
 add-filled : tie.Need-add-filled Inv-loop μ-loop
-add-filled c = let h = rows-room _ _ _ _ _ _ _ _ _ _ (c .before .before .before .before .before .before .before .before .before .before .loop .inv .3) _ _ _ (c .before .before .before .before .before .before .before .before .before .loop-test .taken) (c .before .before .before .before .before .before .before .before .line-end .ensures) (c .before .before .before .before .before .read-row .ensures) _ (c .before .n .given .1) in search needs
+add-filled c =
+    let r = c .before .before .before .before .before in
+    let e = r .before .before .before in
+    let h = rows-room _ _ _ _ _ _ _ _ _ _ (e .before .before .loop .inv .3) _ _ _ (e .before .loop-test .taken) (e .line-end .ensures)
+    (r .read-row .ensures) _ (c .before .n .given .1) in
+    search needs
 
 enum-known-fault : tie.Need-enum-known-fault Inv-loop μ-loop
 enum-known-fault c = search needs
 
 same-length : tie.Need-same-length Inv-loop μ-loop
-same-length c = c .before .before .before .before .before .read-row .kept .1 .1 .1 .1 .1 .0 ∙ c .before .before .before .before .before .before .before .before .before .before .loop .inv .3 .long
+same-length c =
+    let r = c .before .before .before .before .before in
+    r .read-row .kept .1 .1 .1 .1 .1 .0 ∙ r .before .before .before .before .before .loop .inv .3 .long
 
 returns : tie.Need-returns Inv-loop μ-loop
-returns c = rows-stop _ _ _ _ _ _ _ _ _ _ (c .before .before .before .before .before .before .before .before .before .before .loop .inv .3) _ _ _ (c .before .before .before .before .before .before .before .before .before .loop-test .taken) (c .before .before .before .before .before .before .before .before .line-end .ensures) (c .before .before .before .before .before .read-row .ensures) _ _ _ _ (c .before .fault .given .1)
+returns c =
+    let r = c .before .before .before .before .before in
+    let e = r .before .before .before in
+    rows-stop _ _ _ _ _ _ _ _ _ _ (e .before .before .loop .inv .3) _ _ _ (e .before .loop-test .taken) (e .line-end .ensures)
+    (r .read-row .ensures) _ _ _ _ (c .before .fault .given .1)
 
 add-payslips : tie.Need-add-payslips Inv-loop μ-loop
 add-payslips c = let w = within (c .before .before .before .before .before .before .before .before) in search needs
@@ -69,12 +80,21 @@ add-at : tie.Need-add-at Inv-loop μ-loop
 add-at c = let w = within (c .before .before .before .before .before .before .before .before) in search needs
 
 loop-less : tie.Need-loop-less Inv-loop μ-loop
-loop-less c = omega (arith, within (c .before .before .before .before .before .before .before .before) .0, within (c .before .before .before .before .before .before .before .before) .1)
+loop-less c =
+    let w = within (c .before .before .before .before .before .before .before .before) in
+    omega (arith, w .0, w .1)
 
 loop-again : tie.Need-loop-again Inv-loop μ-loop
 loop-again c =
-    let w = within (c .before .before .before .before .before .before .before .before) in
-    (omega (arith, w .1), omega (arith, w .0, c .before .before .before .before .before .before .before .before .before .before .loop .inv .1), omega (arith, w .0, c .before .before .before .before .before .before .before .before .before .before .loop .inv .2), rows-on _ _ _ _ _ _ _ _ _ _ (c .before .before .before .before .before .before .before .before .before .before .loop .inv .3) _ _ _ (c .before .before .before .before .before .before .before .before .before .loop-test .taken) (c .before .before .before .before .before .before .before .before .line-end .ensures) (c .before .before .before .before .before .read-row .ensures) _ (c .before .n .given .1))
+    let r = c .before .before .before .before .before in
+    let e = r .before .before .before in
+    let at = e .before .before .loop .inv in
+    let w = within e in (
+      omega (arith, w .1),
+      omega (arith, w .0, at .1),
+      omega (arith, w .0, at .2),
+      rows-on _ _ _ _ _ _ _ _ _ _ (at .3) _ _ _ (e .before .loop-test .taken) (e .line-end .ensures) (r .read-row .ensures) _ (c .before .n .given .1),
+    )
 
 same-length-2 : tie.Need-same-length-2 Inv-loop μ-loop
 same-length-2 c = c .before .before .loop .inv .3 .long

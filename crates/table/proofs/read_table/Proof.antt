@@ -45,7 +45,10 @@ same-length c = search needs
 
 returns-3 : tie.Need-returns-3
 returns-3 c =
-    table-headed _ _ (c .before .before .before .before .before .before .before .before .before .is-cut .ensures) _ _ (c .before .before .before .before .before .before .before .before .if1 .left) _ _ _ _ (c .before .before .before .before .before .before .before .if2 .left) (c .before .before .before .before .before .before .line-end .ensures) (c .before .before .before .before .first-line .ensures)
+    let f = c .before .before .before .before in
+    let e = f .before .before in
+    let t = e .before in
+    table-headed _ _ (t .before .before .is-cut .ensures) _ _ (t .before .if1 .left) _ _ _ _ (t .if2 .left) (e .line-end .ensures) (f .first-line .ensures)
     (c .before .before .read-headed .ensures)
 
 pub read-table-spec : {M : Type 1} → statement M

@@ -30,15 +30,27 @@ returns-4 c = choose-yes _ _ _ _ (or-right _ _ (or-right _ _ (or-right _ _ (eq-y
 
 returns-5 : tie.Need-returns-5
 unfolding faultOf
-returns-5 c = choose-no _ _ _ _ (none (eq-no _ _ (c .before .before .before .before .if1 .left)) (eq-no _ _ (c .before .before .before .if2 .left)) (eq-no _ _ (c .before .before .if3 .left)) (eq-no _ _ (c .before .if4 .left))) (choose-yes _ _ _ _ (or-left _ _ (eq-yes _ _ (c .if5 .taken))) refl)
+returns-5 c =
+    let g = c .before in
+    let no = none (eq-no _ _ (g .before .before .before .if1 .left)) (eq-no _ _ (g .before .before .if2 .left)) (eq-no _ _ (g .before .if3 .left))
+    (eq-no _ _ (g .if4 .left)) in
+    choose-no _ _ _ _ no (choose-yes _ _ _ _ (or-left _ _ (eq-yes _ _ (c .if5 .taken))) refl)
 
 returns-6 : tie.Need-returns-6
 unfolding faultOf
-returns-6 c = choose-no _ _ _ _ (none (eq-no _ _ (c .before .before .before .before .before .if1 .left)) (eq-no _ _ (c .before .before .before .before .if2 .left)) (eq-no _ _ (c .before .before .before .if3 .left)) (eq-no _ _ (c .before .before .if4 .left))) (choose-yes _ _ _ _ (or-right _ _ (eq-yes _ _ (c .if6 .taken))) refl)
+returns-6 c =
+    let g = c .before .before in
+    let no = none (eq-no _ _ (g .before .before .before .if1 .left)) (eq-no _ _ (g .before .before .if2 .left)) (eq-no _ _ (g .before .if3 .left))
+    (eq-no _ _ (g .if4 .left)) in
+    choose-no _ _ _ _ no (choose-yes _ _ _ _ (or-right _ _ (eq-yes _ _ (c .if6 .taken))) refl)
 
 returns-7 : tie.Need-returns-7
 unfolding faultOf
-returns-7 c = choose-no _ _ _ _ (none (eq-no _ _ (c .before .before .before .before .before .if1 .left)) (eq-no _ _ (c .before .before .before .before .if2 .left)) (eq-no _ _ (c .before .before .before .if3 .left)) (eq-no _ _ (c .before .before .if4 .left))) (choose-no _ _ _ _ (or-none _ _ (eq-no _ _ (c .before .if5 .left)) (eq-no _ _ (c .if6 .left))) refl)
+returns-7 c =
+    let g = c .before .before in
+    let no = none (eq-no _ _ (g .before .before .before .if1 .left)) (eq-no _ _ (g .before .before .if2 .left)) (eq-no _ _ (g .before .if3 .left))
+    (eq-no _ _ (g .if4 .left)) in
+    choose-no _ _ _ _ no (choose-no _ _ _ _ (or-none _ _ (eq-no _ _ (c .before .if5 .left)) (eq-no _ _ (c .if6 .left))) refl)
 
 pub fault-of-spec : {M : Type 1} → statement M
 fault-of-spec =

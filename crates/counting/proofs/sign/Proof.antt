@@ -1,8 +1,8 @@
 -- The two cases of the definition are the two returns.
 use borrow.Author.Needs.{needs}
 use Rattle.digits.proofs.Range.{sign-one}
-use Rattle.digits.proofs.sign.Statement.{statement}
-use Rattle.digits.proofs.sign.Tie as tie
+use Rattle.counting.proofs.sign.Statement.{statement}
+use Rattle.counting.proofs.sign.Tie as tie
 
 returns : tie.Need-returns
 returns c = search needs

@@ -49,10 +49,10 @@ enum-known-n c = search needs
 
 add-filled : tie.Need-add-filled Inv-loop μ-loop
 add-filled c =
-    let r = c .before .before .before .before .before in
-    let e = r .before .before .before in
-    let h = rows-room _ _ _ _ _ _ _ _ _ _ (e .before .before .loop .inv .3) _ _ _ (e .before .loop-test .taken) (e .line-end .ensures)
-    (r .read-row .ensures) _ (c .before .n .given .1) in
+    let h = rows-room _ _ _ _ _ _ _ _ _ _ (c .before .before .before .before .before .before .before .before .before .before .loop .inv .3)
+    _ _ _ (c .before .before .before .before .before .before .before .before .before .loop-test .taken)
+    (c .before .before .before .before .before .before .before .before .line-end .ensures)
+    (c .before .before .before .before .before .read-row .ensures) _ (c .before .n .given .1) in
     search needs
 
 enum-known-fault : tie.Need-enum-known-fault Inv-loop μ-loop

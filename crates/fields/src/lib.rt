@@ -14,7 +14,8 @@ fn wide(x: u32) -> u64
     x as u64
 }
 
-// Writes the first count numbers of the list as fields of width bits, one after the other. Two at a time are put as one field of twice the width: each put waits for the one before it.
+// Writes the first count numbers of the list as fields of width bits, one after the other. Two at a time are put as one field of twice the width: each
+// put waits for the one before it.
 pub fn put_fields(buf: &mut [u8], from: Cursor, width: usize, list: &[u32], count: usize) -> Cursor
     requires { ⌜ (count ≤ length (now list)) × FieldsFill (now buf) (from .at) width (take count (now list)) ⌝ }
     ensures { λ r. ⌜ FieldStored (now (buf .entry)) (from .at) (count * width)

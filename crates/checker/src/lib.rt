@@ -16,20 +16,8 @@ use verify::Found;
 fn judge(p: usize, steps: &[u32], outputs: &[u32], amounts: &[u32], scratch: usize) -> Judgement
     ensures { λ r. ⌜ verdictOf r ≡ fittingRule p (pairs (now (steps .entry))) (now (outputs .entry)) (now (amounts .entry)) scratch ⌝ }
 {
-    let n = steps.len() / 2;
-    match verify::judge_start(p, outputs.len(), n, amounts) {
-        Judgement::Refused(number, place) => {
-            return Judgement::Refused(number, place);
-        }
-        Judgement::Fine => {}
-    }
-    match legal::judge_steps(p, steps) {
-        Judgement::Refused(number, place) => {
-            return Judgement::Refused(number, place);
-        }
-        Judgement::Fine => {}
-    }
-    verify::judge_end(p, n, outputs, scratch)
+    let begun = verify::judge_start(p, outputs.len(), steps.len() / 2, amounts);
+    legal::judge_rest(begun, p, steps, outputs, scratch)
 }
 
 // One sum for each step, after the p + 1 values that stand in the scratch already, up to the first that is too large, which is not stored: its place,

@@ -4,7 +4,8 @@ ghost use Prim.Native.Nat.{_+_, _*_, _%_, _^_, _≤_, _<_};
 ghost use lib.ListN.{length};
 ghost use Rattle.chain.specs.Written.{over};
 ghost use Rattle.groups.specs.Groups.{mostMembers};
-ghost use Rattle.groups.specs.Inner.{Bounded, PartsRoom, partNumbers};
+ghost use Rattle.digits.specs.Inner.{Bounded};
+ghost use Rattle.groups.specs.Inner.{PartsRoom, partNumbers};
 ghost use Rattle.cutting.specs.Inner.{CutUp, Entered};
 use groups::Grouping;
 

@@ -122,6 +122,18 @@ module _ (f : ℕ → ℕ) (n s x : ℕ) (is : x ≡ f n) where
   pub max-on : s ≡ maxTo n f → max s x ≡ maxTo (n + 1) f
   max-on e = rw (add-one n) (ap₂ max e is)
 
+-- the last number taken
+pub sum-end : (f : ℕ → ℕ) (n bound s : ℕ) → n ≤ bound → bound ≤ n → s ≡ sumTo n f → s ≡ sumTo bound f
+sum-end f n bound s h g e = let last : bound ≡ n = omega arith in rw last e
+
+-- the same of a sum that begins at b
+module _ (f : ℕ → ℕ) (b n s : ℕ) (e : s ≡ b + sumTo n f) where
+  pub sum-after : (x : ℕ) → x ≡ f n → s + x ≡ b + sumTo (n + 1) f
+  sum-after x is = omega (arith, sum-on f n (sumTo n f) x is refl)
+
+  pub sum-after-end : (bound : ℕ) → n ≤ bound → bound ≤ n → s ≡ b + sumTo bound f
+  sum-after-end bound h g = let last : bound ≡ n = omega arith in rw last e
+
 -- signs
 pub sign-low : (x : ℕ) → sign x ≤ 1
 sign-low zero = zero-le

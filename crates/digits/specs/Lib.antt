@@ -1,2 +1,3 @@
 pub mod Range
 pub mod Digits
+pub mod Inner

@@ -6,7 +6,6 @@ use Prim.Native.Nat.{ℕ, zero, suc, _+_, _-_, _*_, _^_, _≤_, _<_}
 use native.Mathlib.Decide.{decLe}
 use native.Mathlib.Nat.{mul-comm, mul-le-mul-right, mul-le-mul-left, div-add-mod', div-lt-iff-lt-mul, suc-mul, le-refl, pow-suc}
 use native.Mathlib.Omega.{arith}
-use lib.ListN.{length, getD}
 use lib.Pow.{pow-mono}
 use Rattle.digits.specs.Range.{sumTo}
 use Rattle.digits.proofs.Range.{sum-on, sum-low}
@@ -17,13 +16,6 @@ use Rattle.groups.proofs.Groups.{inputs-below}
 -- the bits of the first n columns of a slice, less some each
 abbrev pub lessTo : List ℕ → ℕ → ℕ → ℕ
 lessTo bits less n = sumTo n (bitsLess bits less)
-
-module _ (bits : List ℕ) (less col s : ℕ) (e : s ≡ lessTo bits less col) where
-  pub less-on : (r : ℕ) → r ≡ getD bits col 0 - less → s + r ≡ lessTo bits less (col + 1)
-  less-on r is = sum-on (bitsLess bits less) col s r is e
-
-  pub less-end : col ≤ length bits → length bits ≤ col → s ≡ lessTo bits less (length bits)
-  less-end h g = let last : length bits ≡ col = omega arith in rw last e
 
 -- w/c rounded up: the least number of groups of c that hold w inputs
 pub rounded-up : (c w g : ℕ) → 1 ≤ c → groupCount c w ≤ g ↔ w ≤ g * c
@@ -65,9 +57,6 @@ size-few c w g r few e = omega arith
 pub tables-on : (c w n g s r : ℕ) → s ≡ groupSize c w g → r ≡ 2 ^ s - s - 1 → n ≡ tablesCount c w g → n + r ≡ tablesCount c w (g + 1)
 tables-on c w n g s r size is e =
     sum-on (λ k. 2 ^ groupSize c w k - groupSize c w k - 1) g n r (is ∙ ap (λ (m : ℕ). 2 ^ m - m - 1) size) e
-
-pub tables-all : (c w G g n : ℕ) → g ≤ G → G ≤ g → n ≡ tablesCount c w g → n ≡ tablesCount c w G
-tables-all c w G g n h k e = let last : G ≡ g = omega arith in rw last e
 
 -- a table of more inputs has no fewer steps
 table-more : (g c : ℕ) → g ≤ c → 2 ^ g - g - 1 ≤ 2 ^ c - c - 1

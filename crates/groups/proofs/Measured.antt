@@ -22,7 +22,8 @@ use Rattle.products.specs.Inner.{StepsStored, StepsRoom}
 use Rattle.digits.proofs.Listed.{getD-list, length-list, list-same}
 use Rattle.groups.specs.Groups.{columnBits, columnSquarings, group, groupCount, groupTables, inputCount, inputs, mostInputs}
 use Rattle.groups.specs.Groups.{mostMembers, overInputs, selection, sheetSquarings, sheetTables, weigh}
-use Rattle.groups.specs.Inner.{Bounded, Grouped, GroupedBy, GroupedFor, GroupsMade, GroupsRoom, Narrow, bitInputs, bitSquarings, bitTables}
+use Rattle.digits.specs.Inner.{Bounded}
+use Rattle.groups.specs.Inner.{Grouped, GroupedBy, GroupedFor, GroupsMade, GroupsRoom, Narrow, bitInputs, bitSquarings, bitTables}
 use Rattle.groups.specs.Inner.{bitsLess, partNumbers}
 use Rattle.groups.proofs.Counting.{lessTo}
 use Rattle.groups.proofs.Inputs.{over-same}

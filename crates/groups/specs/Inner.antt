@@ -14,11 +14,6 @@ use Rattle.chain.specs.declared.Step.{Step}
 use Rattle.groups.specs.Groups.{columnBits, group, groupCount, groupTables, inputCount, mostInputs, mostMembers, overInputs}
 use Rattle.groups.specs.Groups.{selection, squaringCount, weigh}
 
--- r is x, and x is not large
-pub record Bounded (r x most : ℕ) : Type 0 where
-  pub is : r ≡ x
-  pub low : r ≤ most
-
 -- the bits of columns less some each, as far as they go
 abbrev pub bitsLess : List ℕ → ℕ → ℕ → ℕ
 bitsLess bits less col = countsOf bits col - less

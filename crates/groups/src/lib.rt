@@ -4,7 +4,8 @@ ghost use lib.ListN.{length, take};
 ghost use Rattle.chain.specs.Chain.{mostColumns};
 ghost use Rattle.digits.specs.Range.{sumTo};
 ghost use Rattle.groups.specs.Groups.{groupCount, mostInputs, mostMembers};
-ghost use Rattle.groups.specs.Inner.{Bounded, GroupedBy, Narrow, bitsLess};
+ghost use Rattle.digits.specs.Inner.{Bounded};
+ghost use Rattle.groups.specs.Inner.{GroupedBy, Narrow, bitsLess};
 
 // No sheet has more inputs: an amount has at most 32 bits.
 pub const MOST_INPUTS: usize = chain::MOST_COLUMNS * 32;

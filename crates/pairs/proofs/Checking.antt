@@ -19,7 +19,9 @@ use Rattle.chain.proofs.Filling.{madeTo, fill-start, fill-on}
 use Rattle.chain.proofs.Legal.{legal-parts, chain-parts}
 use Rattle.chain.proofs.Outputs.{outputs-low}
 use Rattle.verify.specs.Verify.{firstOver, fittingRule, verifyAnswer, verifyScratch}
-use Rattle.verify.specs.Inner.{startRule, endRule, columnStart, stepsBefore, SummedUp, Comparable, foundIn, Finished}
+use Rattle.legal.specs.Inner.{endRule}
+use Rattle.legal.proofs.Rest.{rest-parts}
+use Rattle.verify.specs.Inner.{startRule, columnStart, stepsBefore, SummedUp, Comparable, foundIn, Finished}
 use Rattle.verify.specs.declared.Found.{Found}
 use Rattle.verify.proofs.Over.{overLeft, over-start}
 use Rattle.verify.proofs.Sums.{AtStep, sums, sum-on, sum-bad, sum-end, sums-stopped, sums-all}
@@ -161,6 +163,7 @@ module _ (p : ℕ) (steps : List Step) (outputs amounts old : List ℕ) where
             ∙ found-unless (foundBy t₂ then endRule p (length steps) outputs (length old)) (Adding p) refl
             ∙ ap (λ (v : Verdict). v then endRule p (length steps) outputs (length old)) found-is
             ∙ then-assoc opening (stepsRule p 1 steps) (endRule p (length steps) outputs (length old))
+            ∙ ap (λ (v : Verdict). opening then v) (rest-parts p steps outputs (length old))
             ∙ fitting-parts p steps outputs amounts (length old)
 
         -- where there is a turn, nothing was found before the columns

@@ -16,7 +16,9 @@ use Rattle.chain.proofs.Filling.{madeTo, fill-start, fill-on, fill-end}
 use Rattle.residue.specs.Residue.{timesMod}
 use Rattle.residue.specs.Inner.{inverseOf}
 use Rattle.run.specs.Run.{residues, runRule, runAnswer, runValues, runFigures}
-use Rattle.run.specs.Inner.{startRule, endRule}
+use Rattle.legal.specs.Inner.{endRule}
+use Rattle.legal.proofs.Rest.{rest-parts}
+use Rattle.run.specs.Inner.{startRule, figuresRule}
 use Rattle.run.proofs.Parts.{run-parts, started}
 use Rattle.run.proofs.Runnable.{runnable, fill-all, show-all, outputs-are-values}
 use Rattle.pairs.specs.Inner.{foundBy, unless, Left, left, afterStep, afterSteps, Able, RunAble, RunStarted, FiguresAble, RunEnded}
@@ -83,13 +85,19 @@ module _ (p : ℕ) (steps : List Step) (outputs : List ℕ) (m : ℕ) (bases zs 
           let s = started p (length outputs) (length steps) m bases (then-fine opening (stepsRule p 1 steps) (sym found-is ∙ e) .0) in
           record { columns = s .shape .sizes .p-low; few = s .shape .few; modulus = s .modulus; bases-are-p = s .bases-are-p }
 
-      rule-is : (foundBy t₂ then endRule p (length steps) outputs (length l₂) places) ≡ rule
+      -- what is found after the steps, with so many cells
+      abbrev ending : ℕ → Verdict
+      ending cells = endRule p (length steps) outputs cells then figuresRule (length outputs) places
+
+      rule-is : (foundBy t₂ then ending (length l₂)) ≡ rule
       rule-is =
-          ap₂ (λ (v : Verdict) (l : List ℕ). v then endRule p (length steps) outputs (length l) places) found-is values-same
-          ∙ then-assoc opening (stepsRule p 1 steps) (endRule p (length steps) outputs (length zs) places)
+          ap₂ (λ (v : Verdict) (l : List ℕ). v then ending (length l)) found-is values-same
+          ∙ then-assoc opening (stepsRule p 1 steps) (ending (length zs))
+          ∙ ap (λ (v : Verdict). opening then v) (sym (then-assoc (stepsRule p 1 steps) (endRule p (length steps) outputs (length zs)) _))
+          ∙ ap (λ (v : Verdict). opening then v then figuresRule (length outputs) places) (rest-parts p steps outputs (length zs))
           ∙ run-parts p steps outputs m bases (length zs) places
 
-      module _ (t₃ : Task) (l₃ : List ℕ) (begun : RunStarted (foundBy t₂ then endRule p (length steps) outputs (length l₂) places) p m bases l₂ l₃ t₃) where
+      module _ (t₃ : Task) (l₃ : List ℕ) (begun : RunStarted (foundBy t₂ then ending (length l₂)) p m bases l₂ l₃ t₃) where
         task-is : t₃ ≡ unless rule (Multiplying p m (inverseOf m))
         task-is = begun .task-is ∙ ap (λ (v : Verdict). unless v (Multiplying p m (inverseOf m))) rule-is
 

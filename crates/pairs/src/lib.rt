@@ -6,7 +6,8 @@ ghost use Rattle.chain.specs.Verdict.{fine, _then_, onFine};
 ghost use Rattle.chain.specs.Judgement.{verdictOf};
 ghost use Rattle.chain.specs.Chain.{mostColumns, mostSteps, by};
 ghost use Rattle.run.specs.Run.{runAnswer, runValues, runFigures};
-ghost use Rattle.run.specs.Inner.{startRule, endRule};
+ghost use Rattle.legal.specs.Inner.{endRule};
+ghost use Rattle.run.specs.Inner.{startRule, figuresRule};
 ghost use Rattle.answers.specs.Answers.{ranOf, verifiedOf};
 ghost use Rattle.verify.specs.Verify.{verifyAnswer, verifyScratch};
 ghost use Rattle.verify.specs.Inner as verify;
@@ -124,18 +125,21 @@ fn run_start(
     places: usize,
 ) -> Task
     requires { ⌜ (foundBy task ≡ fine → RunAble p n m (now bases)) ⌝ }
-    ensures { λ r. ⌜ RunStarted (foundBy task then endRule p n (now (outputs .entry)) (length (now (values .entry))) places) p m
-        (now (bases .entry)) (now (values .entry)) (now (values .exit)) r ⌝ }
+    ensures { λ r. ⌜ RunStarted (foundBy task then endRule p n (now (outputs .entry)) (length (now (values .entry)))
+        then figuresRule (length (now (outputs .entry))) places) p m (now (bases .entry)) (now (values .entry)) (now (values .exit)) r ⌝ }
 {
     match found(task) {
         Judgement::Refused(number, place) => Task::Refused(number, place),
-        Judgement::Fine => match run::judge_end(p, n, outputs, values.len(), places) {
-            Judgement::Refused(number, place) => Task::Refused(number, place),
-            Judgement::Fine => {
-                run::start(m, bases, values);
-                Task::Multiplying(p, m, residue::inverse(m))
+        Judgement::Fine => {
+            let judged = legal::judge_end(p, n, outputs, values.len());
+            match run::judge_figures(judged, outputs.len(), places) {
+                Judgement::Refused(number, place) => Task::Refused(number, place),
+                Judgement::Fine => {
+                    run::start(m, bases, values);
+                    Task::Multiplying(p, m, residue::inverse(m))
+                }
             }
-        },
+        }
     }
 }
 
@@ -164,11 +168,11 @@ fn check_open(p: usize, q: usize, n: usize, amounts: &[u32]) -> Task
 // A check once its steps are judged: where nothing is found, they are to be added in each column.
 fn check_start(task: Task, p: usize, n: usize, outputs: &[u32], scratch: usize) -> Task
     requires { ⌜ (foundBy task ≡ fine → (p ≤ mostColumns) × (n ≤ mostSteps)) ⌝ }
-    ensures { λ r. ⌜ r ≡ unless (foundBy task then verify.endRule p n (now (outputs .entry)) scratch) (Adding p) ⌝ }
+    ensures { λ r. ⌜ r ≡ unless (foundBy task then endRule p n (now (outputs .entry)) scratch) (Adding p) ⌝ }
 {
     match found(task) {
         Judgement::Refused(number, place) => Task::Refused(number, place),
-        Judgement::Fine => unless(verify::judge_end(p, n, outputs, scratch), Task::Adding(p)),
+        Judgement::Fine => unless(legal::judge_end(p, n, outputs, scratch), Task::Adding(p)),
     }
 }
 

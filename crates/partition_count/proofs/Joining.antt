@@ -42,17 +42,6 @@ joins-told s amounts i old cells e r is =
     ∙ ap (λ (n : ℕ). signsTo (take (s .groups) cells) n - 1) (sym (numbers-long s amounts i old cells e))
     ∙ ap (λ (n : ℕ). n - 1) (sum-same (s .groups) _ _ (λ g h. ap sign (numbers-at s amounts i old cells e g h)))
 
--- the payslips so far
-module _ (s : Grouping) (amounts : List ℕ) (n i : ℕ) where
-  abbrev each : ℕ → ℕ
-  each = joinCount (s .p) (s .q) amounts (s .c) (s .groups)
-
-  pub payslips-on : (r : ℕ) → n ≡ sumTo i each → r ≡ each i → n + r ≡ sumTo (i + 1) each
-  payslips-on r e is = sum-on each i n r is e
-
-  pub payslips-end : n ≡ sumTo i each → i ≤ s .q → s .q ≤ i → n ≡ sumTo (s .q) each
-  payslips-end e h g = let last : i ≡ s .q = omega arith in e ∙ ap (λ (m : ℕ). sumTo m each) last
-
 -- the squarings, the tables and the payslips of a grouped sheet
 pub count-all : (s : Grouping) (amounts bits : List ℕ) → Grouped s amounts bits → (b r : ℕ) → b ≡ tablesCount (s .c) (s .inputs) (s .groups)
     → r ≡ sumTo (s .q) (joinCount (s .p) (s .q) amounts (s .c) (s .groups)) → s .squarings + b + r ≡ partitionCount (s .p) (s .q) amounts (s .c)

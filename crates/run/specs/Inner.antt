@@ -1,10 +1,10 @@
--- Inner vocabulary: run's order in its parts, before the steps and after them. Nobody has to believe it to believe an entry point's promise.
+-- Inner vocabulary: what run finds before the steps of a chain and after all of it. Nobody has to believe it to believe an entry point's promise.
 use mathlib.Core.List.{List}
-use Prim.Native.Nat.{ℕ, _+_}
+use Prim.Native.Nat.{ℕ}
 use lib.ListN.{length}
 use Rattle.chain.specs.Tests.{_<?_, _=?_, _≠?_, _or_}
 use Rattle.chain.specs.Verdict.{Verdict, _then_, refuseIf}
-use Rattle.chain.specs.Chain.{mostSteps, shapeRule, outputsRule}
+use Rattle.chain.specs.Chain.{mostSteps, shapeRule}
 use Rattle.run.specs.Run.{anyNotBelow}
 
 -- 1, 4, 15, 16, for n steps
@@ -14,8 +14,6 @@ startRule p q n m bases =
     then refuseIf (m =? 0) 15 0
     then refuseIf (length bases ≠? p or anyNotBelow m bases) 16 0
 
--- 12, 5
-unfoldable pub endRule : ℕ → ℕ → List ℕ → ℕ → ℕ → Verdict
-endRule p n outputs valuesLent figuresLent =
-    outputsRule (p + n) 1 outputs
-    then refuseIf (valuesLent <? p + n + 1 or figuresLent <? length outputs) 5 0
+-- 5 for figures: fewer are lent than there are outputs
+unfoldable pub figuresRule : ℕ → ℕ → Verdict
+figuresRule outputs figuresLent = refuseIf (figuresLent <? outputs) 5 0

@@ -4,11 +4,11 @@ ghost use mathlib.Core.Path.{_≡_};
 ghost use mathlib.Core.List.{_∷_};
 ghost use Prim.Native.Nat.{_+_, _%_, _≤_, _<_};
 ghost use lib.ListN.{length};
+ghost use Rattle.chain.specs.Verdict.{_then_};
 ghost use Rattle.chain.specs.Judgement.{verdictOf};
 ghost use Rattle.chain.specs.Written.{over, laid};
-ghost use Rattle.chain.specs.Chain.{mostColumns, mostSteps, values};
 ghost use Rattle.run.specs.Run.{anyNotBelow};
-ghost use Rattle.run.specs.Inner.{startRule, endRule};
+ghost use Rattle.run.specs.Inner.{startRule, figuresRule};
 use chain::Judgement;
 
 // Whether some number is not below the limit.
@@ -47,24 +47,19 @@ pub fn judge_start(p: usize, q: usize, n: usize, m: u32, bases: &[u32]) -> Judge
     Judgement::Fine
 }
 
-// And after the steps: 12, 5.
-pub fn judge_end(p: usize, n: usize, outputs: &[u32], room: usize, places: usize) -> Judgement
-    requires { ⌜ (p ≤ mostColumns) × (n ≤ mostSteps) ⌝ }
-    ensures { λ r. ⌜ verdictOf r ≡ endRule p n (now (outputs .entry)) room places ⌝ }
+// And after all else: 5 for fewer figures than outputs.
+pub fn judge_figures(found: Judgement, outputs: usize, figures: usize) -> Judgement
+    ensures { λ r. ⌜ verdictOf r ≡ (verdictOf found then figuresRule outputs figures) ⌝ }
 {
-    match legal::judge_outputs(p + n, outputs) {
-        Judgement::Refused(number, place) => {
-            return Judgement::Refused(number, place);
+    match found {
+        Judgement::Refused(number, place) => Judgement::Refused(number, place),
+        Judgement::Fine => {
+            if figures < outputs {
+                return Judgement::Refused(5, 0);
+            }
+            Judgement::Fine
         }
-        Judgement::Fine => {}
     }
-    if room < p + n + 1 {
-        return Judgement::Refused(5, 0);
-    }
-    if places < outputs.len() {
-        return Judgement::Refused(5, 0);
-    }
-    Judgement::Fine
 }
 
 // The numbers, from cell `at` on.

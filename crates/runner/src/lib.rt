@@ -24,20 +24,9 @@ fn judge(
 ) -> Judgement
     ensures { λ r. ⌜ verdictOf r ≡ runRule p (pairs (now (steps .entry))) (now (outputs .entry)) m (now (bases .entry)) room places ⌝ }
 {
-    let n = steps.len() / 2;
-    match run::judge_start(p, outputs.len(), n, m, bases) {
-        Judgement::Refused(number, place) => {
-            return Judgement::Refused(number, place);
-        }
-        Judgement::Fine => {}
-    }
-    match legal::judge_steps(p, steps) {
-        Judgement::Refused(number, place) => {
-            return Judgement::Refused(number, place);
-        }
-        Judgement::Fine => {}
-    }
-    run::judge_end(p, n, outputs, room, places)
+    let begun = run::judge_start(p, outputs.len(), steps.len() / 2, m, bases);
+    let judged = legal::judge_rest(begun, p, steps, outputs, room);
+    run::judge_figures(judged, outputs.len(), places)
 }
 
 // Each step's product, after the p + 1 values that stand in the slice. The modulus is inverted once for all of them.

@@ -1,5 +1,5 @@
 -- A payslip's amounts laid one over the other have a zero digit exactly where the digit vector is zero: so its steps are counted from one number.
-use mathlib.Core.Path.{_≡_, refl, sym, ap, ap₂, _∙_}
+use mathlib.Core.Path.{_≡_, refl, sym, ap, _∙_}
 use mathlib.Core.List.{List}
 use Prim.Native.Nat.{ℕ, zero, suc, _+_, _-_, _*_, _^_, _≤_, _<_}
 use native.Mathlib.Nat.{mul-comm, mul-one, zero-mul, pow-suc, mul-le-mul-left, mul-le-mul-right}
@@ -59,10 +59,6 @@ module _ (p : ℕ) (amounts : List ℕ) (k i d : ℕ) where
   pub cost-few : (n j : ℕ) → 0 < k → k * (d - 1) < 32 → j ≤ d - 1 → n ≡ (d - 1) * k + signsTo p amounts k i j → n ≤ strausPayslipMost
   cost-few n j some room h e = omega (arith, cost-low some room j h)
 
--- the steps of the first n payslips
-abbrev pub costsTo : ℕ → List ℕ → ℕ → ℕ → ℕ
-costsTo p amounts k n = sumTo n (strausPayslipCount p amounts k)
-
 below-power : (n : ℕ) → n < 2 ^ n
 below-power zero = omega arith
 below-power (suc n) = omega (arith, below-power n, pow-suc 2 n)
@@ -74,11 +70,8 @@ columns-below p k w e some =
     let grown : 2 ^ p ≤ 2 ^ (p * k) = pow-mono wide in
     omega (arith, below-power p)
 
-pub costs-on : (p : ℕ) (amounts : List ℕ) (k n i r b : ℕ) → r ≡ strausPayslipCount p amounts k i → n ≡ b + costsTo p amounts k i → n + r ≡ b + costsTo p amounts k (i + 1)
-costs-on p amounts k n i r b is e = omega (arith, sum-on (strausPayslipCount p amounts k) i (costsTo p amounts k i) r is refl)
-
-pub count-all : (p q : ℕ) (amounts : List ℕ) (k n i w : ℕ) → w ≡ 2 ^ (p * k) → i ≤ q → q ≤ i → n ≡ w - p - 1 + costsTo p amounts k i → n ≡ strausCount p q amounts k
+-- the table and the steps of all payslips
+pub count-all : (p q : ℕ) (amounts : List ℕ) (k n w : ℕ) → w ≡ 2 ^ (p * k) → n ≡ w - p - 1 + sumTo q (strausPayslipCount p amounts k)
+    → n ≡ strausCount p q amounts k
 unfolding strausCount
-count-all p q amounts k n i w e h g is =
-    let last : i ≡ q = omega arith in
-    is ∙ ap₂ (λ (a b : ℕ). a - p - 1 + costsTo p amounts k b) e last
+count-all p q amounts k n w e is = is ∙ ap (λ (a : ℕ). a - p - 1 + sumTo q (strausPayslipCount p amounts k)) e

@@ -1,6 +1,7 @@
 // Method 1, Straus: the number of steps, without making them.
 ghost use mathlib.Core.Path.{_≡_};
 ghost use Prim.Native.Nat.{_*_, _≤_};
+ghost use Rattle.digits.specs.Inner.{Bounded};
 ghost use Rattle.methods.specs.Inner.{Asked};
 ghost use Rattle.straus.specs.Straus.{strausPayslipCount, strausCount, strausMost, strausMostBits};
 ghost use Rattle.straus.specs.Inner.{PayslipAsked};
@@ -9,7 +10,7 @@ ghost use Rattle.straus_count.specs.Inner.{strausPayslipMost};
 // The steps of payslip i.
 fn payslip_count(p: usize, amounts: &[u32], k: usize, i: usize) -> usize
     requires { ⌜ PayslipAsked p (now amounts) k i ⌝ }
-    ensures { λ r. ⌜ (r ≡ strausPayslipCount p (now (amounts .entry)) k i) × (r ≤ strausPayslipMost) ⌝ }
+    ensures { λ r. ⌜ Bounded r (strausPayslipCount p (now (amounts .entry)) k i) strausPayslipMost ⌝ }
 {
     let all = straus::overlaid(p, amounts, i);
     let digits = digits::digit_count(k, all);

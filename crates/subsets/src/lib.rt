@@ -3,7 +3,8 @@ ghost use mathlib.Core.Path.{_≡_};
 ghost use Prim.Native.Nat.{_+_, _-_, _*_, _^_, _≤_, _<_};
 ghost use Rattle.tables.specs.Table.{entry};
 ghost use Rattle.groups.specs.Groups.{group, groupSize, mostInputs, mostMembers, tablesCount};
-ghost use Rattle.groups.specs.Inner.{Bounded, Cuts, PartOf};
+ghost use Rattle.digits.specs.Inner.{Bounded};
+ghost use Rattle.groups.specs.Inner.{Cuts, PartOf};
 ghost use Rattle.groups.specs.Inner.{tableAt};
 use groups::Grouping;
 

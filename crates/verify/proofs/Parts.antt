@@ -1,37 +1,35 @@
--- The check's order is its start, the steps, then its end: the rule taken apart where the steps begin and end.
+-- The check's order is its start, then the rest of the chain: the rule taken apart where the steps begin.
 use mathlib.Core.Path.{_≡_, sym, ap, _∙_}
 use mathlib.Core.List.{List}
-use Prim.Native.Nat.{ℕ, _+_, _*_, _/_}
+use Prim.Native.Nat.{ℕ, _*_, _/_}
 use lib.ListN.{length}
 use Rattle.chain.specs.Verdict.{Verdict, fine, _then_}
-use Rattle.chain.specs.Chain.{mostSteps, pairs, shapeRule, stepsRule, outputsRule, chainRule}
+use Rattle.chain.specs.Chain.{mostSteps, pairs, shapeRule}
 use Rattle.chain.specs.declared.Step.{Step}
-use Rattle.chain.proofs.Rules.{then-assoc, then-fine}
+use Rattle.chain.proofs.Rules.{then-assoc, then-fine, told-after}
 use Rattle.chain.proofs.Pairs.{length-pairs}
 use Rattle.chain.proofs.Sizes.{Shape, shape-fits}
+use Rattle.legal.specs.Inner.{restRule}
+use Rattle.legal.proofs.Rest.{rest-is}
 use Rattle.sheet.specs.Sheet.{amountsRule}
 use Rattle.sheet.proofs.Amounts.{amounts-fit}
 use Rattle.verify.specs.Verify.{fittingRule}
-use Rattle.verify.specs.Inner.{startRule, endRule}
+use Rattle.verify.specs.Inner.{startRule}
 
 pub fitting-parts : (p : ℕ) (steps : List Step) (outputs amounts : List ℕ) (scratch : ℕ)
-    → (startRule p (length outputs) (length steps) amounts then stepsRule p 1 steps then endRule p (length steps) outputs scratch)
-    ≡ fittingRule p steps outputs amounts scratch
-unfolding fittingRule startRule endRule chainRule
+    → (startRule p (length outputs) (length steps) amounts then restRule p steps outputs scratch) ≡ fittingRule p steps outputs amounts scratch
+unfolding fittingRule startRule
 fitting-parts p steps outputs amounts scratch =
-    regroup (shapeRule mostSteps p (length outputs) (length steps)) (amountsRule p (length outputs) amounts) (stepsRule p 1 steps)
-    (outputsRule (p + length steps) 1 outputs) _
-  where
-    regroup : (a b s o r : Verdict) → ((a then b) then s then o then r) ≡ (a then b then (s then o) then r)
-    regroup a b s o r = then-assoc a b (s then o then r) ∙ ap (λ (v : Verdict). a then b then v) (sym (then-assoc s o r))
+    then-assoc (shapeRule mostSteps p (length outputs) (length steps)) (amountsRule p (length outputs) amounts) (restRule p steps outputs scratch)
+    ∙ ap (λ (v : Verdict). shapeRule mostSteps p (length outputs) (length steps) then amountsRule p (length outputs) amounts then v)
+    (rest-is p steps outputs scratch)
 
 -- the verdict on a flat list, part by part
-pub fitting-flat : (p : ℕ) (l outputs amounts : List ℕ) (scratch : ℕ) (v : Verdict)
-    → v ≡ (startRule p (length outputs) (length l / 2) amounts then stepsRule p 1 (pairs l) then endRule p (length l / 2) outputs scratch)
+pub fitting-flat : (p : ℕ) (l outputs amounts : List ℕ) (scratch : ℕ) (s v : Verdict)
+    → s ≡ startRule p (length outputs) (length l / 2) amounts → v ≡ (s then restRule p (pairs l) outputs scratch)
     → v ≡ fittingRule p (pairs l) outputs amounts scratch
-fitting-flat p l outputs amounts scratch v e =
-    e
-    ∙ ap (λ (n : ℕ). startRule p (length outputs) n amounts then stepsRule p 1 (pairs l) then endRule p n outputs scratch) (sym (length-pairs l))
+fitting-flat p l outputs amounts scratch s v starts e =
+    told-after s _ _ v (starts ∙ ap (λ (n : ℕ). startRule p (length outputs) n amounts) (sym (length-pairs l))) e
     ∙ fitting-parts p (pairs l) outputs amounts scratch
 
 -- a start that is fine

@@ -4,21 +4,18 @@ use mathlib.Core.Bool.{cond}
 use mathlib.Core.List.{List, []}
 use Prim.Native.Nat.{ℕ, zero, suc, _+_, _*_, _<_}
 use lib.ListN.{length, getD, take, drop, set, replicate}
-use Rattle.chain.specs.Tests.{_<?_, _=?_}
-use Rattle.chain.specs.Verdict.{Verdict, _then_, refuseIf, refuseAt, Answer, answer}
+use Rattle.chain.specs.Tests.{_=?_}
+use Rattle.chain.specs.Verdict.{Verdict, _then_, refuseAt, Answer, answer}
 use Rattle.chain.specs.Written.{over}
-use Rattle.chain.specs.Chain.{mostSteps, shapeRule, outputsRule}
+use Rattle.chain.specs.Chain.{mostSteps, shapeRule}
 use Rattle.chain.specs.declared.Step.{Step}
 use Rattle.sheet.specs.Sheet.{amountsRule}
-use Rattle.verify.specs.Verify.{earlier, firstOver, firstOther, scratchSize}
+use Rattle.verify.specs.Verify.{earlier, firstOver, firstOther}
 use Rattle.verify.specs.declared.Found.{Found}
 
--- the check's order in its parts: 1, 4, 2 for n steps, and after the steps 12, 5
+-- before the check's n steps: 1, 4, 2
 unfoldable pub startRule : ℕ → ℕ → ℕ → List ℕ → Verdict
 startRule p q n amounts = shapeRule mostSteps p q n then amountsRule p q amounts
-
-unfoldable pub endRule : ℕ → ℕ → List ℕ → ℕ → Verdict
-endRule p n outputs scratch = outputsRule (p + n) 1 outputs then refuseIf (scratch <? scratchSize p n) 5 0
 
 -- value 0 and the bases as column c has them, over the front
 unfoldable pub columnStart : ℕ → ℕ → List ℕ → List ℕ

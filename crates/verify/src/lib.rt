@@ -1,9 +1,7 @@
-// The check of a chain against a sheet, in what the flat form and the form over step structs share: what is found before and after the steps.
+// The check of a chain against a sheet, in what the flat form and the form over step structs share: what is found before the steps.
 ghost use mathlib.Core.Path.{_≡_};
-ghost use Prim.Native.Nat.{_≤_};
-ghost use Rattle.chain.specs.Chain.{mostColumns, mostSteps};
 ghost use Rattle.chain.specs.Judgement.{verdictOf};
-ghost use Rattle.verify.specs.Inner.{startRule, endRule};
+ghost use Rattle.verify.specs.Inner.{startRule};
 use chain::Judgement;
 
 // What is found of columns: the earliest step with too large an exponent and, while there is none, the earliest payslip that differs; 0 for none.
@@ -23,21 +21,4 @@ pub fn judge_start(p: usize, q: usize, n: usize, amounts: &[u32]) -> Judgement
         Judgement::Fine => {}
     }
     sheet::judge_amounts(p, q, amounts)
-}
-
-// And after the steps: 12, then 5, where scratch is the number of cells lent.
-pub fn judge_end(p: usize, n: usize, outputs: &[u32], scratch: usize) -> Judgement
-    requires { ⌜ (p ≤ mostColumns) × (n ≤ mostSteps) ⌝ }
-    ensures { λ r. ⌜ verdictOf r ≡ endRule p n (now (outputs .entry)) scratch ⌝ }
-{
-    match legal::judge_outputs(p + n, outputs) {
-        Judgement::Refused(number, place) => {
-            return Judgement::Refused(number, place);
-        }
-        Judgement::Fine => {}
-    }
-    if scratch < p + n + 1 {
-        return Judgement::Refused(5, 0);
-    }
-    Judgement::Fine
 }

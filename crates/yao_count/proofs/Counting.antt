@@ -1,10 +1,9 @@
 -- Digits, amounts and payslips are counted one by one: each sum so far is that of the definition, and few digits of 32-bit numbers keep it low.
-use mathlib.Core.Path.{_≡_, refl, ap, ap₂, _∙_}
+use mathlib.Core.Path.{_≡_, ap, ap₂, _∙_}
 use mathlib.Core.List.{List}
 use Prim.Native.Nat.{ℕ, _+_, _-_, _*_, _^_, _≤_, _<_, max}
 use native.Mathlib.Nat.{mul-le-mul-right, one-mul}
 use native.Mathlib.Omega.{arith}
-use lib.ListN.{getD}
 use lib.Pow.{pow-mono}
 use Rattle.chain.specs.Chain.{mostColumns}
 use Rattle.digits.specs.Digits.{digit}
@@ -13,18 +12,7 @@ use Rattle.digits.proofs.Range.{sum-on, max-on, sign-low, signs-low, max-low}
 use Rattle.digits.proofs.Vector.{digit-low}
 use Rattle.sheet.specs.Sheet.{amount}
 use Rattle.yao.specs.Yao.{yaoDigits, yaoSquarings, amountCount, yaoPayslipCount, yaoCount, yaoMost}
-use Rattle.yao.specs.Inner.{squaringsIn}
 use Rattle.yao_count.specs.Inner.{amountMost}
-
--- the squarings of the columns so far, by the cells
-module _ (k : ℕ) (cells : List ℕ) where
-  pub squarings-on : (n c r : ℕ) → r ≡ (getD cells c 0 - 1) * k → n ≡ sumTo c (squaringsIn k cells) → n + r ≡ sumTo (c + 1) (squaringsIn k cells)
-  squarings-on n c r is e = sum-on (squaringsIn k cells) c n r is e
-
-  pub squarings-end : (p n c : ℕ) → c ≤ p → p ≤ c → n ≡ sumTo c (squaringsIn k cells) → n ≡ sumTo p (squaringsIn k cells)
-  squarings-end p n c h g e =
-      let last : c ≡ p = omega arith in
-      e ∙ ap (λ (m : ℕ). sumTo m (squaringsIn k cells)) last
 
 -- the digits of an amount x: how many of the first j are not 0, and the largest
 abbrev pub signsTo : ℕ → ℕ → ℕ → ℕ
@@ -106,16 +94,8 @@ module _ (p q : ℕ) (amounts : List ℕ) (k i : ℕ) where
       → n + z - 1 ≡ yaoPayslipCount p q amounts k i
   payslip-some n z c h g e f some = omega (arith, payslip-end n z c h g e f)
 
--- the steps of the first payslips
-abbrev pub costsTo : ℕ → ℕ → List ℕ → ℕ → ℕ → ℕ
-costsTo p q amounts k n = sumTo n (yaoPayslipCount p q amounts k)
-
-pub costs-on : (p q : ℕ) (amounts : List ℕ) (k n i r b : ℕ) → r ≡ yaoPayslipCount p q amounts k i
-    → n ≡ b + costsTo p q amounts k i → n + r ≡ b + costsTo p q amounts k (i + 1)
-costs-on p q amounts k n i r b is e = omega (arith, sum-on (yaoPayslipCount p q amounts k) i (costsTo p q amounts k i) r is refl)
-
-pub count-all : (p q : ℕ) (amounts : List ℕ) (k n i b : ℕ) → b ≡ sumTo p (yaoSquarings p q amounts k) → i ≤ q → q ≤ i → n ≡ b + costsTo p q amounts k i → n ≡ yaoCount p q amounts k
+-- the squarings and the steps of all payslips
+pub count-all : (p q : ℕ) (amounts : List ℕ) (k n b : ℕ) → b ≡ sumTo p (yaoSquarings p q amounts k)
+    → n ≡ b + sumTo q (yaoPayslipCount p q amounts k) → n ≡ yaoCount p q amounts k
 unfolding yaoCount
-count-all p q amounts k n i b e h g is =
-    let last : i ≡ q = omega arith in
-    is ∙ ap₂ (λ (a c : ℕ). a + costsTo p q amounts k c) e last
+count-all p q amounts k n b e is = is ∙ ap (λ (a : ℕ). a + sumTo q (yaoPayslipCount p q amounts k)) e

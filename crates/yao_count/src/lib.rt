@@ -3,6 +3,7 @@ ghost use mathlib.Core.Path.{_≡_};
 ghost use Prim.Native.Nat.{_+_, _*_, _≤_, _<_};
 ghost use Rattle.chain.specs.Chain.{mostColumns};
 ghost use Rattle.digits.specs.Range.{sumTo};
+ghost use Rattle.digits.specs.Inner.{Bounded};
 ghost use Rattle.methods.specs.Inner.{Asked, Largest};
 ghost use Rattle.yao.specs.Yao.{amountCount, yaoPayslipCount, yaoCount, yaoMost};
 ghost use Rattle.yao.specs.Inner.{DigitsFew, Measured, squaringsIn, squaringsMost};
@@ -11,7 +12,7 @@ ghost use Rattle.yao_count.specs.Inner.{amountMost, yaoPayslipMost};
 // How often the p columns measured are squared.
 fn squaring_count(p: usize, k: usize, columns: &[u32]) -> usize
     requires { ⌜ (p ≤ mostColumns) × DigitsFew k p (now columns) ⌝ }
-    ensures { λ r. ⌜ (r ≡ sumTo p (squaringsIn k (now (columns .entry)))) × (r ≤ squaringsMost * mostColumns) ⌝ }
+    ensures { λ r. ⌜ Bounded r (sumTo p (squaringsIn k (now (columns .entry)))) (squaringsMost * mostColumns) ⌝ }
 {
     let mut n: usize = 0;
     let mut c: usize = 0;
@@ -25,7 +26,7 @@ fn squaring_count(p: usize, k: usize, columns: &[u32]) -> usize
 // The steps of an amount x in a column of so many digits.
 fn amount_count(k: usize, digits: usize, x: u32) -> usize
     requires { ⌜ (0 < k) × (k ≤ yaoMost) × (k * digits ≤ 31 + k) ⌝ }
-    ensures { λ r. ⌜ (r ≡ amountCount k digits x) × (r ≤ amountMost) ⌝ }
+    ensures { λ r. ⌜ Bounded r (amountCount k digits x) amountMost ⌝ }
 {
     let mut z: usize = 0;
     let mut h: u32 = 0;
@@ -46,7 +47,7 @@ fn amount_count(k: usize, digits: usize, x: u32) -> usize
 // The steps of payslip i.
 fn payslip_count(p: usize, q: usize, amounts: &[u32], k: usize, columns: &[u32], i: usize) -> usize
     requires { ⌜ Asked yaoMost p q (now amounts) k × (i < q) × Measured p q (now amounts) k (now columns) ⌝ }
-    ensures { λ r. ⌜ (r ≡ yaoPayslipCount p q (now (amounts .entry)) k i) × (r ≤ yaoPayslipMost) ⌝ }
+    ensures { λ r. ⌜ Bounded r (yaoPayslipCount p q (now (amounts .entry)) k i) yaoPayslipMost ⌝ }
 {
     let mut n: usize = 0;
     let mut z: usize = 0;

@@ -4,6 +4,7 @@ use mathlib.Core.Path.{sym}
 use mathlib.Core.List.{[]}
 use native.Mathlib.Omega.{arith}
 use denote.Ref.{now}
+use Rattle.answers.proofs.Clauses.{answer-clause, only-slice-clause}
 use Rattle.compile.proofs.Answers.{compile-refused, was-accepted, was-counted, few-pairs, few-outputs, compiled}
 use Rattle.compile.proofs.compile.Statement.{statement}
 use Rattle.compile.proofs.compile.Tie as tie
@@ -25,14 +26,14 @@ returns c =
     let n = c .before .before in
     let j = n .before .before .before in
     let a = j .before .before .before .before .before .args in
-    few-pairs (a .p) (a .q) (now (a .amounts)) (a .method) (a .k) _ (j .judge-accepted .ensures .0) (now (a .steps)) (now (a .outputs)) _ (n .n .given .1) (c .if1 .taken)
+    few-pairs (a .p) (a .q) (now (a .amounts)) (a .method) (a .k) _ (answer-clause (j .judge-accepted .ensures)) (now (a .steps)) (now (a .outputs)) _ (n .n .given .1) (c .if1 .taken)
 
 returns-2 : tie.Need-returns-2
 returns-2 c =
     let n = c .before .before .before in
     let j = n .before .before .before in
     let a = j .before .before .before .before .before .args in
-    few-outputs (a .p) (a .q) (now (a .amounts)) (a .method) (a .k) _ (j .judge-accepted .ensures .0) (now (a .steps)) (now (a .outputs)) _ (n .n .given .1) (c .if2 .taken)
+    few-outputs (a .p) (a .q) (now (a .amounts)) (a .method) (a .k) _ (answer-clause (j .judge-accepted .ensures)) (now (a .steps)) (now (a .outputs)) _ (n .n .given .1) (c .if2 .taken)
 
 slice-aggregate-emit : tie.Need-slice-aggregate-emit
 slice-aggregate-emit c = search needs
@@ -42,9 +43,9 @@ emit-requires c κs =
     let e = c .before .before .before in
     let n = e .before .before .before in
     let j = n .before .before .before in
-    let counted = was-counted _ _ _ _ _ _ (j .judge-accepted .ensures .0) [] [] _ (n .n .given .1) in
-    let fits = sym (was-accepted _ _ _ _ _ _ (j .judge-accepted .ensures .0) [] [] _ (n .n .given .1)) in (
-      (fits, j .judge-accepted .ensures .1 fits),
+    let counted = was-counted _ _ _ _ _ _ (answer-clause (j .judge-accepted .ensures)) [] [] _ (n .n .given .1) in
+    let fits = sym (was-accepted _ _ _ _ _ _ (answer-clause (j .judge-accepted .ensures)) [] [] _ (n .n .given .1)) in (
+      (fits, only-slice-clause (j .judge-accepted .ensures) fits),
       (omega (arith, counted, e .before .if1 .left), e .if2 .left),
     )
 
@@ -53,7 +54,7 @@ returns-3 c =
     let n = c .before in
     let j = n .before .before .before in
     let a = j .before .before .before .before .before .args in
-    compile-refused (a .p) (a .q) (now (a .amounts)) (a .method) (a .k) _ (j .judge-accepted .ensures .0) (now (a .steps)) (now (a .outputs)) _ _ (n .number .given .1)
+    compile-refused (a .p) (a .q) (now (a .amounts)) (a .method) (a .k) _ (answer-clause (j .judge-accepted .ensures)) (now (a .steps)) (now (a .outputs)) _ _ (n .number .given .1)
 
 same-length : tie.Need-same-length
 same-length c = search needs
@@ -68,7 +69,7 @@ returns-4 c =
     let n = e .before .before .before in
     let j = n .before .before .before in
     let a = j .before .before .before .before .before .args in
-    compiled (a .p) (a .q) (now (a .amounts)) (a .method) (a .k) _ (j .judge-accepted .ensures .0) (now (a .steps)) (now (a .outputs)) _ (n .n .given .1)
+    compiled (a .p) (a .q) (now (a .amounts)) (a .method) (a .k) _ (answer-clause (j .judge-accepted .ensures)) (now (a .steps)) (now (a .outputs)) _ (n .n .given .1)
     (e .before .if1 .left) (e .if2 .left) _ _ (w .emit .ensures)
 
 pub compile-spec : {M : Type 1} → statement M

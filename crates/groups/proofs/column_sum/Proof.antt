@@ -4,7 +4,8 @@ use mathlib.Core.Path.{_≡_}
 use Prim.Native.Nat.{_*_, _≤_, _-_}
 use native.Mathlib.Omega.{arith}
 use lib.ListN.{length}
-use Rattle.groups.proofs.Counting.{less-end, less-on, lessTo}
+use Rattle.digits.proofs.Range.{sum-on, sum-end}
+use Rattle.groups.proofs.Counting.{lessTo}
 use Rattle.groups.proofs.column_sum.Statement.{statement}
 use Rattle.groups.proofs.column_sum.Tie as tie
 
@@ -43,13 +44,12 @@ loop-less c = search needs
 loop-again : tie.Need-loop-again Inv-loop μ-loop
 loop-again c =
     let start = c .before .before .before in
-    (search needs, search less-on, omega (arith, c .lessened .ensures, start .before .before .pre .each (start .loop .col)))
+    (search needs, search sum-on, omega (arith, c .lessened .ensures, start .before .before .pre .each (start .loop .col)))
 
 returns : tie.Need-returns Inv-loop μ-loop
 returns c =
     let start = c .before in
-    let a = start .before .before .args in
-    let all = less-end (a .bits .now) (a .less) (start .loop .col) _ (start .loop .inv .1) (start .loop .inv .0) (c .loop-test .left) in
+    let all = sum-end _ (start .loop .col) _ _ (start .loop .inv .0) (c .loop-test .left) (start .loop .inv .1) in
     record { is = all; low = search needs }
 
 pub column-sum-spec : {M : Type 1} → statement M

@@ -43,7 +43,8 @@ use Rattle.chain.specs.Verdict.{fine, _then_}
 use Rattle.chain.specs.declared.Step.{Step}
 use Rattle.chain.proofs.Step as T
 use Rattle.run.specs.Run.{runAnswer, runValues, runFigures}
-use Rattle.run.specs.Inner.{startRule, endRule}
+use Rattle.legal.specs.Inner.{endRule}
+use Rattle.run.specs.Inner.{startRule, figuresRule}
 use Rattle.answers.specs.Answers.{ranOf}
 use Rattle.answers.specs.declared.Ran.{Ran}
 use Rattle.answers.proofs.Ran as E
@@ -197,7 +198,7 @@ module _ {M : Type 1} (𝓤 : URA M) (H : Heap 𝓤) (A : Atoms 𝓤) (W : Given
   -- ---- the call of `run_start` with the task t, where the values are l
   module _ (t : Task) (l : List ℕ) where
     abbrev Started : Task → List ℕ → Type 0
-    Started t′ l′ = RunStarted (foundBy t then endRule p (length (x .now)) (x₁ .now) (length l) places) p m (x₂ .now) l l′ t′
+    Started t′ l′ = RunStarted (foundBy t then endRule p (length (x .now)) (x₁ .now) (length l) then figuresRule (length (x₁ .now)) places) p m (x₂ .now) l l′ t′
 
     -- what comes back of what is handed over
     abbrev Back : Item 𝓤

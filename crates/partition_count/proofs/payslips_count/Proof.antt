@@ -4,10 +4,10 @@ use Prim.Native.Nat.{_-_, _*_, _≤_}
 use mathlib.Core.Path.{_≡_}
 use lib.ListN.{length}
 use Rattle.digits.specs.Range.{sumTo}
+use Rattle.digits.proofs.Range.{sum-on, sum-end}
 use native.Mathlib.Omega.{arith}
 use Rattle.groups.specs.Groups.{mostInputs}
 use Rattle.partition.specs.Partition.{joinCount}
-use Rattle.partition_count.proofs.Joining.{payslips-end, payslips-on}
 use Rattle.partition_count.proofs.payslips_count.Statement.{statement}
 use Rattle.partition_count.proofs.payslips_count.Tie as tie
 
@@ -42,8 +42,7 @@ loop-again : tie.Need-loop-again Inv-loop μ-loop
 loop-again c =
     let paid = c .before .before in
     let start = c .before .before .before .before .before .before in
-    let a = start .before .before .before .before .args in
-    let on = payslips-on (a .s) (a .amounts .now) _ (start .loop .i) _ (start .loop .inv .2) (paid .payslip-count .ensures .is) in
+    let on = sum-on _ (start .loop .i) _ _ (paid .payslip-count .ensures .is) (start .loop .inv .2) in
     (search needs, search needs, on, omega (arith, start .loop .inv .3, paid .payslip-count .ensures .low))
 
 same-length : tie.Need-same-length Inv-loop μ-loop
@@ -52,8 +51,8 @@ same-length c = search needs
 returns : tie.Need-returns Inv-loop μ-loop
 returns c =
     let start = c .before .before in
-    let a = start .before .before .before .before .args in
-    record { is = payslips-end (a .s) (a .amounts .now) _ (start .loop .i) (start .loop .inv .2) (search needs) (search needs); low = search needs }
+    let q = start .before .before .before .before .args .s .q in
+    record { is = sum-end _ (start .loop .i) q _ (search needs) (search needs) (start .loop .inv .2); low = search needs }
 
 pub payslips-count-spec : {M : Type 1} → statement M
 payslips-count-spec =

@@ -3,14 +3,17 @@ use borrow.Author.Needs.{needs}
 use mathlib.Core.Path.{_≡_}
 use Prim.Native.Nat.{_+_, _*_, _≤_, _-_}
 use native.Mathlib.Omega.{arith}
-use Rattle.straus_count.proofs.Counting.{costsTo, columns-below, costs-on, count-all}
+use Rattle.digits.specs.Range.{sumTo}
+use Rattle.digits.proofs.Range.{sum-after, sum-after-end}
+use Rattle.straus.specs.Straus.{strausPayslipCount}
+use Rattle.straus_count.proofs.Counting.{columns-below, count-all}
 use Rattle.straus_count.specs.Inner.{strausPayslipMost}
 use Rattle.straus.proofs.Overlaying.{payslip-asked}
 use Rattle.straus_count.proofs.count.Statement.{statement}
 use Rattle.straus_count.proofs.count.Tie as tie
 
 abbrev Inv-loop : tie.InvT-loop
-Inv-loop p q amounts k n₀ i₀ n i = (i ≤ q) × (n ≡ n₀ + costsTo p amounts k i) × (n ≤ n₀ + strausPayslipMost * i)
+Inv-loop p q amounts k n₀ i₀ n i = (i ≤ q) × (n ≡ n₀ + sumTo i (strausPayslipCount p amounts k)) × (n ≤ n₀ + strausPayslipMost * i)
 
 abbrev μ-loop : tie.MeasureT-loop
 μ-loop p q amounts k n₀ i₀ n i = q - i
@@ -46,10 +49,10 @@ loop-less : tie.Need-loop-less Inv-loop μ-loop
 loop-less c = search needs
 
 loop-again : tie.Need-loop-again Inv-loop μ-loop
-loop-again c = (search needs, search costs-on, search needs)
+loop-again c = (search needs, search sum-after, search needs)
 
 returns : tie.Need-returns Inv-loop μ-loop
-returns c = search count-all
+returns c = search (count-all, sum-after-end)
 
 pub count-spec : {M : Type 1} → statement M
 count-spec =

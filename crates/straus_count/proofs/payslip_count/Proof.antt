@@ -20,7 +20,7 @@ digit-count-requires : tie.Need-digit-count-requires Inv-loop μ-loop
 digit-count-requires c κs = search needs
 
 returns : tie.Need-returns Inv-loop μ-loop
-returns c = (search (cost-none, digits-told), search needs)
+returns c = record { is = search (cost-none, digits-told); low = search needs }
 
 sub-lower : tie.Need-sub-lower Inv-loop μ-loop
 sub-lower c = search needs
@@ -50,7 +50,7 @@ loop-again : tie.Need-loop-again Inv-loop μ-loop
 loop-again c = (search needs, search signs-on)
 
 returns-2 : tie.Need-returns-2 Inv-loop μ-loop
-returns-2 c = (search (cost-all, digits-told), search (cost-few, digits-fit))
+returns-2 c = record { is = search (cost-all, digits-told); low = search (cost-few, digits-fit) }
 
 pub payslip-count-spec : {M : Type 1} → statement M
 payslip-count-spec =

@@ -2,8 +2,9 @@
 use mathlib.Core.Path.{_≡_}
 use Prim.Native.Nat.{_≤_, _-_, _*_, _^_}
 use borrow.Author.Needs.{needs}
+use Rattle.digits.proofs.Range.{sum-end}
 use Rattle.groups.specs.Groups.{mostMembers, tablesCount}
-use Rattle.groups.proofs.Counting.{group-inside, size-few, tables-all, tables-on}
+use Rattle.groups.proofs.Counting.{group-inside, size-few, tables-on}
 use Rattle.subsets.proofs.tables_count.Statement.{statement}
 use Rattle.subsets.proofs.tables_count.Tie as tie
 
@@ -36,7 +37,7 @@ loop-again : tie.Need-loop-again Inv-loop μ-loop
 loop-again c = (search needs, search tables-on, search needs)
 
 returns : tie.Need-returns Inv-loop μ-loop
-returns c = record { is = search tables-all; low = search needs }
+returns c = record { is = search sum-end; low = search needs }
 
 pub tables-count-spec : {M : Type 1} → statement M
 tables-count-spec =

@@ -44,10 +44,10 @@ add-t : tie.Need-add-t Inv-loop μ-loop
 add-t c = fits-under _ _ 512 (search amount-fits) tt
 
 returns : tie.Need-returns Inv-loop μ-loop
-returns c = (search amount-none, search needs)
+returns c = record { is = search amount-none; low = search needs }
 
 returns-2 : tie.Need-returns-2 Inv-loop μ-loop
-returns-2 c = (search amount-end, search amount-few)
+returns-2 c = record { is = search amount-end; low = search amount-few }
 
 pub amount-count-spec : {M : Type 1} → statement M
 amount-count-spec =

@@ -3,14 +3,17 @@ use borrow.Author.Needs.{needs}
 use mathlib.Core.Path.{_≡_, _∙_}
 use denote.Ref.{now}
 use Prim.Native.Nat.{_+_, _*_, _≤_, _-_}
+use Rattle.digits.specs.Range.{sumTo}
+use Rattle.digits.proofs.Range.{sum-after, sum-after-end}
+use Rattle.yao.specs.Yao.{yaoPayslipCount}
 use Rattle.yao_count.specs.Inner.{yaoPayslipMost}
 use Rattle.yao.proofs.Measuring.{squarings-sum}
-use Rattle.yao_count.proofs.Counting.{costsTo, costs-on, count-all}
+use Rattle.yao_count.proofs.Counting.{count-all}
 use Rattle.yao_count.proofs.chain_count.Statement.{statement}
 use Rattle.yao_count.proofs.chain_count.Tie as tie
 
 abbrev Inv-loop : tie.InvT-loop
-Inv-loop p q amounts k columns n₀ i₀ n i = (i ≤ q) × (n ≡ n₀ + costsTo p q amounts k i) × (n ≤ n₀ + yaoPayslipMost * i)
+Inv-loop p q amounts k columns n₀ i₀ n i = (i ≤ q) × (n ≡ n₀ + sumTo i (yaoPayslipCount p q amounts k)) × (n ≤ n₀ + yaoPayslipMost * i)
 
 abbrev μ-loop : tie.MeasureT-loop
 μ-loop p q amounts k columns n₀ i₀ n i = q - i
@@ -34,16 +37,16 @@ loop-less : tie.Need-loop-less Inv-loop μ-loop
 loop-less c = search needs
 
 loop-again : tie.Need-loop-again Inv-loop μ-loop
-loop-again c = (search needs, search costs-on, search needs)
+loop-again c = (search needs, search sum-after, search needs)
 
 returns : tie.Need-returns Inv-loop μ-loop
 returns c =
     let at = c .before in
     let counted = at .before in
     let s = counted .before .before .before in
-    count-all (s .args .p) (s .args .q) (now (s .args .amounts)) (s .args .k) _ _ _
-    (counted .squaring-count .ensures .0 ∙ squarings-sum (s .args .p) (s .args .q) (now (s .args .amounts)) (s .args .k) _ (s .pre .1))
-    (at .loop .inv .0) (search needs) (at .loop .inv .1)
+    let a = s .args in
+    count-all (a .p) (a .q) (now (a .amounts)) (a .k) _ _
+    (counted .squaring-count .ensures .is ∙ squarings-sum (a .p) (a .q) (now (a .amounts)) (a .k) _ (s .pre .1)) (search sum-after-end)
 
 pub chain-count-spec : {M : Type 1} → statement M
 chain-count-spec =

@@ -53,7 +53,7 @@ loop-again : tie.Need-loop-again Inv-loop μ-loop
 loop-again c = (search needs, search (amounts-on, column-is), search nonzero-on, search needs, search nonzero-few)
 
 returns : tie.Need-returns Inv-loop μ-loop
-returns c = (search payslip-none, search needs)
+returns c = record { is = search payslip-none; low = search needs }
 
 add-result : tie.Need-add-result Inv-loop μ-loop
 add-result c = search needs
@@ -62,7 +62,7 @@ sub-result : tie.Need-sub-result Inv-loop μ-loop
 sub-result c = search needs
 
 returns-2 : tie.Need-returns-2 Inv-loop μ-loop
-returns-2 c = (search payslip-some, search needs)
+returns-2 c = record { is = search payslip-some; low = search needs }
 
 pub payslip-count-spec : {M : Type 1} → statement M
 payslip-count-spec =

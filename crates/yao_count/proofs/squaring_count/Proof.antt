@@ -4,9 +4,9 @@ use mathlib.Core.Path.{_≡_}
 use Prim.Native.Nat.{_*_, _≤_, _-_}
 use native.Mathlib.Omega.{arith}
 use Rattle.digits.specs.Range.{sumTo}
+use Rattle.digits.proofs.Range.{sum-on, sum-end}
 use Rattle.yao.specs.Inner.{squaringsIn, squaringsMost}
 use Rattle.yao.proofs.Measuring.{column-few}
-use Rattle.yao_count.proofs.Counting.{squarings-on, squarings-end}
 use Rattle.yao_count.proofs.squaring_count.Statement.{statement}
 use Rattle.yao_count.proofs.squaring_count.Tie as tie
 
@@ -41,10 +41,10 @@ loop-less : tie.Need-loop-less Inv-loop μ-loop
 loop-less c = search needs
 
 loop-again : tie.Need-loop-again Inv-loop μ-loop
-loop-again c = (search needs, search squarings-on, search needs)
+loop-again c = (search needs, search sum-on, search needs)
 
 returns : tie.Need-returns Inv-loop μ-loop
-returns c = (search squarings-end, search needs)
+returns c = record { is = search sum-end; low = search needs }
 
 pub squaring-count-spec : {M : Type 1} → statement M
 squaring-count-spec =

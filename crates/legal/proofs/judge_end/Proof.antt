@@ -1,9 +1,9 @@
--- The verdict on the outputs, then the tests of the two lengths.
+-- The verdict on the outputs, then the one test of how many cells there are.
 use borrow.Author.Needs.{needs}
-use Rattle.chain.proofs.Rules.{judging, pass, refuse-no, or-none, lt-no}
-use Rattle.run.specs.Inner.{endRule}
-use Rattle.run.proofs.judge_end.Statement.{statement}
-use Rattle.run.proofs.judge_end.Tie as tie
+use Rattle.chain.proofs.Rules.{judging}
+use Rattle.legal.specs.Inner.{endRule}
+use Rattle.legal.proofs.judge_end.Statement.{statement}
+use Rattle.legal.proofs.judge_end.Tie as tie
 
 add-judge-outputs : tie.Need-add-judge-outputs
 add-judge-outputs c = search needs
@@ -35,10 +35,6 @@ returns-3 : tie.Need-returns-3
 unfolding endRule
 returns-3 c = search judging depth 12
 
-returns-4 : tie.Need-returns-4
-unfolding endRule
-returns-4 c = pass _ _ _ (search judging) (refuse-no _ _ _ (or-none _ _ (lt-no _ _ (search)) (lt-no _ _ (search))))
-
 pub judge-end-spec : {M : Type 1} → statement M
 judge-end-spec =
     tie.close
@@ -51,5 +47,4 @@ judge-end-spec =
     add-if1
     add-if1-2
     returns-2
-    returns-3
-    returns-4)
+    returns-3)

@@ -32,9 +32,6 @@ use Rattle.groups.proofs.Numbering.{filled-on}
 
 -- the row is a word of 64 bits
 module _ (x held : ℕ) (fits : x < 2 ^ 32) (short : held < mostMembers) where
-  pub behind-word : x * 2 ^ held % 2 ^ 64 ≡ x * 2 ^ held
-  behind-word = shl-exact 32 held 64 fits (omega arith)
-
   pub behind-low : x * 2 ^ held ≤ 2 ^ (32 + mostMembers)
   behind-low =
       let top : 2 ^ (32 + held) ≤ 2 ^ (32 + mostMembers) = pow-mono {i = 32 + held} {j = 32 + mostMembers} (omega arith) in

@@ -1,10 +1,9 @@
 // A payslip's bits in a row, column after column, cut into the parts of the groups.
 ghost use mathlib.Core.Path.{_≡_};
-ghost use Prim.Native.Nat.{_+_, _*_, _%_, _^_, _≤_, _<_};
+ghost use Prim.Native.Nat.{_+_, _%_, _^_, _≤_, _<_};
 ghost use lib.ListN.{length};
 ghost use Rattle.chain.specs.Written.{over};
 ghost use Rattle.groups.specs.Groups.{mostMembers};
-ghost use Rattle.digits.specs.Inner.{Bounded};
 ghost use Rattle.groups.specs.Inner.{PartsRoom, partNumbers};
 ghost use Rattle.cutting.specs.Inner.{CutUp, Entered};
 use groups::Grouping;
@@ -14,14 +13,6 @@ pub struct Row {
     pub bits: u64,
     pub held: usize,
     pub g: usize,
-}
-
-// x behind so many bits.
-fn behind(x: u32, held: usize) -> u64
-    requires { ⌜ held < mostMembers ⌝ }
-    ensures { λ r. ⌜ Bounded r (x * 2 ^ held) (2 ^ (32 + mostMembers)) ⌝ }
-{
-    (x as u64) << held
 }
 
 // The number of the first c bits of a row.
@@ -62,7 +53,7 @@ fn enter_columns(s: Grouping, amounts: &[u32], bits: &[u32], i: usize, cells: &m
     };
     let mut col: usize = 0;
     while col < s.p {
-        let x = behind(sheet::amount(s.p, amounts, i, col), r.held);
+        let x = digits::raised(sheet::amount(s.p, amounts, i, col), r.held);
         let row = Row {
             bits: r.bits + x,
             held: r.held + bits[col] as usize,

@@ -12,6 +12,9 @@ use Rattle.digits.proofs.Count.{count-own, low-count, count-high}
 pub power-word : (e : ℕ) → e < 32 → 1 * 2 ^ e % 2 ^ 32 ≡ 2 ^ e
 power-word e h = shl-exact 1 e 32 (omega arith) (omega arith) ∙ one-mul (2 ^ e)
 
+pub raised-word : (x e : ℕ) → x < 2 ^ 32 → e ≤ 32 → x * 2 ^ e % 2 ^ 64 ≡ x * 2 ^ e
+raised-word x e fits few = shl-exact 32 e 64 fits (omega arith)
+
 -- the digits of a number of m bits
 count-bits : (k x m : ℕ) → 0 < k → x < 2 ^ m → 2 ^ m ≤ 2 * x + 1 → (m + k - 1) / k ≡ digitCount k x
 count-bits k x m some low high = le-antisymm (by-count (decLt (digitCount k x) c)) above

@@ -11,6 +11,14 @@ pub fn power(e: usize) -> u32
     1u32 << e
 }
 
+// x moved up by e bits.
+pub fn raised(x: u32, e: usize) -> u64
+    requires { ⌜ e ≤ 32 ⌝ }
+    ensures { λ r. ⌜ r ≡ x * 2 ^ e ⌝ }
+{
+    (x as u64) << e
+}
+
 // How many digits x has in base 2^k: its bits, cut into digits. Digits of one bit are not cut, which spares a division.
 pub fn digit_count(k: usize, x: u32) -> usize
     requires { ⌜ (0 < k) × (k < 32) ⌝ }

@@ -1,37 +1,62 @@
 // Method 1, Straus: the chain's table, then its payslips.
 ghost use mathlib.Core.Path.{_≡_};
-ghost use Prim.Native.Nat.{_+_, _-_, _*_, _≤_, _<_};
+ghost use Prim.Native.Nat.{_+_, _-_, _*_, _^_, _≤_, _<_};
 ghost use lib.ListN.{length};
 ghost use Rattle.chain.specs.Chain.{mostColumns};
 ghost use Rattle.chain.specs.Written.{over};
+ghost use Rattle.digits.specs.Range.{listTo};
 ghost use Rattle.products.specs.Product.{times, squared, payslips};
 ghost use Rattle.products.specs.Inner.{stepsIn, productIn, StepsRoom, Emitted};
 ghost use Rattle.methods.specs.Inner.{Asked, ChainRoom, ChainStored};
-ghost use Rattle.straus.specs.Straus.{bases, strausDigits, digitVector, strausPayslip, straus, strausCount, strausMost, strausMostBits};
+ghost use Rattle.straus.specs.Straus.{bases, strausDigits, strausPayslip, straus, strausCount, strausMost, strausMostBits};
 ghost use Rattle.straus.specs.Inner.{PayslipAsked};
+ghost use Rattle.straus_emit.specs.Inner.{Counted, raisedAt, maskAt, vectorAt, digitsMade, DigitsAsked};
 use products::PartialProduct;
 
 // How many digits the largest amount of payslip i has.
 fn digit_count(p: usize, amounts: &[u32], k: usize, i: usize) -> usize
     requires { ⌜ PayslipAsked p (now amounts) k i ⌝ }
-    ensures { λ r. ⌜ (r ≡ strausDigits p (now (amounts .entry)) k i) × (k * (r - 1) < 32) ⌝ }
+    ensures { λ r. ⌜ Counted k r (strausDigits p (now (amounts .entry)) k i) ⌝ }
 {
     digits::digit_count(k, straus::overlaid(p, amounts, i))
 }
 
-// The number of the vector of its digits with weight 2^(kj).
-fn vector(p: usize, amounts: &[u32], k: usize, i: usize, j: usize) -> u32
-    requires { ⌜ PayslipAsked p (now amounts) k i × (k * j < 32) ⌝ }
-    ensures { λ r. ⌜ r ≡ digitVector p (now (amounts .entry)) k i j ⌝ }
+// The amounts of payslip i, each moved up to where its digits stand in a vector.
+fn raise_amounts(p: usize, amounts: &[u32], k: usize, i: usize, cells: &mut [u64])
+    requires { ⌜ PayslipAsked p (now amounts) k i × (p ≤ length (now cells)) ⌝ }
+    ensures { λ r. ⌜ now (cells .exit) ≡ over (listTo p (raisedAt p (now (amounts .entry)) k i)) (now (cells .entry)) ⌝ }
 {
-    let mut v: u32 = 0;
     let mut c: usize = 0;
     while c < p {
-        let d = digits::digit(k, sheet::amount(p, amounts, i, c), j);
-        v += d * digits::power(k * c);
+        cells[c] = digits::raised(sheet::amount(p, amounts, i, c), k * c);
         c += 1;
     }
-    v
+}
+
+// The mask of each column's digit in a vector.
+fn fill_masks(p: usize, k: usize, cells: &mut [u64])
+    requires { ⌜ (p + k * p < 32) × (p ≤ length (now cells)) ⌝ }
+    ensures { λ r. ⌜ now (cells .exit) ≡ over (listTo p (maskAt k)) (now (cells .entry)) ⌝ }
+{
+    let mut c: usize = 0;
+    while c < p {
+        cells[c] = digits::raised(1, k + k * c) - digits::raised(1, k * c);
+        c += 1;
+    }
+}
+
+// The number of the vector that stands s bits up: of each cell what is under its mask.
+fn vector(p: usize, cells: &[u64], masks: &[u64], s: usize) -> u32
+    requires { ⌜ (p ≤ length (now cells)) × (p ≤ length (now masks)) × (s < 32) × (vectorAt p (now cells) (now masks) s < 2 ^ 32) ⌝ }
+    ensures { λ r. ⌜ r ≡ vectorAt p (now (cells .entry)) (now (masks .entry)) s ⌝ }
+{
+    let mut v: u64 = 0;
+    let mut c: usize = 0;
+    while c < p {
+        v += (cells[c] >> s) & masks[c];
+        c += 1;
+    }
+    v as u32
 }
 
 // One digit more of a product: squared k times, then times value y.
@@ -43,7 +68,34 @@ fn take_digit(p: usize, k: usize, m: PartialProduct, y: u32, steps: &mut [u32]) 
     products::times(p, s, y, steps)
 }
 
-// Payslip i after n steps, by Horner's rule over its digits.
+// The product of the digits in the cells after n steps, by Horner's rule, the top digit first.
+fn take_digits(
+    p: usize,
+    k: usize,
+    inputs: &[u32],
+    cells: &[u64],
+    masks: &[u64],
+    digits: usize,
+    n: usize,
+    steps: &mut [u32],
+) -> PartialProduct
+    requires { ⌜ DigitsAsked p k (now inputs) (now cells) (now masks) digits ⌝ }
+    requires { ⌜ StepsRoom p (now steps) n (digitsMade p k (now inputs) (now cells) (now masks) digits (stepsIn (now steps) n) digits .steps) ⌝ }
+    ensures { λ r. ⌜ Emitted (now (steps .entry)) (now (steps .exit)) (r .n) (r .value)
+        (digitsMade p k (now (inputs .entry)) (now (cells .entry)) (now (masks .entry)) digits (stepsIn (now (steps .entry)) n) digits) ⌝ }
+{
+    let mut r = PartialProduct { n: n, value: 0 };
+    let mut d: usize = 0;
+    while d < digits {
+        let t = vector(p, cells, masks, k * (digits - (d + 1)));
+        let e = tables::entry(k, inputs, (p + 1) as u32, t);
+        r = take_digit(p, k, r, e, steps);
+        d += 1;
+    }
+    r
+}
+
+// Payslip i after n steps: its amounts are laid out once, and then its digits taken.
 fn make_payslip(
     p: usize,
     amounts: &[u32],
@@ -58,16 +110,12 @@ fn make_payslip(
     ensures { λ r. ⌜ Emitted (now (steps .entry)) (now (steps .exit)) (r .n) (r .value)
         (strausPayslip p (now (amounts .entry)) k i (stepsIn (now (steps .entry)) n)) ⌝ }
 {
+    let mut cells = [0u64; chain::MOST_COLUMNS];
+    raise_amounts(p, amounts, k, i, &mut cells);
+    let mut masks = [0u64; chain::MOST_COLUMNS];
+    fill_masks(p, k, &mut masks);
     let digits = digit_count(p, amounts, k, i);
-    let mut r = PartialProduct { n: n, value: 0 };
-    let mut d: usize = 0;
-    while d < digits {
-        let t = vector(p, amounts, k, i, digits - (d + 1));
-        let e = tables::entry(k, inputs, (p + 1) as u32, t);
-        r = take_digit(p, k, r, e, steps);
-        d += 1;
-    }
-    r
+    take_digits(p, k, inputs, &cells, &masks, digits, n, steps)
 }
 
 // The payslips in order after n steps: their steps, and their products as outputs.

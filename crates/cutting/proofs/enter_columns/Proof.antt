@@ -7,7 +7,7 @@ use Rattle.sheet.proofs.Amounts.{amount-there}
 use native.Mathlib.Omega.{arith}
 use Rattle.cutting.specs.Inner.{Entered}
 use Rattle.groups.proofs.Measured.{grouped-at, grouped-few, grouped-long}
-use Rattle.cutting.proofs.Rows.{entered-end, entered-none, entered-on, row-fits, row-low}
+use Rattle.cutting.proofs.Rows.{behind-low, entered-end, entered-none, entered-on, row-fits, row-low}
 use Rattle.cutting.proofs.enter_columns.Statement.{statement}
 use Rattle.cutting.proofs.enter_columns.Tie as tie
 
@@ -26,15 +26,18 @@ amount-requires c κs =
     let s = c .before .before .before .before .before .before in
     amount-there _ _ _ _ _ (s .pre .inside) (search needs) (s .pre .grouped .sheet .amounts-are)
 
-behind-requires : tie.Need-behind-requires Inv-loop μ-loop
-behind-requires c κs =
+raised-requires : tie.Need-raised-requires Inv-loop μ-loop
+raised-requires c κs =
     let start = c .before .before .before in
     omega (arith, start .loop .inv .2 .short, start .before .before .before .before .pre .grouped .cuts .few)
 
 add-t12 : tie.Need-add-t12 Inv-loop μ-loop
 add-t12 c =
-    let start = c .before .before .before .before .before in
-    omega (arith, row-low _ _ _ _ _ _ _ (start .loop .inv .2) (start .before .before .before .before .pre .grouped .cuts .few), c .before .behind .ensures .low)
+    let raised = c .before in
+    let start = raised .before .before .before .before in
+    let few = start .before .before .before .before .pre .grouped .cuts .few in
+    let low = behind-low (raised .before .amount .result) (start .loop .r .held) (omega arith) (omega (arith, few, start .loop .inv .2 .short)) in
+    omega (arith, row-low _ _ _ _ _ _ _ (start .loop .inv .2) few, raised .raised .ensures, low)
 
 mul-t13 : tie.Need-mul-t13 Inv-loop μ-loop
 mul-t13 c = search needs
@@ -71,11 +74,11 @@ loop-less c = search needs
 loop-again : tie.Need-loop-again Inv-loop μ-loop
 loop-again c =
     let cut = c .before .before in
-    let behind = c .before .before .before .before .before .before .before in
-    let start = behind .before .before .before .before in
+    let raised = c .before .before .before .before .before .before .before in
+    let start = raised .before .before .before .before in
     let s = start .before .before .before .before in
     let is = grouped-at (s .pre .grouped) (start .loop .col) (search needs) in
-    let entered = entered-on _ _ _ _ _ _ _ (start .loop .inv .2) _ _ _ (search needs) (s .pre .inside) (behind .before .amount .ensures) (behind .behind .ensures .is) is in
+    let entered = entered-on _ _ _ _ _ _ _ (start .loop .inv .2) _ _ _ (search needs) (s .pre .inside) (raised .before .amount .ensures) (raised .raised .ensures) is in
     (search needs, search needs, entered _ _ _ refl refl refl (cut .cut-parts .ensures))
 
 same-length : tie.Need-same-length Inv-loop μ-loop
@@ -94,7 +97,7 @@ enter-columns-spec =
     μ-loop
     loop-holds
     amount-requires
-    behind-requires
+    raised-requires
     add-t12
     mul-t13
     shared-slice-read-t11

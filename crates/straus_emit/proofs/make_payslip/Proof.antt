@@ -1,82 +1,73 @@
--- One digit a turn, the top one first: the invariant is Horner's product of the digits so far.
+-- Laid out, the amounts have the payslip's vectors in their cells, and so their digits make the payslip.
 use borrow.Author.Needs.{needs}
-use mathlib.Core.Path.{_≡_}
-use Prim.Native.Nat.{_≤_, _-_}
-use lib.ListN.{length}
-use Rattle.products.specs.Inner.{stepsIn, Emitted}
-use Rattle.products.proofs.Emitted.{emitted-own}
-use Rattle.straus_emit.proofs.Emitting.{digitsMade, digit-room, digit-on, digits-end, entry-place, entry-number, digit-fits}
+use Rattle.products.specs.Inner.{stepsIn}
+use Rattle.straus_emit.proofs.Vectors.{columns-few, digits-asked, payslip-is}
 use Rattle.straus_emit.proofs.make_payslip.Statement.{statement}
 use Rattle.straus_emit.proofs.make_payslip.Tie as tie
 
-abbrev Inv-loop : tie.InvT-loop
-Inv-loop p amounts k inputs i n steps₀ digits r₀ d₀ steps r d =
-    (d ≤ digits)
-    × (length steps ≡ length steps₀)
-    × Emitted steps₀ steps (r .n) (r .value) (digitsMade p amounts k i (stepsIn steps₀ n) d)
+slice-aggregate-raise-amounts : tie.Need-slice-aggregate-raise-amounts
+slice-aggregate-raise-amounts c = search needs
 
-abbrev μ-loop : tie.MeasureT-loop
-μ-loop p amounts k inputs i n steps₀ digits r₀ d₀ steps r d = digits - d
+raise-amounts-requires : tie.Need-raise-amounts-requires
+raise-amounts-requires c κs =
+    let asked = c .before .before .before .before .pre .0 .0 in
+    (asked, columns-few asked)
 
-digit-count-requires : tie.Need-digit-count-requires Inv-loop μ-loop
+slice-aggregate-fill-masks : tie.Need-slice-aggregate-fill-masks
+slice-aggregate-fill-masks c = search needs
+
+fill-masks-requires : tie.Need-fill-masks-requires
+fill-masks-requires c κs =
+    let asked = c .before .before .before .before .before .before .before .pre .0 .0 in
+    (asked .vectors-low, columns-few asked)
+
+digit-count-requires : tie.Need-digit-count-requires
 digit-count-requires c κs = search needs
 
-loop-holds : tie.Need-loop-holds Inv-loop μ-loop
-loop-holds c = (search needs, search needs, search emitted-own)
+slice-aggregate-take-digits : tie.Need-slice-aggregate-take-digits
+slice-aggregate-take-digits c = search needs
 
-add-vector : tie.Need-add-vector Inv-loop μ-loop
-add-vector c = search needs
+slice-aggregate-take-digits-2 : tie.Need-slice-aggregate-take-digits-2
+slice-aggregate-take-digits-2 c = search needs
 
-sub-vector : tie.Need-sub-vector Inv-loop μ-loop
-sub-vector c = search needs
+take-digits-requires : tie.Need-take-digits-requires
+take-digits-requires c κs =
+    let g = c .before .before .before in
+    let f = g .before .before in
+    let h = f .before .before .before in
+    let s = h .before .before .before .before .before in
+    let few = columns-few (s .pre .0 .0) in
+    let raised = h .raise-amounts .ensures in
+    let masked = f .fill-masks .ensures in (
+      digits-asked (s .pre .0 .0) _ _ _ _ raised masked (s .pre .0 .1) _ (g .digit-count .ensures .places-low) (search (needs, few)) (search (needs, few)),
+      rw (payslip-is (s .pre .0 .0) _ _ _ _ raised masked (s .pre .0 .1) _ (g .digit-count .ensures .is) _) (s .pre .1),
+    )
 
-vector-requires : tie.Need-vector-requires Inv-loop μ-loop
-vector-requires c κs = search (needs, digit-fits)
-
-add-entry : tie.Need-add-entry Inv-loop μ-loop
-add-entry c = search needs
-
-cast-entry : tie.Need-cast-entry Inv-loop μ-loop
-cast-entry c = search needs
-
-entry-requires : tie.Need-entry-requires Inv-loop μ-loop
-entry-requires c κs = search (needs, entry-place, entry-number)
-
-take-digit-requires : tie.Need-take-digit-requires Inv-loop μ-loop
-take-digit-requires c κs = search digit-room
-
-add-d : tie.Need-add-d Inv-loop μ-loop
-add-d c = search needs
-
-loop-less : tie.Need-loop-less Inv-loop μ-loop
-loop-less c = search needs
-
-loop-again : tie.Need-loop-again Inv-loop μ-loop
-loop-again c = (search needs, search needs, search digit-on)
-
-same-length : tie.Need-same-length Inv-loop μ-loop
+same-length : tie.Need-same-length
 same-length c = search needs
 
-returns : tie.Need-returns Inv-loop μ-loop
-returns c = search digits-end
+returns : tie.Need-returns
+returns c =
+    let t = c .before .before in
+    let g = t .before .before .before .before in
+    let f = g .before .before in
+    let h = f .before .before .before in
+    let s = h .before .before .before .before .before in
+    let before = stepsIn (s .args .steps .now) (s .args .n) in
+    let is = payslip-is (s .pre .0 .0) _ _ _ _ (h .raise-amounts .ensures) (f .fill-masks .ensures) (s .pre .0 .1) _ (g .digit-count .ensures .is) before in
+    rw (← is) (t .take-digits .ensures)
 
 pub make-payslip-spec : {M : Type 1} → statement M
 make-payslip-spec =
     tie.close
     (tie.spec
-    Inv-loop
-    μ-loop
+    slice-aggregate-raise-amounts
+    raise-amounts-requires
+    slice-aggregate-fill-masks
+    fill-masks-requires
     digit-count-requires
-    loop-holds
-    add-vector
-    sub-vector
-    vector-requires
-    add-entry
-    cast-entry
-    entry-requires
-    take-digit-requires
-    add-d
-    loop-less
-    loop-again
+    slice-aggregate-take-digits
+    slice-aggregate-take-digits-2
+    take-digits-requires
     same-length
     returns)

@@ -117,6 +117,29 @@ fn plain_compile(job: &Job, lent: &mut Lent) -> usize {
     .unwrap()
 }
 
+/// Compile beside plain Rust, and that both give the same chain.
+fn compile(job: &Job, ours: &mut Lent, theirs: &mut Lent) {
+    let name = ["Straus", "Yao", "partition"][job.method - 1];
+    report(
+        &format!(
+            "compile of {} by {}, {name} {}, {} steps",
+            job.p,
+            job.q,
+            job.parameter,
+            job.count()
+        ),
+        medians(
+            501,
+            || assert!(library_compile(black_box(job), ours) > 0),
+            || assert!(plain_compile(black_box(job), theirs) > 0),
+        ),
+    );
+    assert_eq!(
+        (&ours.steps, &ours.outputs),
+        (&theirs.steps, &theirs.outputs)
+    );
+}
+
 /// The five calls in plain Rust.
 fn plain_path(job: &Job, m: u32, bases: &[u32], lent: &mut Lent) -> Result<usize, (u32, usize)> {
     let n = plain_compile(job, lent);
@@ -188,20 +211,13 @@ pub fn measure() {
     assert_eq!(ours.figures[..Q], theirs.figures[..Q]);
     assert_eq!(ours.figures[..Q], inverted.figures[..Q]);
 
-    for (method, name) in [(1, "Straus"), (2, "Yao"), (3, "partition")] {
-        let job = fewest(&amounts, |m| m == method);
-        report(
-            &format!("compile, {name} {}, {} steps", job.parameter, job.count()),
-            medians(
-                501,
-                || assert!(library_compile(black_box(&job), &mut ours) > 0),
-                || assert!(plain_compile(black_box(&job), &mut theirs) > 0),
-            ),
-        );
-        assert_eq!(
-            (&ours.steps, &ours.outputs),
-            (&theirs.steps, &theirs.outputs)
-        );
+    for method in 1..=3 {
+        compile(&fewest(&amounts, |m| m == method), &mut ours, &mut theirs);
+    }
+    // wider digits, of which Straus's table allows fewer columns
+    for (p, k) in [(5, 2), (3, 3), (2, 5)] {
+        let job = Job::new(p, Q, &amounts[..p * Q], 1, k);
+        compile(&job, &mut ours, &mut theirs);
     }
 
     report(

@@ -11,7 +11,7 @@ use lib.Pow.{pow-add, shl-shr, split}
 use Rattle.chain.specs.Tests.{_=?_}
 use Rattle.chain.proofs.Rules.{not-eq, is-eq}
 use Rattle.digits.specs.Digits.{digitCount, digit}
-use Rattle.digits.proofs.Count.{count-low}
+use Rattle.digits.proofs.Count.{count-low, count-own}
 use Rattle.tables.specs.Table.{lowestFrom, lowest}
 
 -- t is m times 2^z, and m is odd
@@ -129,3 +129,18 @@ trailing-lowest w k t some h low =
 -- digits of one bit need no division
 pub trailing-bit : (w k t : ℕ) → k ≡ 1 → 0 < t → t < 2 ^ w → trailingZeros w t ≡ lowest k t
 trailing-bit w k t one h low = rw one (sym (div-one (trailingZeros w t)) ∙ trailing-lowest w 1 t (omega arith) h low)
+
+-- a number is a multiple of the weight of its lowest digit that is not 0
+pub lowest-weight : (k t : ℕ) → 0 < k → 0 < t → (q : ℕ) × (t ≡ q * 2 ^ (k * lowest k t))
+lowest-weight k t some h =
+    let w = k * digitCount k t in
+    let low : t < 2 ^ w = count-own k some t in
+    let z = trailingZeros w t in
+    let odd = odd-part w t h low in
+    let m = odd .0 in (
+      m * 2 ^ (z % k),
+      odd .1 .is
+          ∙ ap (λ (n : ℕ). m * 2 ^ n) (sym (div-add-mod z k))
+          ∙ shift-on k m (k * (z / k)) (z % k)
+          ∙ ap (λ (j : ℕ). m * 2 ^ (z % k) * 2 ^ (k * j)) (trailing-lowest w k t some h low),
+    )

@@ -1,17 +1,22 @@
 // Tables of products of some inputs, made in rising number.
+ghost use mathlib.Core.Bool.{false};
 ghost use mathlib.Core.Path.{_≡_};
 ghost use mathlib.Core.List.{_++_};
 ghost use Prim.Native.Nat.{_+_, _*_, _^_, _≤_, _<_};
 ghost use lib.ListN.{length};
+ghost use Rattle.digits.specs.Digits.{digitCount};
 ghost use Rattle.products.specs.Inner.{stepsIn, StepsRoom, StepsStored};
 ghost use Rattle.tables.specs.Table.{isUnit, entry, lowest, tableNext, table};
 
-// Whether entry t of a table is a unit.
-fn is_unit(k: usize, t: u32) -> bool
-    requires { ⌜ (0 < k) × (k < 32) × (0 < t) ⌝ }
-    ensures { λ r. ⌜ r ≡ isUnit k t ⌝ }
+// The value number of entry t, which is not zero and whose d digits are counted, of a table whose first step makes value at.
+fn counted_entry(k: usize, inputs: &[u32], at: u32, d: usize, t: u32) -> u32
+    requires { ⌜ (0 < k) × (k < 32) × (0 < at) × (at + t < 2 ^ 32) × (t < 2 ^ (k * length (now inputs))) × (0 < t) × (d ≡ digitCount k t) ⌝ }
+    ensures { λ r. ⌜ r ≡ entry k (now (inputs .entry)) at t ⌝ }
 {
-    t == digits::power(k * (digits::digit_count(k, t) - 1))
+    if t == digits::power(k * (d - 1)) {
+        return inputs[d - 1];
+    }
+    (at as usize + t as usize - d - 1) as u32
 }
 
 // The value number of entry t of a table whose first step makes value at.
@@ -22,11 +27,7 @@ pub fn entry(k: usize, inputs: &[u32], at: u32, t: u32) -> u32
     if t == 0 {
         return 0;
     }
-    let d = digits::digit_count(k, t);
-    if is_unit(k, t) {
-        return inputs[d - 1];
-    }
-    (at as usize + t as usize - d - 1) as u32
+    counted_entry(k, inputs, at, digits::digit_count(k, t), t)
 }
 
 // The place of the lowest digit of t that is not 0, from the zeros below it. Digits of one bit are not cut, which spares a division.
@@ -41,22 +42,15 @@ fn lowest(k: usize, t: u32) -> usize
     zeros / k
 }
 
-// The step of entry t, after n steps, unless it is zero or a unit.
-fn make_entry(k: usize, inputs: &[u32], at: u32, t: u32, n: usize, steps: &mut [u32]) -> usize
-    requires { ⌜ (0 < k) × (k < 32) × (0 < at) × (at + t < 2 ^ 32) × (t < 2 ^ (k * length (now inputs))) ⌝ }
-    requires { ⌜ (2 * n ≤ length (now steps)) × (2 * length (tableNext k (now inputs) at t (stepsIn (now steps) n)) ≤ length (now steps)) ⌝ }
-    ensures { λ r. ⌜ StepsStored (now (steps .entry)) (now (steps .exit)) r (tableNext k (now (inputs .entry)) at t (stepsIn (now (steps .entry)) n)) ⌝ }
+// The step of entry t, which has d digits and is no unit, after n steps. Its rest has as many digits.
+fn put_entry(k: usize, inputs: &[u32], at: u32, d: usize, t: u32, n: usize, steps: &mut [u32])
+    requires { ⌜ (0 < k) × (k < 32) × (0 < at) × (at + t < 2 ^ 32) × (t < 2 ^ (k * length (now inputs))) × (0 < t) × (d ≡ digitCount k t) ⌝ }
+    requires { ⌜ (isUnit k t ≡ false) × (2 * n + 2 ≤ length (now steps)) ⌝ }
+    ensures { λ r. ⌜ StepsStored (now (steps .entry)) (now (steps .exit)) (n + 1) (tableNext k (now (inputs .entry)) at t (stepsIn (now (steps .entry)) n)) ⌝ }
 {
-    if t == 0 {
-        return n;
-    }
-    if is_unit(k, t) {
-        return n;
-    }
     let l = lowest(k, t);
-    let rest = entry(k, inputs, at, t - digits::power(k * l));
+    let rest = counted_entry(k, inputs, at, d, t - digits::power(k * l));
     products::put(n, rest, inputs[l], steps);
-    n + 1
 }
 
 // The table of all products of the inputs with exponents below 2^k, after n steps.
@@ -67,12 +61,20 @@ pub fn make_table(p: usize, k: usize, inputs: &[u32], n: usize, steps: &mut [u32
         (stepsIn (now (steps .entry)) n ++ table k (now (inputs .entry)) (p + n + 1) (2 ^ (k * length (now (inputs .entry))))) ⌝ }
 {
     let at = (p + n + 1) as u32;
-    let end = digits::power(k * inputs.len());
     let mut s = n;
-    let mut t: u32 = 0;
-    while t < end {
-        s = make_entry(k, inputs, at, t, s, steps);
+    // t is a unit: the first number with more than d digits
+    let mut d: usize = 0;
+    let mut t: u32 = 1;
+    while d < inputs.len() {
+        // it costs no step, and up to the next one all entries have as many digits
+        d += 1;
         t += 1;
+        let unit = digits::power(k * d);
+        while t < unit {
+            put_entry(k, inputs, at, d, t, s, steps);
+            s += 1;
+            t += 1;
+        }
     }
     s
 }

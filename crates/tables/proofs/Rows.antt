@@ -1,0 +1,143 @@
+-- The units part the entries into rows: a row begins with its unit, which costs no step; its other entries have as many digits and cost a step each.
+use mathlib.Core.Bool.{true, false}
+use mathlib.Core.Path.{_≡_, refl, sym, ap, _∙_}
+use mathlib.Core.List.{List, [], _∷_, _++_, append-nil}
+use Prim.Native.Nat.{ℕ, zero, suc, _+_, _-_, _*_, _^_, _≤_, _<_}
+use native.Mathlib.Nat.{mul-zero, mul-le-mul-left, le-refl}
+use native.Mathlib.Decide.{decLe}
+use native.Mathlib.Numerals.{add-one}
+use native.Mathlib.Omega.{arith}
+use lib.ListN.{length, length-append}
+use lib.Pow.{pow-pos, pow-mono}
+use Rattle.chain.specs.declared.Step.{Step}
+use Rattle.chain.proofs.Rules.{eq-yes, eq-no}
+use Rattle.digits.specs.Digits.{digitCount}
+use Rattle.digits.proofs.Count.{count-low, low-count, weights-rise}
+use Rattle.tables.specs.Table.{isUnit, tableNext, table}
+use Rattle.products.specs.Inner.{stepsIn, StepsRoom, StepsStored}
+use Rattle.products.proofs.Sound.{Begins, begins-rise}
+use Rattle.products.proofs.Emitted.{length-stepsIn, stored-own, stored-is, stored-on, stored-room}
+use Rattle.tables.proofs.Table.{next-zero, next-unit}
+use Rattle.tables.proofs.Tabling.{next-step, new-entry, next-begins, next-front}
+
+-- t is an entry with d digits and no unit, in a table of n inputs
+pub record InRow (k n d t : ℕ) : Type 0 where
+  pub some : 0 < t
+  pub count : d ≡ digitCount k t
+  pub other : isUnit k t ≡ false
+  pub inside : t < 2 ^ (k * n)
+
+-- the row of the entries with d + 1 digits: its first one is the unit u, and the next row's is the unit v
+module _ (k d u v : ℕ) (some : 0 < k) (first : u ≡ 2 ^ (k * d)) (next : v ≡ 2 ^ (k * (d + 1))) where
+  pub row-rises : u + 1 ≤ v
+  row-rises = omega (arith, weights-rise k some d (d + 1) (omega arith))
+
+  row-digits : (t : ℕ) → u ≤ t → t < v → digitCount k t ≡ d + 1
+  row-digits t low high = by-count (decLe (digitCount k t) d)
+    where
+      by-count : Dec (digitCount k t ≤ d) → digitCount k t ≡ d + 1
+      by-count (yes few) = absurd (omega (arith, count-low k some t d few))
+      by-count (no many) = omega (arith, low-count k some t (d + 1) (omega arith))
+
+  -- the unit with as many digits
+  top-unit : (t : ℕ) → u ≤ t → t < v → u ≡ 2 ^ (k * (digitCount k t - 1))
+  top-unit t low high =
+      let e : d ≡ digitCount k t - 1 = omega (arith, row-digits t low high) in
+      first ∙ ap (λ (n : ℕ). 2 ^ (k * n)) e
+
+  row-unit : isUnit k u ≡ true
+  row-unit = eq-yes u _ (top-unit u (le-refl u) (omega (arith, row-rises)))
+
+  -- the others, in a table of n inputs
+  pub in-row : (n t : ℕ) → d < n → u + 1 ≤ t → t < v → InRow k n (d + 1) t
+  in-row n t more low high =
+      let le : d + 1 ≤ n = omega arith in
+      record {
+        some = omega arith;
+        count = sym (row-digits t (omega arith) high);
+        other = eq-no t _ (omega (arith, top-unit t (omega arith) high));
+        inside = omega (arith, pow-mono (mul-le-mul-left k le));
+      }
+
+-- the first row's unit; the numbers of a row fit
+pub first-unit : (k : ℕ) → 1 ≡ 2 ^ (k * 0)
+first-unit k = rw mul-zero
+
+pub unit-fits : (k d u n before : ℕ) → 0 < k → u ≡ 2 ^ (k * d) → d < n → before + 2 ^ (k * n) < 2 ^ 32 → u + 1 < 2 ^ 32
+unit-fits k d u n before some e h fits = omega (arith, weights-rise k some d n h)
+
+pub place-fits : (k d n : ℕ) → d < n → k * n < 32 → k * (d + 1) < 32
+place-fits k d n h fits =
+    let le : d + 1 ≤ n = omega arith in
+    omega (arith, mul-le-mul-left k le)
+
+-- the table in the making, after the steps of front
+module _ (k : ℕ) (inputs : List ℕ) (at : ℕ) where
+  abbrev After : List Step → ℕ → List Step
+  After front t = front ++ table k inputs at t
+
+  after-next : (front : List Step) (t : ℕ) → After front (t + 1) ≡ tableNext k inputs at t (After front t)
+  after-next front t = rw (add-one t) (sym (next-front k inputs at t front (table k inputs at t)))
+
+  after-begins : (front : List Step) (t T : ℕ) → t ≤ T → Begins (After front t) (After front T)
+  after-begins front =
+      begins-rise (After front) (λ t. rw (← next-front k inputs at t front (table k inputs at t)) (next-begins k inputs at t (After front t)))
+
+  table-on : (old cells cells′ : List ℕ) (front : List Step) (s s′ t : ℕ) → StepsStored old cells s (After front t)
+      → StepsStored cells cells′ s′ (tableNext k inputs at t (stepsIn cells s)) → StepsStored old cells′ s′ (After front (t + 1))
+  table-on old cells cells′ front s s′ t st new =
+      let u = rw (stored-is st) at new in
+      rw (after-next front t) (stored-on st (next-begins k inputs at t (After front t)) u)
+
+  -- wherever a table is stored up to entry t in cells, with s steps in all, it is stored up to entry t′ in cells′, with s′ steps
+  pub record Longer (cells : List ℕ) (s t : ℕ) (cells′ : List ℕ) (s′ t′ : ℕ) : Type 0 where
+    pub stored : (old : List ℕ) (front : List Step) → StepsStored old cells s (After front t) → StepsStored old cells′ s′ (After front t′)
+
+  pub longer-own : (cells : List ℕ) (s t : ℕ) → Longer cells s t cells s t
+  longer-own cells s t = record { stored = λ old front st. st }
+
+  pub longer-next : (cells : List ℕ) (s t : ℕ) (cells′ cells″ : List ℕ) (s′ t′ : ℕ) → Longer cells s t cells′ s′ t′
+      → StepsStored cells′ cells″ (s′ + 1) (tableNext k inputs at t′ (stepsIn cells′ s′)) → Longer cells s t cells″ (s′ + 1) (t′ + 1)
+  longer-next cells s t cells′ cells″ s′ t′ before new =
+      record { stored = λ old front st. table-on old cells′ cells″ front s′ (s′ + 1) t′ (before .stored old front st) new }
+
+  -- the steps of a row: none for its unit
+  module _ (d u : ℕ) (some : 0 < k) (first : u ≡ 2 ^ (k * d)) (old : List ℕ) (front : List Step) where
+    unit-next : After front (u + 1) ≡ After front u
+    unit-next = by-unit u (row-unit k d u _ some first refl) first
+      where
+        by-unit : (t : ℕ) → isUnit k t ≡ true → t ≡ 2 ^ (k * d) → After front (t + 1) ≡ After front t
+        by-unit zero b e = absurd (omega (arith, pow-pos (k * d)))
+        by-unit (suc t) b e =
+            rw add-one (ap (λ (steps : List Step). front ++ steps) (next-unit k some inputs at t (table k inputs at (suc t)) b))
+
+    pub row-stored : (cells cells′ : List ℕ) (s s′ t : ℕ) → StepsStored old cells s (After front u) → Longer cells s (u + 1) cells′ s′ t
+        → StepsStored old cells′ s′ (After front t)
+    row-stored cells cells′ s s′ t st more = more .stored old front (rw unit-next st)
+
+    -- and one for each other entry
+    pub row-room : (p n T t : ℕ) (cells cells′ : List ℕ) (s s′ : ℕ) → StepsRoom p old n (After front (2 ^ (k * T)))
+        → StepsStored old cells s (After front u) → InRow k T (d + 1) t → Longer cells s (u + 1) cells′ s′ t → 2 * s′ + 2 ≤ length cells′
+    row-room p n T t cells cells′ s s′ room st row grown =
+        let now = row-stored cells cells′ s s′ t st grown in
+        let inside : t + 1 ≤ 2 ^ (k * T) = omega (arith, row .inside) in
+        let r : StepsRoom p cells′ s′ (tableNext k inputs at t (stepsIn cells′ s′)) =
+        rw (stored-is now)
+        (stored-room room now (next-begins k inputs at t (After front t)) (rw (← after-next front t) (after-begins front (t + 1) (2 ^ (k * T)) inside))) in
+        let step = new-entry k inputs at t (stepsIn cells′ s′) (row .some) (row .other) in
+        omega (arith, r .cells-hold, ap length step, length-append (stepsIn cells′ s′) (next-step k inputs at t ∷ []), length-stepsIn cells′ s′ (r .so-far))
+
+  -- the whole table
+  pub table-start : (p : ℕ) (cells : List ℕ) (n : ℕ) (steps : List Step) → 0 < k → StepsRoom p cells n steps
+      → StepsStored cells cells n (After (stepsIn cells n) 1)
+  table-start p cells n steps some room = rw (next-zero k some inputs at [], append-nil (stepsIn cells n)) (stored-own cells n (room .so-far))
+
+  pub table-end : (old cells : List ℕ) (front : List Step) (s d t : ℕ) → d ≤ length inputs → length inputs ≤ d → t ≡ 2 ^ (k * d)
+      → StepsStored old cells s (After front t) → StepsStored old cells s (After front (2 ^ (k * length inputs)))
+  table-end old cells front s d t h g e st =
+      let last : length inputs ≡ d = omega arith in
+      rw (last, ← e) st
+
+pub ruleset rows = (row-rises, first-unit, unit-fits, place-fits)
+
+pub ruleset tabling = (longer-own, longer-next, row-stored, table-start, table-end)

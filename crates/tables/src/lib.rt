@@ -8,15 +8,15 @@ ghost use Rattle.digits.specs.Digits.{digitCount};
 ghost use Rattle.products.specs.Inner.{stepsIn, StepsRoom, StepsStored};
 ghost use Rattle.tables.specs.Table.{isUnit, entry, lowest, tableNext, table};
 
-// The value number of entry t, which is not zero and whose d digits are counted, of a table whose first step makes value at.
+// The value number of entry t, which is not zero and whose d digits are counted, of a table whose first step makes value at: an input for the unit
+// with as many digits, else a step.
 fn counted_entry(k: usize, inputs: &[u32], at: u32, d: usize, t: u32) -> u32
     requires { ⌜ (0 < k) × (k < 32) × (0 < at) × (at + t < 2 ^ 32) × (t < 2 ^ (k * length (now inputs))) × (0 < t) × (d ≡ digitCount k t) ⌝ }
     ensures { λ r. ⌜ r ≡ entry k (now (inputs .entry)) at t ⌝ }
 {
-    if t == digits::power(k * (d - 1)) {
-        return inputs[d - 1];
-    }
-    (at as usize + t as usize - d - 1) as u32
+    let unit = inputs[d - 1];
+    let made = (at as usize + t as usize - d - 1) as u32;
+    if t == digits::power(k * (d - 1)) { unit } else { made }
 }
 
 // The value number of entry t of a table whose first step makes value at.

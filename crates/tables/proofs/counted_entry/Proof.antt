@@ -4,6 +4,27 @@ use Rattle.tables.proofs.Tabling.{entering}
 use Rattle.tables.proofs.counted_entry.Statement.{statement}
 use Rattle.tables.proofs.counted_entry.Tie as tie
 
+sub-unit : tie.Need-sub-unit
+sub-unit c = search entering
+
+mul-unit : tie.Need-mul-unit
+mul-unit c = search (needs, entering)
+
+shared-slice-read-unit : tie.Need-shared-slice-read-unit
+shared-slice-read-unit c = search entering
+
+add-made : tie.Need-add-made
+add-made c = search needs
+
+sub-made : tie.Need-sub-made
+sub-made c = search entering
+
+sub-made-2 : tie.Need-sub-made-2
+sub-made-2 c = search (needs, entering)
+
+cast-made : tie.Need-cast-made
+cast-made c = search needs
+
 sub-power : tie.Need-sub-power
 sub-power c = search entering
 
@@ -13,29 +34,8 @@ mul-power c = fits-under _ _ 32 (search entering) tt
 power-requires : tie.Need-power-requires
 power-requires c κs = search entering
 
-sub-result : tie.Need-sub-result
-sub-result c = search entering
-
-mul-result : tie.Need-mul-result
-mul-result c = search (needs, entering)
-
-shared-slice-read-result : tie.Need-shared-slice-read-result
-shared-slice-read-result c = search entering
-
 returns : tie.Need-returns
 returns c = search entering
-
-add-result : tie.Need-add-result
-add-result c = search needs
-
-sub-result-2 : tie.Need-sub-result-2
-sub-result-2 c = search entering
-
-sub-result-3 : tie.Need-sub-result-3
-sub-result-3 c = search (needs, entering)
-
-cast-result : tie.Need-cast-result
-cast-result c = search needs
 
 returns-2 : tie.Need-returns-2
 returns-2 c = search entering
@@ -44,15 +44,15 @@ pub counted-entry-spec : {M : Type 1} → statement M
 counted-entry-spec =
     tie.close
     (tie.spec
+    sub-unit
+    mul-unit
+    shared-slice-read-unit
+    add-made
+    sub-made
+    sub-made-2
+    cast-made
     sub-power
     mul-power
     power-requires
-    sub-result
-    mul-result
-    shared-slice-read-result
     returns
-    add-result
-    sub-result-2
-    sub-result-3
-    cast-result
     returns-2)

@@ -10,6 +10,11 @@ use std::hint::black_box;
 const P: usize = 9;
 const Q: usize = 48;
 
+/// The amounts of a month.
+fn sheet(r: &mut Random) -> Vec<u32> {
+    (0..P * Q).map(|_| r.below(1 << 20) as u32).collect()
+}
+
 /// The job with the fewest steps among those of a method, or of all.
 fn fewest(amounts: &[u32], of: impl Fn(usize) -> bool) -> Job {
     spoutbasket_tests::compiler::methods(P)
@@ -117,21 +122,24 @@ fn plain_compile(job: &Job, lent: &mut Lent) -> usize {
     .unwrap()
 }
 
-/// Compile beside plain Rust, and that both give the same chain.
-fn compile(job: &Job, ours: &mut Lent, theirs: &mut Lent) {
-    let name = ["Straus", "Yao", "partition"][job.method - 1];
+/// Compile beside plain Rust, sheet after sheet in turn, and that both give the same chain. With one sheet again and again the processor knows
+/// its jumps by heart.
+fn compile(jobs: &[Job], ours: &mut Lent, theirs: &mut Lent) {
+    let Job {
+        p, q, parameter, ..
+    } = jobs[0];
+    let name = ["Straus", "Yao", "partition"][jobs[0].method - 1];
+    let of = match jobs {
+        [job] => format!("{} steps", job.count()),
+        _ => format!("{} sheets", jobs.len()),
+    };
+    let (mut next, mut other) = (jobs.iter().cycle(), jobs.iter().cycle());
     report(
-        &format!(
-            "compile of {} by {}, {name} {}, {} steps",
-            job.p,
-            job.q,
-            job.parameter,
-            job.count()
-        ),
+        &format!("compile of {p} by {q}, {name} {parameter}, {of}"),
         medians(
-            501,
-            || assert!(library_compile(black_box(job), ours) > 0),
-            || assert!(plain_compile(black_box(job), theirs) > 0),
+            513,
+            || assert!(library_compile(black_box(next.next().unwrap()), ours) > 0),
+            || assert!(plain_compile(black_box(other.next().unwrap()), theirs) > 0),
         ),
     );
     assert_eq!(
@@ -169,7 +177,7 @@ fn plain_path(job: &Job, m: u32, bases: &[u32], lent: &mut Lent) -> Result<usize
 
 pub fn measure() {
     let mut r = Random(13);
-    let amounts: Vec<u32> = (0..P * Q).map(|_| r.below(1 << 20) as u32).collect();
+    let amounts = sheet(&mut r);
     // the compiler must not know the modulus, for which it would do without divisions
     let m = black_box(4_294_967_291);
     let bases: Vec<u32> = (0..P).map(|_| r.below(m as usize) as u32).collect();
@@ -212,12 +220,18 @@ pub fn measure() {
     assert_eq!(ours.figures[..Q], inverted.figures[..Q]);
 
     for method in 1..=3 {
-        compile(&fewest(&amounts, |m| m == method), &mut ours, &mut theirs);
+        let job = fewest(&amounts, |m| m == method);
+        let k = job.parameter;
+        let sheets: Vec<Job> = (0..128)
+            .map(|_| Job::new(P, Q, &sheet(&mut r), method, k))
+            .collect();
+        compile(&[job], &mut ours, &mut theirs);
+        compile(&sheets, &mut ours, &mut theirs);
     }
-    // wider digits, of which Straus's table allows fewer columns
-    for (p, k) in [(5, 2), (3, 3), (2, 5)] {
-        let job = Job::new(p, Q, &amounts[..p * Q], 1, k);
-        compile(&job, &mut ours, &mut theirs);
+    // wider digits, of which Straus's table allows fewer columns, and the largest groups
+    for (p, method, k) in [(5, 1, 2), (3, 1, 3), (2, 1, 5), (P, 3, 8)] {
+        let job = Job::new(p, Q, &amounts[..p * Q], method, k);
+        compile(&[job], &mut ours, &mut theirs);
     }
 
     report(

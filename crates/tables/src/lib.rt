@@ -16,7 +16,11 @@ fn counted_entry(k: usize, inputs: &[u32], at: u32, d: usize, t: u32) -> u32
 {
     let unit = inputs[d - 1];
     let made = (at as usize + t as usize - d - 1) as u32;
-    if t == digits::power(k * (d - 1)) { unit } else { made }
+    if t == digits::power(k * (d - 1)) {
+        unit
+    } else {
+        made
+    }
 }
 
 // The value number of entry t of a table whose first step makes value at.

@@ -1,7 +1,7 @@
 -- The units part the entries into rows: a row begins with its unit, which costs no step; its other entries have as many digits and cost a step each.
 use mathlib.Core.Bool.{true, false}
 use mathlib.Core.Path.{_≡_, refl, sym, ap, _∙_}
-use mathlib.Core.List.{List, [], _∷_, _++_, append-nil}
+use mathlib.Core.List.{List, [], _++_, append-nil}
 use Prim.Native.Nat.{ℕ, zero, suc, _+_, _-_, _*_, _^_, _≤_, _<_}
 use native.Mathlib.Nat.{mul-zero, mul-le-mul-left, le-refl}
 use native.Mathlib.Decide.{decLe}
@@ -12,13 +12,14 @@ use lib.Pow.{pow-pos, pow-mono}
 use Rattle.chain.specs.declared.Step.{Step}
 use Rattle.chain.proofs.Rules.{eq-yes, eq-no}
 use Rattle.digits.specs.Digits.{digitCount}
-use Rattle.digits.proofs.Count.{count-low, low-count, weights-rise}
+use Rattle.digits.proofs.Count.{count-low, low-count, count-full, count-few, weights-rise}
 use Rattle.tables.specs.Table.{isUnit, tableNext, table}
 use Rattle.products.specs.Inner.{stepsIn, StepsRoom, StepsStored}
-use Rattle.products.proofs.Sound.{Begins, begins-rise}
-use Rattle.products.proofs.Emitted.{length-stepsIn, stored-own, stored-is, stored-on, stored-room}
-use Rattle.tables.proofs.Table.{next-zero, next-unit}
-use Rattle.tables.proofs.Tabling.{next-step, new-entry, next-begins, next-front}
+use Rattle.products.proofs.Sound.{Begins, begins-length, begins-rise}
+use Rattle.products.proofs.Emitted.{stored-own, stored-is, stored-on}
+use Rattle.tables.specs.Inner.{RowAsked, Longer}
+use Rattle.tables.proofs.Table.{next-zero, next-unit, table-count}
+use Rattle.tables.proofs.Tabling.{next-begins, next-front}
 
 -- t is an entry with d digits and no unit, in a table of n inputs
 pub record InRow (k n d t : ℕ) : Type 0 where
@@ -59,17 +60,28 @@ module _ (k d u v : ℕ) (some : 0 < k) (first : u ≡ 2 ^ (k * d)) (next : v �
         inside = omega (arith, pow-mono (mul-le-mul-left k le));
       }
 
--- the first row's unit; the numbers of a row fit
-pub first-unit : (k : ℕ) → 1 ≡ 2 ^ (k * 0)
-first-unit k = rw mul-zero
+-- the places and numbers of a row fit
+module _ {k : ℕ} {inputs : List ℕ} {at d : ℕ} (asked : RowAsked k inputs at d) where
+  pub next-fits : k * (d + 1) < 32
+  next-fits =
+      let le : d + 1 ≤ length inputs = omega (arith, asked .inside) in
+      omega (arith, mul-le-mul-left k le, asked .places-low)
 
-pub unit-fits : (k d u n before : ℕ) → 0 < k → u ≡ 2 ^ (k * d) → d < n → before + 2 ^ (k * n) < 2 ^ 32 → u + 1 < 2 ^ 32
-unit-fits k d u n before some e h fits = omega (arith, weights-rise k some d n h)
+  pub place-fits : k * d < 32
+  place-fits =
+      let le : d ≤ d + 1 = omega arith in
+      omega (arith, mul-le-mul-left k le, next-fits)
 
-pub place-fits : (k d n : ℕ) → d < n → k * n < 32 → k * (d + 1) < 32
-place-fits k d n h fits =
-    let le : d + 1 ≤ n = omega arith in
-    omega (arith, mul-le-mul-left k le)
+  pub unit-fits : (u : ℕ) → u ≡ 2 ^ (k * d) → u + 1 < 2 ^ 32
+  unit-fits u e = omega (arith, asked .numbers-low, asked .at-some, weights-rise k (asked .k-some) d (length inputs) (asked .inside))
+
+-- a number of digits is below the first number that has more
+below-unit : (k d : ℕ) → 0 < k → d + 1 ≤ 2 ^ (k * d)
+below-unit k d some = by-size (2 ^ (k * d)) refl (pow-pos (k * d))
+  where
+    by-size : (m : ℕ) → 2 ^ (k * d) ≡ m → 0 < m → d + 1 ≤ m
+    by-size zero e h = absurd (omega arith)
+    by-size (suc t) e h = omega (arith, count-full k some t d (sym e), count-few k t)
 
 -- the table in the making, after the steps of front
 module _ (k : ℕ) (inputs : List ℕ) (at : ℕ) where
@@ -89,55 +101,67 @@ module _ (k : ℕ) (inputs : List ℕ) (at : ℕ) where
       let u = rw (stored-is st) at new in
       rw (after-next front t) (stored-on st (next-begins k inputs at t (After front t)) u)
 
-  -- wherever a table is stored up to entry t in cells, with s steps in all, it is stored up to entry t′ in cells′, with s′ steps
-  pub record Longer (cells : List ℕ) (s t : ℕ) (cells′ : List ℕ) (s′ t′ : ℕ) : Type 0 where
-    pub stored : (old : List ℕ) (front : List Step) → StepsStored old cells s (After front t) → StepsStored old cells′ s′ (After front t′)
-
-  pub longer-own : (cells : List ℕ) (s t : ℕ) → Longer cells s t cells s t
+  pub longer-own : (cells : List ℕ) (s t : ℕ) → Longer k inputs at cells s t cells s t
   longer-own cells s t = record { stored = λ old front st. st }
 
-  pub longer-next : (cells : List ℕ) (s t : ℕ) (cells′ cells″ : List ℕ) (s′ t′ : ℕ) → Longer cells s t cells′ s′ t′
-      → StepsStored cells′ cells″ (s′ + 1) (tableNext k inputs at t′ (stepsIn cells′ s′)) → Longer cells s t cells″ (s′ + 1) (t′ + 1)
+  pub longer-next : (cells : List ℕ) (s t : ℕ) (cells′ cells″ : List ℕ) (s′ t′ : ℕ) → Longer k inputs at cells s t cells′ s′ t′
+      → StepsStored cells′ cells″ (s′ + 1) (tableNext k inputs at t′ (stepsIn cells′ s′)) → Longer k inputs at cells s t cells″ (s′ + 1) (t′ + 1)
   longer-next cells s t cells′ cells″ s′ t′ before new =
       record { stored = λ old front st. table-on old cells′ cells″ front s′ (s′ + 1) t′ (before .stored old front st) new }
 
+  pub longer-end : (cells : List ℕ) (s t : ℕ) (cells′ : List ℕ) (s′ t′ u end v : ℕ) → t ≡ u + 1 → t′ ≤ end → end ≤ t′ → end ≡ v
+      → Longer k inputs at cells s t cells′ s′ t′ → Longer k inputs at cells s (u + 1) cells′ s′ v
+  longer-end cells s t cells′ s′ t′ u end v first h g e more =
+      let last : t′ ≡ v = omega arith in
+      rw (← first, ← last) more
+
   -- the steps of a row: none for its unit
-  module _ (d u : ℕ) (some : 0 < k) (first : u ≡ 2 ^ (k * d)) (old : List ℕ) (front : List Step) where
-    unit-next : After front (u + 1) ≡ After front u
-    unit-next = by-unit u (row-unit k d u _ some first refl) first
+  module _ (d : ℕ) (some : 0 < k) (old : List ℕ) (front : List Step) where
+    unit-next : After front (2 ^ (k * d) + 1) ≡ After front (2 ^ (k * d))
+    unit-next = by-unit (2 ^ (k * d)) (row-unit k d (2 ^ (k * d)) _ some refl refl) refl
       where
         by-unit : (t : ℕ) → isUnit k t ≡ true → t ≡ 2 ^ (k * d) → After front (t + 1) ≡ After front t
         by-unit zero b e = absurd (omega (arith, pow-pos (k * d)))
         by-unit (suc t) b e =
             rw add-one (ap (λ (steps : List Step). front ++ steps) (next-unit k some inputs at t (table k inputs at (suc t)) b))
 
-    pub row-stored : (cells cells′ : List ℕ) (s s′ t : ℕ) → StepsStored old cells s (After front u) → Longer cells s (u + 1) cells′ s′ t
-        → StepsStored old cells′ s′ (After front t)
-    row-stored cells cells′ s s′ t st more = more .stored old front (rw unit-next st)
+    pub row-stored : (cells cells′ : List ℕ) (s s′ : ℕ) → StepsStored old cells s (After front (2 ^ (k * d)))
+        → Longer k inputs at cells s (2 ^ (k * d) + 1) cells′ s′ (2 ^ (k * (d + 1))) → StepsStored old cells′ s′ (After front (2 ^ (k * (d + 1))))
+    row-stored cells cells′ s s′ st more = more .stored old front (rw unit-next st)
 
     -- and one for each other entry
-    pub row-room : (p n T t : ℕ) (cells cells′ : List ℕ) (s s′ : ℕ) → StepsRoom p old n (After front (2 ^ (k * T)))
-        → StepsStored old cells s (After front u) → InRow k T (d + 1) t → Longer cells s (u + 1) cells′ s′ t → 2 * s′ + 2 ≤ length cells′
-    row-room p n T t cells cells′ s s′ room st row grown =
-        let now = row-stored cells cells′ s s′ t st grown in
-        let inside : t + 1 ≤ 2 ^ (k * T) = omega (arith, row .inside) in
-        let r : StepsRoom p cells′ s′ (tableNext k inputs at t (stepsIn cells′ s′)) =
-        rw (stored-is now)
-        (stored-room room now (next-begins k inputs at t (After front t)) (rw (← after-next front t) (after-begins front (t + 1) (2 ^ (k * T)) inside))) in
-        let step = new-entry k inputs at t (stepsIn cells′ s′) (row .some) (row .other) in
-        omega (arith, r .cells-hold, ap length step, length-append (stepsIn cells′ s′) (next-step k inputs at t ∷ []), length-stepsIn cells′ s′ (r .so-far))
+    row-steps : length (After front (2 ^ (k * (d + 1)))) ≡ length (After front (2 ^ (k * d))) + (2 ^ (k * (d + 1)) - 2 ^ (k * d) - 1)
+    row-steps =
+        omega (
+          arith,
+          length-append front (table k inputs at (2 ^ (k * (d + 1)))),
+          length-append front (table k inputs at (2 ^ (k * d))),
+          table-count k some inputs at (d + 1),
+          table-count k some inputs at d,
+          below-unit k d some,
+          below-unit k (d + 1) some,
+          weights-rise k some d (d + 1) (omega arith),
+        )
+
+    pub row-room : (p n T : ℕ) (cells : List ℕ) (s : ℕ) → StepsRoom p old n (After front (2 ^ (k * T))) → d < T → length cells ≡ length old
+        → StepsStored old cells s (After front (2 ^ (k * d))) → 2 * (s + (2 ^ (k * (d + 1)) - 2 ^ (k * d) - 1)) ≤ length cells
+    row-room p n T cells s room inside same st =
+        let le : d + 1 ≤ T = omega arith in
+        let wide : 2 ^ (k * (d + 1)) ≤ 2 ^ (k * T) = pow-mono (mul-le-mul-left k le) in
+        omega (arith, st .count, row-steps, begins-length (after-begins front (2 ^ (k * (d + 1))) (2 ^ (k * T)) wide), room .cells-hold)
 
   -- the whole table
   pub table-start : (p : ℕ) (cells : List ℕ) (n : ℕ) (steps : List Step) → 0 < k → StepsRoom p cells n steps
-      → StepsStored cells cells n (After (stepsIn cells n) 1)
-  table-start p cells n steps some room = rw (next-zero k some inputs at [], append-nil (stepsIn cells n)) (stored-own cells n (room .so-far))
+      → StepsStored cells cells n (After (stepsIn cells n) (2 ^ (k * 0)))
+  table-start p cells n steps some room =
+      rw (mul-zero, next-zero k some inputs at [], append-nil (stepsIn cells n)) (stored-own cells n (room .so-far))
 
-  pub table-end : (old cells : List ℕ) (front : List Step) (s d t : ℕ) → d ≤ length inputs → length inputs ≤ d → t ≡ 2 ^ (k * d)
-      → StepsStored old cells s (After front t) → StepsStored old cells s (After front (2 ^ (k * length inputs)))
-  table-end old cells front s d t h g e st =
+  pub table-end : (old cells : List ℕ) (front : List Step) (s d : ℕ) → d ≤ length inputs → length inputs ≤ d
+      → StepsStored old cells s (After front (2 ^ (k * d))) → StepsStored old cells s (After front (2 ^ (k * length inputs)))
+  table-end old cells front s d h g st =
       let last : length inputs ≡ d = omega arith in
-      rw (last, ← e) st
+      rw last st
 
-pub ruleset rows = (row-rises, first-unit, unit-fits, place-fits)
+pub ruleset rowing = (longer-own, longer-next, longer-end)
 
-pub ruleset tabling = (longer-own, longer-next, row-stored, table-start, table-end)
+pub ruleset tabling = (row-stored, row-room, table-start, table-end)

@@ -2,11 +2,12 @@
 ghost use mathlib.Core.Bool.{false};
 ghost use mathlib.Core.Path.{_≡_};
 ghost use mathlib.Core.List.{_++_};
-ghost use Prim.Native.Nat.{_+_, _*_, _^_, _≤_, _<_};
+ghost use Prim.Native.Nat.{_+_, _-_, _*_, _^_, _≤_, _<_};
 ghost use lib.ListN.{length};
 ghost use Rattle.digits.specs.Digits.{digitCount};
 ghost use Rattle.products.specs.Inner.{stepsIn, StepsRoom, StepsStored};
 ghost use Rattle.tables.specs.Table.{isUnit, entry, lowest, tableNext, table};
+ghost use Rattle.tables.specs.Inner.{RowAsked, Longer};
 
 // The value number of entry t, which is not zero and whose d digits are counted, of a table whose first step makes value at: an input for the unit
 // with as many digits, else a step.
@@ -57,6 +58,22 @@ fn put_entry(k: usize, inputs: &[u32], at: u32, d: usize, t: u32, n: usize, step
     products::put(n, rest, inputs[l], steps);
 }
 
+// The steps of the entries with one digit more than d, after n steps: the number of steps then. The first of these entries is a unit and costs none.
+fn make_row(k: usize, inputs: &[u32], at: u32, d: usize, n: usize, steps: &mut [u32]) -> usize
+    requires { ⌜ RowAsked k (now inputs) at d × (2 * (n + (2 ^ (k * (d + 1)) - 2 ^ (k * d) - 1)) ≤ length (now steps)) ⌝ }
+    ensures { λ r. ⌜ Longer k (now (inputs .entry)) at (now (steps .entry)) n (2 ^ (k * d) + 1) (now (steps .exit)) r (2 ^ (k * (d + 1))) ⌝ }
+{
+    let end = digits::power(k * (d + 1));
+    let mut s = n;
+    let mut t = digits::power(k * d) + 1;
+    while t < end {
+        put_entry(k, inputs, at, d + 1, t, s, steps);
+        s += 1;
+        t += 1;
+    }
+    s
+}
+
 // The table of all products of the inputs with exponents below 2^k, after n steps.
 pub fn make_table(p: usize, k: usize, inputs: &[u32], n: usize, steps: &mut [u32]) -> usize
     requires { ⌜ (0 < k) × (k < 32) × (k * length (now inputs) < 32) × (p + n + 2 ^ (k * length (now inputs)) < 2 ^ 32) ⌝ }
@@ -66,19 +83,10 @@ pub fn make_table(p: usize, k: usize, inputs: &[u32], n: usize, steps: &mut [u32
 {
     let at = (p + n + 1) as u32;
     let mut s = n;
-    // t is a unit: the first number with more than d digits
     let mut d: usize = 0;
-    let mut t: u32 = 1;
     while d < inputs.len() {
-        // it costs no step, and up to the next one all entries have as many digits
+        s = make_row(k, inputs, at, d, s, steps);
         d += 1;
-        t += 1;
-        let unit = digits::power(k * d);
-        while t < unit {
-            put_entry(k, inputs, at, d, t, s, steps);
-            s += 1;
-            t += 1;
-        }
     }
     s
 }

@@ -1,0 +1,21 @@
+-- Inner vocabulary: what the functions of this crate ask and leave; nobody has to believe it to believe an entry point's promise.
+use mathlib.Core.List.{List, _++_}
+use Prim.Native.Nat.{ℕ, _+_, _*_, _^_, _≤_, _<_}
+use lib.ListN.{length}
+use Rattle.chain.specs.declared.Step.{Step}
+use Rattle.products.specs.Inner.{StepsStored}
+use Rattle.tables.specs.Table.{table}
+
+-- the row of a table's entries with one digit more than d, and that their numbers fit
+pub record RowAsked (k : ℕ) (inputs : List ℕ) (at d : ℕ) : Type 0 where
+  pub k-some : 0 < k
+  pub k-low : k < 32
+  pub at-some : 0 < at
+  pub inside : d < length inputs
+  pub places-low : k * length inputs < 32
+  pub numbers-low : at + 2 ^ (k * length inputs) ≤ 2 ^ 32
+
+-- wherever a table is stored up to entry t in cells, with s steps in all, it is stored up to entry t′ in cells′, with s′ steps
+pub record Longer (k : ℕ) (inputs : List ℕ) (at : ℕ) (cells : List ℕ) (s t : ℕ) (cells′ : List ℕ) (s′ t′ : ℕ) : Type 0 where
+  pub stored : (old : List ℕ) (front : List Step) → StepsStored old cells s (front ++ table k inputs at t)
+      → StepsStored old cells′ s′ (front ++ table k inputs at t′)

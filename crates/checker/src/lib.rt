@@ -17,7 +17,7 @@ fn judge(p: usize, steps: &[u32], outputs: &[u32], amounts: &[u32], scratch: usi
     ensures { λ r. ⌜ verdictOf r ≡ fittingRule p (pairs (now (steps .entry))) (now (outputs .entry)) (now (amounts .entry)) scratch ⌝ }
 {
     let begun = verify::judge_start(p, outputs.len(), steps.len() / 2, amounts);
-    legal::judge_rest(begun, p, steps, outputs, scratch)
+    rest::judge_rest(begun, p, steps, outputs, scratch)
 }
 
 // One sum for each step, after the p + 1 values that stand in the scratch already, up to the first that is too large, which is not stored: its place,

@@ -19,8 +19,8 @@ use Rattle.chain.proofs.Filling.{madeTo, fill-start, fill-on}
 use Rattle.chain.proofs.Legal.{legal-parts, chain-parts}
 use Rattle.chain.proofs.Outputs.{outputs-low}
 use Rattle.verify.specs.Verify.{firstOver, fittingRule, verifyAnswer, verifyScratch}
-use Rattle.legal.specs.Inner.{endRule}
-use Rattle.legal.proofs.Rest.{rest-parts}
+use Rattle.rest.specs.Inner.{endRule}
+use Rattle.rest.proofs.Rest.{rest-parts}
 use Rattle.verify.specs.Inner.{startRule, columnStart, stepsBefore, SummedUp, Comparable, foundIn, Finished}
 use Rattle.verify.specs.declared.Found.{Found}
 use Rattle.verify.proofs.Over.{overLeft, over-start}

@@ -16,8 +16,8 @@ use Rattle.chain.proofs.Filling.{madeTo, fill-start, fill-on, fill-end}
 use Rattle.residue.specs.Residue.{timesMod}
 use Rattle.residue.specs.Inner.{inverseOf}
 use Rattle.run.specs.Run.{residues, runRule, runAnswer, runValues, runFigures}
-use Rattle.legal.specs.Inner.{endRule}
-use Rattle.legal.proofs.Rest.{rest-parts}
+use Rattle.rest.specs.Inner.{endRule}
+use Rattle.rest.proofs.Rest.{rest-parts}
 use Rattle.run.specs.Inner.{startRule, figuresRule}
 use Rattle.run.proofs.Parts.{run-parts, started}
 use Rattle.run.proofs.Runnable.{runnable, fill-all, show-all, outputs-are-values}

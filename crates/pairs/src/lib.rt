@@ -6,7 +6,7 @@ ghost use Rattle.chain.specs.Verdict.{fine, _then_, onFine};
 ghost use Rattle.chain.specs.Judgement.{verdictOf};
 ghost use Rattle.chain.specs.Chain.{mostColumns, mostSteps, by};
 ghost use Rattle.run.specs.Run.{runAnswer, runValues, runFigures};
-ghost use Rattle.legal.specs.Inner.{endRule};
+ghost use Rattle.rest.specs.Inner.{endRule};
 ghost use Rattle.run.specs.Inner.{startRule, figuresRule};
 ghost use Rattle.answers.specs.Answers.{ranOf, verifiedOf};
 ghost use Rattle.verify.specs.Verify.{verifyAnswer, verifyScratch};
@@ -60,7 +60,7 @@ fn advance(task: Task, i: usize, first: u32, second: u32, cells: &mut [u32]) -> 
     let b = second as usize;
     match task {
         Task::Judging(p) => unless(
-            legal::judge_step(p + i + 1, i + 1, first, second),
+            step::judge_step(p + i + 1, i + 1, first, second),
             Task::Judging(p),
         ),
         Task::Multiplying(p, m, inverse) => {
@@ -131,7 +131,7 @@ fn run_start(
     match found(task) {
         Judgement::Refused(number, place) => Task::Refused(number, place),
         Judgement::Fine => {
-            let judged = legal::judge_end(p, n, outputs, values.len());
+            let judged = rest::judge_end(p, n, outputs, values.len());
             match run::judge_figures(judged, outputs.len(), places) {
                 Judgement::Refused(number, place) => Task::Refused(number, place),
                 Judgement::Fine => {
@@ -172,7 +172,7 @@ fn check_start(task: Task, p: usize, n: usize, outputs: &[u32], scratch: usize) 
 {
     match found(task) {
         Judgement::Refused(number, place) => Task::Refused(number, place),
-        Judgement::Fine => unless(legal::judge_end(p, n, outputs, scratch), Task::Adding(p)),
+        Judgement::Fine => unless(rest::judge_end(p, n, outputs, scratch), Task::Adding(p)),
     }
 }
 

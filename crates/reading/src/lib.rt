@@ -82,7 +82,7 @@ fn judge_steps(bytes: &[u8], x: Extent) -> Judgement
         let step = c.take_two(bytes, x.width);
         let a = step.first as u32;
         let b = step.second as u32;
-        match legal::judge_step(x.p + s + 1, s + 1, a, b) {
+        match step::judge_step(x.p + s + 1, s + 1, a, b) {
             Judgement::Refused(number, place) => {
                 return Judgement::Refused(number, place);
             }

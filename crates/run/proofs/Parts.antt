@@ -12,8 +12,8 @@ use Rattle.chain.specs.declared.Step.{Step}
 use Rattle.chain.proofs.Rules.{then-assoc, then-fine, told-after, refuse-either, refuseIf-fine, neither, not-eq, not-ne}
 use Rattle.chain.proofs.Pairs.{length-pairs}
 use Rattle.chain.proofs.Sizes.{Shape, shape-fits}
-use Rattle.legal.specs.Inner.{restRule}
-use Rattle.legal.proofs.Rest.{rest-is}
+use Rattle.rest.specs.Inner.{restRule}
+use Rattle.rest.proofs.Rest.{rest-is}
 use Rattle.run.specs.Run.{runRule}
 use Rattle.run.specs.Inner.{startRule, figuresRule}
 

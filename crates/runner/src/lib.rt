@@ -25,7 +25,7 @@ fn judge(
     ensures { λ r. ⌜ verdictOf r ≡ runRule p (pairs (now (steps .entry))) (now (outputs .entry)) m (now (bases .entry)) room places ⌝ }
 {
     let begun = run::judge_start(p, outputs.len(), steps.len() / 2, m, bases);
-    let judged = legal::judge_rest(begun, p, steps, outputs, room);
+    let judged = rest::judge_rest(begun, p, steps, outputs, room);
     run::judge_figures(judged, outputs.len(), places)
 }
 

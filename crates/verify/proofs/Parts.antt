@@ -9,8 +9,8 @@ use Rattle.chain.specs.declared.Step.{Step}
 use Rattle.chain.proofs.Rules.{then-assoc, then-fine, told-after}
 use Rattle.chain.proofs.Pairs.{length-pairs}
 use Rattle.chain.proofs.Sizes.{Shape, shape-fits}
-use Rattle.legal.specs.Inner.{restRule}
-use Rattle.legal.proofs.Rest.{rest-is}
+use Rattle.rest.specs.Inner.{restRule}
+use Rattle.rest.proofs.Rest.{rest-is}
 use Rattle.sheet.specs.Sheet.{amountsRule}
 use Rattle.sheet.proofs.Amounts.{amounts-fit}
 use Rattle.verify.specs.Verify.{fittingRule}

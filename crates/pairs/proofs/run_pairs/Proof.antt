@@ -43,7 +43,7 @@ use Rattle.chain.specs.Verdict.{fine, _then_}
 use Rattle.chain.specs.declared.Step.{Step}
 use Rattle.chain.proofs.Step as T
 use Rattle.run.specs.Run.{runAnswer, runValues, runFigures}
-use Rattle.legal.specs.Inner.{endRule}
+use Rattle.rest.specs.Inner.{endRule}
 use Rattle.run.specs.Inner.{startRule, figuresRule}
 use Rattle.answers.specs.Answers.{ranOf}
 use Rattle.answers.specs.declared.Ran.{Ran}

@@ -4,7 +4,7 @@ use mathlib.Core.Path.{_≡_, sym, _∙_}
 use native.Mathlib.Omega.{arith}
 use Rattle.chain.specs.Verdict.{fine}
 use Rattle.chain.proofs.Rules.{pass, then-fine, told-fine, told-refused, told-after, judging}
-use Rattle.legal.proofs.Rest.{ended}
+use Rattle.rest.proofs.Rest.{ended}
 use Rattle.pairs.specs.Inner.{RunAble, foundBy}
 use Rattle.pairs.proofs.Tasks.{start-refused, start-fine, starting}
 use Rattle.pairs.proofs.run_start.Statement.{statement}

@@ -57,7 +57,7 @@ use Rattle.chain.specs.Chain.{mostColumns, mostSteps}
 use Rattle.chain.specs.declared.Step.{Step}
 use Rattle.chain.proofs.Step as T
 use Rattle.verify.specs.Verify.{verifyAnswer, verifyScratch}
-use Rattle.legal.specs.Inner.{endRule}
+use Rattle.rest.specs.Inner.{endRule}
 use Rattle.verify.specs.Inner.{startRule, columnStart, Comparable}
 use Rattle.verify.specs.declared.Found.{Found}
 use Rattle.verify.proofs.Found as F

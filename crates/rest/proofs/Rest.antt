@@ -11,7 +11,7 @@ use Rattle.chain.specs.declared.Step.{Step}
 use Rattle.chain.proofs.Rules.{then-assoc, then-fine, refuseIf-fine, not-lt}
 use Rattle.chain.proofs.Outputs.{outputs-low}
 use Rattle.chain.proofs.Pairs.{length-pairs}
-use Rattle.legal.specs.Inner.{endRule, restRule}
+use Rattle.rest.specs.Inner.{endRule, restRule}
 
 pub rest-is : (p : ℕ) (steps : List Step) (outputs : List ℕ) (cells : ℕ)
     → restRule p steps outputs cells ≡ (chainRule p steps outputs then refuseIf (cells <? p + length steps + 1) 5 0)

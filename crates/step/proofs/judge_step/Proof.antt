@@ -6,8 +6,8 @@ use Rattle.chain.specs.Verdict.{fine}
 use Rattle.chain.specs.Chain.{by, stepRule}
 use Rattle.chain.proofs.Rules.{judging}
 use Rattle.chain.proofs.Steps.{legal-step}
-use Rattle.legal.proofs.judge_step.Statement.{statement}
-use Rattle.legal.proofs.judge_step.Tie as tie
+use Rattle.step.proofs.judge_step.Statement.{statement}
+use Rattle.step.proofs.judge_step.Tie as tie
 
 -- three tests tell all that a legal step keeps to
 three-tests : (v s a b : ℕ) → (b ≡ 0 → ⊥) → b ≤ a → a < v → fine ≡ stepRule v s (by a b)

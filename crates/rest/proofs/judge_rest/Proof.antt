@@ -6,9 +6,9 @@ use lib.ListN.{length}
 use Rattle.chain.specs.Chain.{mostColumns, mostSteps}
 use Rattle.chain.specs.Judgement.{verdictOf}
 use Rattle.chain.proofs.Rules.{judging}
-use Rattle.legal.proofs.Rest.{rest-flat}
-use Rattle.legal.proofs.judge_rest.Statement.{statement}
-use Rattle.legal.proofs.judge_rest.Tie as tie
+use Rattle.rest.proofs.Rest.{rest-flat}
+use Rattle.rest.proofs.judge_rest.Statement.{statement}
+use Rattle.rest.proofs.judge_rest.Tie as tie
 
 -- nothing was found before the steps, and so they are asked of as they may be
 able : (e : tie.After-enum-told)

@@ -1,9 +1,9 @@
 -- The verdict on the outputs, then the one test of how many cells there are.
 use borrow.Author.Needs.{needs}
 use Rattle.chain.proofs.Rules.{judging}
-use Rattle.legal.specs.Inner.{endRule}
-use Rattle.legal.proofs.judge_end.Statement.{statement}
-use Rattle.legal.proofs.judge_end.Tie as tie
+use Rattle.rest.specs.Inner.{endRule}
+use Rattle.rest.proofs.judge_end.Statement.{statement}
+use Rattle.rest.proofs.judge_end.Tie as tie
 
 add-judge-outputs : tie.Need-add-judge-outputs
 add-judge-outputs c = search needs

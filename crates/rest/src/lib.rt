@@ -1,0 +1,52 @@
+// A chain judged from its steps on, by a call that is lent cells for its values: the steps, 12, then 5.
+ghost use mathlib.Core.Path.{_≡_};
+ghost use Prim.Native.Nat.{_/_, _≤_};
+ghost use lib.ListN.{length};
+ghost use Rattle.chain.specs.Verdict.{fine, _then_};
+ghost use Rattle.chain.specs.Chain.{mostColumns, mostSteps, pairs};
+ghost use Rattle.chain.specs.Judgement.{verdictOf};
+ghost use Rattle.rest.specs.Inner.{endRule, restRule};
+use chain::Judgement;
+
+// After n steps: 12, then 5 where fewer cells are lent than there are values.
+pub fn judge_end(p: usize, n: usize, outputs: &[u32], cells: usize) -> Judgement
+    requires { ⌜ (p ≤ mostColumns) × (n ≤ mostSteps) ⌝ }
+    ensures { λ r. ⌜ verdictOf r ≡ endRule p n (now (outputs .entry)) cells ⌝ }
+{
+    match legal::judge_outputs(p + n, outputs) {
+        Judgement::Refused(number, place) => {
+            return Judgement::Refused(number, place);
+        }
+        Judgement::Fine => {}
+    }
+    if cells < p + n + 1 {
+        return Judgement::Refused(5, 0);
+    }
+    Judgement::Fine
+}
+
+// What was found before the steps; where that is nothing, the steps and what comes after them.
+pub fn judge_rest(
+    found: Judgement,
+    p: usize,
+    steps: &[u32],
+    outputs: &[u32],
+    cells: usize,
+) -> Judgement
+    requires { ⌜ (verdictOf found ≡ fine → (p ≤ mostColumns) × (length (now steps) / 2 ≤ mostSteps)) ⌝ }
+    ensures { λ r. ⌜ verdictOf r ≡ (verdictOf found then restRule p (pairs (now (steps .entry))) (now (outputs .entry)) cells) ⌝ }
+{
+    match found {
+        Judgement::Refused(number, place) => {
+            return Judgement::Refused(number, place);
+        }
+        Judgement::Fine => {}
+    }
+    match legal::judge_steps(p, steps) {
+        Judgement::Refused(number, place) => {
+            return Judgement::Refused(number, place);
+        }
+        Judgement::Fine => {}
+    }
+    judge_end(p, steps.len() / 2, outputs, cells)
+}

@@ -2,7 +2,7 @@
 use mathlib.Core.Path.{_≡_}
 use mathlib.Core.Bool.{Bool}
 use mathlib.Core.List.{List, [], _∷_, _++_}
-use Prim.Native.Nat.{ℕ, zero, suc, _+_, _*_, _/_, _%_, _^_, _≤_, _<_}
+use Prim.Native.Nat.{ℕ, zero, suc, _+_, _*_, _^_, _≤_, _<_}
 use lib.ListN.{length, take, getD}
 use Rattle.chain.specs.Written.{over}
 use Rattle.bits.specs.Bits.{value, bytesBits, pack, bytesFor, fieldAt}
@@ -54,8 +54,3 @@ window (suc n) l i = getD l i 0 ∷ window n l (suc i)
 pub record WordAt (n : ℕ) (file : List ℕ) (i r : ℕ) : Type 0 where
   pub is : r ≡ value (bytesBits (window n file i))
   pub small : r < 2 ^ (n * 8)
-
--- the lowest n bytes of a number, the highest first
-unfoldable pub spread : ℕ → ℕ → List ℕ
-spread zero x = []
-spread (suc n) x = x / 2 ^ (n * 8) % 256 ∷ spread n x

@@ -1,10 +1,9 @@
 // Bit fields, most significant bit first.
 ghost use mathlib.Core.Path.{_≡_};
-ghost use Prim.Native.Nat.{_+_, _*_, _%_, _^_, _≤_, _<_};
-ghost use lib.ListN.{length, take, getD};
-ghost use Rattle.chain.specs.Written.{laid};
+ghost use Prim.Native.Nat.{_+_, _*_, _≤_, _<_};
+ghost use lib.ListN.{length, getD};
 ghost use Rattle.bits.specs.Bits.{bits};
-ghost use Rattle.bits.specs.Inner.{spread, WordAt, FieldRoom, FieldTaken, TwoTaken, FieldFill, FieldStored};
+ghost use Rattle.bits.specs.Inner.{WordAt, FieldRoom, FieldTaken, TwoTaken, FieldFill, FieldStored};
 
 // A bit position of a file.
 pub struct Cursor {
@@ -89,47 +88,6 @@ fn gather(file: &[u8], i: usize) -> u64
     }
 }
 
-fn low_byte(x: u64) -> u8
-    ensures { λ r. ⌜ r ≡ x % 256 ⌝ }
-{
-    (x % 256) as u8
-}
-
-// The first count of the lowest four bytes of x, stored from i on, the first one with head added to it. Only that one waits for what the buffer held.
-fn scatter(buf: &mut [u8], i: usize, count: usize, head: u64, x: u64)
-    requires { ⌜ (1 ≤ count) × (count ≤ 4) × (i + count ≤ length (now buf)) × (head < 256) ⌝ }
-    ensures { λ _. ⌜ now (buf .exit) ≡ laid i (take count (spread 4 (head * 2 ^ 24 + x))) (now (buf .entry)) ⌝ }
-{
-    buf[i] = low_byte(head + (x >> 24));
-    if count < 2 {
-        return;
-    }
-    buf[i + 1] = low_byte(x >> 16);
-    if count < 3 {
-        return;
-    }
-    buf[i + 2] = low_byte(x >> 8);
-    if count < 4 {
-        return;
-    }
-    buf[i + 3] = low_byte(x);
-}
-
-// The same of the eight bytes of x. Most fields that are put fill four bytes or more, so the first four ask for no count.
-fn scatter_wide(buf: &mut [u8], i: usize, count: usize, head: u64, x: u64)
-    requires { ⌜ (1 ≤ count) × (count ≤ 8) × (i + count ≤ length (now buf)) × (head < 256) ⌝ }
-    ensures { λ _. ⌜ now (buf .exit) ≡ laid i (take count (spread 8 (head * 2 ^ 56 + x))) (now (buf .entry)) ⌝ }
-{
-    if count < 4 {
-        scatter(buf, i, count, head, x >> 32);
-        return;
-    }
-    scatter(buf, i, 4, head, x >> 32);
-    if count > 4 {
-        scatter(buf, i + 4, count - 4, 0, x);
-    }
-}
-
 impl Cursor {
     // The field of width bits at the cursor, and the cursor past it. Eight bytes cover it with a bit to spare, so that the shift stays below 64.
     pub fn take(self, file: &[u8], width: usize) -> Field
@@ -171,7 +129,7 @@ impl Cursor {
         let used = at % 8 + width;
         let right = 8 - at % 8;
         let head = (wide(buf[i]) >> right) << right;
-        scatter_wide(buf, i, (used + 7) / 8, head, value << (64 - used));
+        bytes::scatter_wide(buf, i, (used + 7) / 8, head, value << (64 - used));
         Cursor { at: at + width }
     }
 }

@@ -2,10 +2,10 @@
 use denote.Ref.{now}
 use native.Mathlib.Omega.{arith}
 use lib.ListN.{length-set}
-use Rattle.bits.proofs.Put.{stored-one, stored-two, stored-three, stored-four}
+use Rattle.bytes.proofs.Spread.{stored-one, stored-two, stored-three, stored-four}
 use borrow.Author.Needs.{needs}
-use Rattle.bits.proofs.scatter.Statement.{statement}
-use Rattle.bits.proofs.scatter.Tie as tie
+use Rattle.bytes.proofs.scatter.Statement.{statement}
+use Rattle.bytes.proofs.scatter.Tie as tie
 
 add-low-byte : tie.Need-add-low-byte
 add-low-byte c = search needs

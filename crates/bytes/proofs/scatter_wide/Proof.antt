@@ -2,10 +2,10 @@
 use denote.Ref.{now}
 use mathlib.Core.Path.{refl}
 use native.Mathlib.Omega.{arith}
-use Rattle.bits.proofs.Put.{stored-some, stored-more}
+use Rattle.bytes.proofs.Spread.{stored-some, stored-more}
 use borrow.Author.Needs.{needs}
-use Rattle.bits.proofs.scatter_wide.Statement.{statement}
-use Rattle.bits.proofs.scatter_wide.Tie as tie
+use Rattle.bytes.proofs.scatter_wide.Statement.{statement}
+use Rattle.bytes.proofs.scatter_wide.Tie as tie
 
 scatter-requires : tie.Need-scatter-requires
 scatter-requires c κs = search needs

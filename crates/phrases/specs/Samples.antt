@@ -1,7 +1,6 @@
 -- Samples of phrases, computed.
 use mathlib.Core.Path.{_≡_, refl}
-use mathlib.Core.List.{List, [], _∷_}
-use Prim.Native.Nat.{ℕ}
+use mathlib.Core.List.{[], _∷_}
 use lib.ListN.{length}
 use Rattle.chain.specs.Tests.{_<?_}
 use Rattle.chain.specs.Written.{over}

@@ -2,13 +2,13 @@
 use mathlib.Core.Path.{_≡_, refl, sym, ap, _∙_}
 use mathlib.Core.Bool.{Bool, true, false, cond}
 use mathlib.Core.List.{List, [], _∷_, _++_}
-use Prim.Native.Nat.{ℕ, zero, suc, _+_, _-_, _≤_, _<_}
+use Prim.Native.Nat.{ℕ, suc, _+_, _-_, _≤_, _<_}
 use native.Mathlib.Numerals.{add-one}
 use native.Mathlib.Omega.{arith}
 use lib.ListN.{length, getD, take, drop, drop-of-length-le}
 use lib.Seq.{drop-cons, drop-drop}
 use Rattle.chain.specs.Tests.{_<?_, _=?_, _≠?_, _or_}
-use Rattle.chain.specs.Chain.{mostColumns, mostPayslips}
+use Rattle.chain.specs.Chain.{mostPayslips}
 use Rattle.chain.specs.Written.{over, laid}
 use Rattle.chain.proofs.Rules.{lt-yes, lt-no, eq-yes, eq-no, ne-yes, ne-no, not-lt}
 use Rattle.chain.proofs.Written.{laid-nil, laid-length, laid-laid, over-laid}
@@ -18,11 +18,9 @@ use Rattle.text.specs.declared.Parsed.{Parsed}
 use Rattle.text.specs.declared.Parsed.the-variants.{Numbers, Fault}
 use Rattle.places.specs.declared.Read.{Read}
 use Rattle.places.specs.declared.Read.the-variants.{Values, Refused}
-use Rattle.places.specs.Places.{isCut, cutText}
 use Rattle.text.specs.Text.{Found, found, readText, Outcome, outcome}
 use Rattle.text.specs.Inner.{FoundTo, ReadTo}
 use Rattle.text.proofs.Reading.{text-count}
-use Rattle.text.proofs.Outcomes.{over-none}
 use Rattle.lines.specs.Lines.{linesOf, contentOf, tallyOf, fieldsIn}
 use Rattle.lines.specs.Inner.{untilNewline}
 use Rattle.lines.proofs.Lines.{line-first}

@@ -1,6 +1,6 @@
 -- Samples of tables, computed. What each text is stands in its row's comment, as in C.
 use mathlib.Core.Path.{_≡_, refl}
-use mathlib.Core.List.{List, [], _∷_, _++_}
+use mathlib.Core.List.{List, [], _∷_}
 use Prim.Native.Nat.{ℕ, zero, suc}
 use Rattle.chain.specs.Tests.{_<?_, _=?_, _≠?_, _or_}
 use Rattle.places.specs.declared.Read.the-variants.{Values, Refused}

@@ -20,7 +20,6 @@ use Rattle.text.specs.declared.Making.{Making}
 use Rattle.text.specs.declared.Making.the-variants.{Nothing, Number, Padded}
 use Rattle.text.specs.declared.Effect.{Effect}
 use Rattle.text.specs.declared.Effect.the-variants.{Becomes, Ends, Faulty}
-use Rattle.text.specs.declared.Parsed.{Parsed}
 use Rattle.text.specs.declared.Parsed.the-variants.{Numbers, Fault}
 use Rattle.text.specs.Text.{kindOf, endKind, kindsOf, grown, begun, effectOf, Found, found, before, follow, readFrom, readText}
 use Rattle.text.specs.Inner.{kindAt, FoundTo}

@@ -1,6 +1,6 @@
 -- Both ends of every range, and one past them.
 use mathlib.Core.List.{List, [], _∷_, _++_}
-use Prim.Native.Nat.{ℕ, zero, suc, _+_, _<_}
+use Prim.Native.Nat.{ℕ, _+_, _<_}
 use lib.ListN.{length, getD, replicate}
 use Rattle.chain.specs.Chain.{mostColumns, mostPayslips, mostSteps, mostAmount, by, pairs, flat, legalRule}
 use Rattle.chain.specs.declared.Step.{Step}

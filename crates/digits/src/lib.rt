@@ -1,7 +1,7 @@
-// Digits of numbers in base 2^k, powers of two, and the bit length.
+// Digits of numbers in base 2^k, and powers of two.
 ghost use mathlib.Core.Path.{_≡_};
 ghost use Prim.Native.Nat.{_*_, _^_, _≤_, _<_};
-ghost use Rattle.digits.specs.Digits.{digitCount, bitLength, digit};
+ghost use Rattle.digits.specs.Digits.{digitCount, digit};
 
 // 2^e
 pub fn power(e: usize) -> u32
@@ -37,27 +37,4 @@ pub fn digit(k: usize, x: u32, j: usize) -> u32
     ensures { λ r. ⌜ r ≡ digit k x j ⌝ }
 {
     (x >> (k * j)) % power(k)
-}
-
-// The bit length of a number from 1 to 16,383, by cases.
-pub fn bit_length(top: usize) -> usize
-    requires { ⌜ (1 ≤ top) × (top < 2 ^ 14) ⌝ }
-    ensures { λ r. ⌜ r ≡ bitLength top ⌝ }
-{
-    match top {
-        1 => 1,
-        2..=3 => 2,
-        4..=7 => 3,
-        8..=15 => 4,
-        16..=31 => 5,
-        32..=63 => 6,
-        64..=127 => 7,
-        128..=255 => 8,
-        256..=511 => 9,
-        512..=1023 => 10,
-        1024..=2047 => 11,
-        2048..=4095 => 12,
-        4096..=8191 => 13,
-        _ => 14,
-    }
 }

@@ -1,8 +1,8 @@
 -- In each range of the table the number lies between two powers of two, and so has the width that stands there.
 use native.Mathlib.Omega.{arith}
 use Rattle.digits.proofs.Count.{bit-length-is}
-use Rattle.digits.proofs.bit_length.Statement.{statement}
-use Rattle.digits.proofs.bit_length.Tie as tie
+use Rattle.width.proofs.bit_length.Statement.{statement}
+use Rattle.width.proofs.bit_length.Tie as tie
 
 returns : tie.Need-returns
 returns c = bit-length-is _ _ (omega arith) (omega arith) (omega arith)

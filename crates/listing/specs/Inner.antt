@@ -54,19 +54,19 @@ pub record LineAsked (bytes i p : ℕ) (table : List ℕ) (at : ℕ) (text : Lis
   pub table-whole : length table ≡ tableSize
   pub room : at + bytes ≤ length text
 
--- the lines of all payslips
+-- a whole table, and room for the lines of the first q payslips
 pub record LinesAsked (p q : ℕ) (table : List ℕ) (at : ℕ) (text : List ℕ) : Type 0 where
   pub sizes-low : SizesLow p q
   pub table-whole : length table ≡ tableSize
   pub room : at + mostLine * q ≤ length text
 
--- sizes that a file can have, and room for so many bytes
+-- sizes that are not too large for a file, and room for so many bytes
 pub record SizesAsked (bytes p q n : ℕ) (text : List ℕ) : Type 0 where
   pub sizes-low : SizesLow p q
   pub n-low : n ≤ edition1 .limit
   pub room : bytes ≤ length text
 
--- a chain's listing
+-- what the listing of a chain asks
 pub record ListingAsked (p q n : ℕ) (table text : List ℕ) : Type 0 where
   pub sizes : SizesAsked mostText p q n text
   pub table-whole : length table ≡ tableSize

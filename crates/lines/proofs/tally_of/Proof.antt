@@ -1,8 +1,6 @@
 -- At each turn the tally of the whole line is reached from that at hand by the bytes that are left.
 use borrow.Author.Needs.{needs}
-use mathlib.Core.Path.{refl}
 use Prim.Native.Nat.{_-_, _≤_}
-use native.Mathlib.Omega.{arith}
 use lib.ListN.{length}
 use Rattle.lines.proofs.Lines.{Tallies, tally-start, tally-room, tally-next, tally-end}
 use Rattle.lines.proofs.tally_of.Statement.{statement}

@@ -35,9 +35,9 @@ put-chain-requires : tie.Need-put-chain-requires
 put-chain-requires c κs =
     let k = c .before .before .before in
     let t = k .before .before .before .before .before .before in
-    let few = columns-few _ _ (t .measure-file .ensures .told-is) _ _ _ (k .p .given .1) in
-    let low = payslips-few _ _ (t .measure-file .ensures .told-is) _ _ _ (k .p .given .1) in
-    let short = steps-few _ _ (t .measure-file .ensures .told-is) _ _ _ (k .p .given .1) in
+    let columns = columns-few _ _ (t .measure-file .ensures .told-is) _ _ _ (k .p .given .1) in
+    let payslips = payslips-few _ _ (t .measure-file .ensures .told-is) _ _ _ (k .p .given .1) in
+    let steps = steps-few _ _ (t .measure-file .ensures .told-is) _ _ _ (k .p .given .1) in
     search needs
 
 returns : tie.Need-returns

@@ -74,9 +74,9 @@ loop-again c =
       b .column .kept .1 .1 .1 .0 ∙ l .loop .inv .1,
       g .gather .kept .1 .1 .1 .0 ∙ l .loop .inv .2,
       earliest-next (l .loop .c) (largeIn (s .args .p) (pairs (s .args .steps .now))) _ _ _ (c .earlier .ensures) (l .loop .inv .3) (b .column .ensures .place),
-      filled-on (s .args .p) (l .loop .c) (pairs (s .args .steps .now)) (s .args .outputs .now) _ _ _ _ _ _ _ (s .pre .chain-sound .outputs-fine) (s .pre .outputs-few)
-          (omega (arith, b .before .before .loop-test .taken, s .pre .chain-sound .steps-sound .p-low)) (l .loop .inv .2 ∙ s .pre .table-whole) (c .earlier .ensures) (b .column .ensures) (l .loop .inv .4)
-          (g .gather .ensures),
+      filled-on (s .args .p) (l .loop .c) (pairs (s .args .steps .now)) (s .args .outputs .now) _ _ _ _ _ _ _ (s .pre .chain-sound .outputs-fine)
+          (s .pre .outputs-few) (omega (arith, b .before .before .loop-test .taken, s .pre .chain-sound .steps-sound .p-low)) (l .loop .inv .2 ∙ s .pre .table-whole)
+          (c .earlier .ensures) (b .column .ensures) (l .loop .inv .4) (g .gather .ensures),
     )
 
 same-length : tie.Need-same-length Inv-loop μ-loop

@@ -50,6 +50,11 @@ unfoldable pub window : ℕ → List ℕ → ℕ → List ℕ
 window zero l i = []
 window (suc n) l i = getD l i 0 ∷ window n l (suc i)
 
+-- fewer than eight bytes are left in the file from i on
+pub record LastBytes (file : List ℕ) (i : ℕ) : Type 0 where
+  pub there : i ≤ length file
+  pub few : length file < i + 8
+
 -- r is the number of the n bytes from i on
 pub record WordAt (n : ℕ) (file : List ℕ) (i r : ℕ) : Type 0 where
   pub is : r ≡ value (bytesBits (window n file i))

@@ -3,7 +3,7 @@ ghost use mathlib.Core.Path.{_≡_};
 ghost use Prim.Native.Nat.{_+_, _*_, _≤_, _<_};
 ghost use lib.ListN.{length, getD};
 ghost use Rattle.bits.specs.Bits.{bits};
-ghost use Rattle.bits.specs.Inner.{WordAt, FieldRoom, FieldTaken, TwoTaken, FieldFill, FieldStored};
+ghost use Rattle.bits.specs.Inner.{LastBytes, WordAt, FieldRoom, FieldTaken, TwoTaken, FieldFill, FieldStored};
 
 // A bit position of a file.
 pub struct Cursor {
@@ -62,7 +62,7 @@ fn word(file: &[u8], i: usize) -> u64
 
 // The bytes from i to the end, fewer than eight, as the first of eight with 0 after them. A loop is short, so that what gathers is compiled into its callers.
 fn gather_last(file: &[u8], i: usize) -> u64
-    requires { ⌜ (i ≤ length (now file)) × (length (now file) < i + 8) ⌝ }
+    requires { ⌜ LastBytes (now file) i ⌝ }
     ensures { λ r. ⌜ WordAt 8 (now (file .entry)) i r ⌝ }
 {
     let mut x: u64 = 0;

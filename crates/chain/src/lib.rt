@@ -1,11 +1,11 @@
 // Chains: their limits, their steps, and their values picked by outputs. The rules that chains are judged by, and the laws of legal chains and of
 // exponents, stand beside in specs and proofs. Nothing here knows of methods, files or residues.
 ghost use mathlib.Core.Path.{_≡_};
-ghost use Prim.Native.Nat.{ℕ, _+_, _*_, _≤_, _<_};
-ghost use lib.ListN.{length, getD};
+ghost use Prim.Native.Nat.{_+_, _*_, _<_};
+ghost use lib.ListN.{length};
 ghost use Rattle.chain.specs.Chain.{pick};
 ghost use Rattle.chain.specs.Written.{over};
-ghost use Rattle.chain.specs.Inner.{stepAt};
+ghost use Rattle.chain.specs.Inner.{stepAt, FiguresAble};
 
 // The limits (Spec 1.1, 2.1, 1.2): columns, payslips, steps, amounts.
 pub const MOST_COLUMNS: usize = 16;
@@ -45,7 +45,7 @@ pub fn step_at(steps: &[u32], s: usize) -> Step
 
 // The outputs' values, over the front of the slice.
 pub fn show(outputs: &[u32], values: &[u32], figures: &mut [u32])
-    requires { ⌜ (length (now outputs) ≤ length (now figures)) × ((i : ℕ) → i < length (now outputs) → getD (now outputs) i 0 < length (now values)) ⌝ }
+    requires { ⌜ FiguresAble (now outputs) (length (now values)) (length (now figures)) ⌝ }
     ensures { λ r. ⌜ now (figures .exit) ≡ over (pick (now (values .entry)) (now (outputs .entry))) (now (figures .entry)) ⌝ }
 {
     let mut j: usize = 0;

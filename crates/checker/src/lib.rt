@@ -1,13 +1,15 @@
 // The check of a chain whose steps are lent flat.
 ghost use mathlib.Core.Path.{_≡_};
-ghost use Prim.Native.Nat.{_+_, _*_, _/_, _≤_, _<_};
+ghost use Prim.Native.Nat.{_+_, _/_};
 ghost use lib.ListN.{length, take};
-ghost use Rattle.chain.specs.Verdict.{fine, _then_};
-ghost use Rattle.chain.specs.Chain.{mostColumns, pairs, stepsRule, outputsRule, values, exponents};
+ghost use Rattle.chain.specs.Verdict.{_then_};
+ghost use Rattle.chain.specs.Chain.{pairs, values, exponents};
 ghost use Rattle.chain.specs.Judgement.{verdictOf};
+ghost use Rattle.chain.specs.Inner.{StepsSound};
 ghost use Rattle.verify.specs.Verify.{exponentsRule, payslipsRule, fittingRule, verifyAnswer, verifyScratch};
 ghost use Rattle.answers.specs.Answers.{verifiedOf};
 ghost use Rattle.verify.specs.Inner.{SummedUp, foundIn, ColumnsHeld};
+ghost use Rattle.checker.specs.Inner.{ColumnAsked, HoldAsked};
 use answers::Verified;
 use chain::Judgement;
 use verify::Found;
@@ -23,7 +25,7 @@ fn judge(p: usize, steps: &[u32], outputs: &[u32], amounts: &[u32], scratch: usi
 // One sum for each step, after the p + 1 values that stand in the scratch already, up to the first that is too large, which is not stored: its place,
 // 0 for none.
 fn sum(p: usize, steps: &[u32], scratch: &mut [u32]) -> usize
-    requires { ⌜ (p ≤ mostColumns) × (stepsRule p 1 (pairs (now steps)) ≡ fine) × (p + length (now steps) / 2 < length (now scratch)) ⌝ }
+    requires { ⌜ StepsSound p (now steps) (now scratch) ⌝ }
     ensures { λ r. ⌜ SummedUp p (values _+_ (take (p + 1) (now (scratch .entry)))) (pairs (now (steps .entry))) (now (scratch .entry))
         (now (scratch .exit)) r ⌝ }
 {
@@ -45,7 +47,7 @@ fn sum(p: usize, steps: &[u32], scratch: &mut [u32]) -> usize
 
 // The exponents of column c into the scratch, up to the first that is too large: its place, 0 for none.
 pub fn column(p: usize, c: usize, steps: &[u32], scratch: &mut [u32]) -> usize
-    requires { ⌜ (c < p) × (p ≤ mostColumns) × (stepsRule p 1 (pairs (now steps)) ≡ fine) × (p + length (now steps) / 2 < length (now scratch)) ⌝ }
+    requires { ⌜ ColumnAsked p c (now steps) (now scratch) ⌝ }
     ensures { λ r. ⌜ SummedUp p (exponents p c) (pairs (now (steps .entry))) (now (scratch .entry)) (now (scratch .exit)) r ⌝ }
 {
     columns::start(p, c, scratch);
@@ -54,9 +56,7 @@ pub fn column(p: usize, c: usize, steps: &[u32], scratch: &mut [u32]) -> usize
 
 // What is found column by column: each place the earliest over all columns.
 fn hold(p: usize, steps: &[u32], outputs: &[u32], amounts: &[u32], scratch: &mut [u32]) -> Found
-    requires { ⌜ (p ≤ mostColumns) × (stepsRule p 1 (pairs (now steps)) ≡ fine) ×
-        (outputsRule (p + length (pairs (now steps))) 1 (now outputs) ≡ fine) × (length (now amounts) ≡ p * length (now outputs)) ×
-        (p + length (now steps) / 2 < length (now scratch)) ⌝ }
+    requires { ⌜ HoldAsked p (now steps) (now outputs) (now amounts) (now scratch) ⌝ }
     ensures { λ r. ⌜ ColumnsHeld (foundIn r) (exponentsRule p (pairs (now (steps .entry))) then payslipsRule p (now (amounts .entry))
         (pairs (now (steps .entry))) (now (outputs .entry))) (p + length (now (steps .entry)) / 2 + 1) (now (scratch .entry))
         (now (scratch .exit)) ⌝ }

@@ -24,6 +24,11 @@ pub record FieldsFill (buf : List ℕ) (at w : ℕ) (l : List ℕ) : Type 0 wher
   pub small : (k : ℕ) → getD l k 0 < 2 ^ w
   pub clean : Clean buf at
 
+-- so have fields for the first n numbers of l
+pub record FrontFill (buf : List ℕ) (at w n : ℕ) (l : List ℕ) : Type 0 where
+  pub there : n ≤ length l
+  pub fill : FieldsFill buf at w (take n l)
+
 -- n fields of w bits lie within the file from position at on, and out has a cell for each
 pub record FieldsRoom (file : List ℕ) (at w n : ℕ) (out : List ℕ) : Type 0 where
   pub narrow : w ≤ widestNumber

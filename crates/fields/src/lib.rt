@@ -1,10 +1,10 @@
 // Lists of numbers as bit fields of one width.
 ghost use mathlib.Core.Path.{_≡_};
-ghost use Prim.Native.Nat.{_*_, _≤_};
-ghost use lib.ListN.{length, take};
+ghost use Prim.Native.Nat.{_*_};
+ghost use lib.ListN.{take};
 ghost use Rattle.bits.specs.Bits.{fields};
 ghost use Rattle.bits.specs.Inner.{FieldStored};
-ghost use Rattle.fields.specs.Inner.{FieldsFill, FieldsRoom, FieldsTaken};
+ghost use Rattle.fields.specs.Inner.{FrontFill, FieldsRoom, FieldsTaken};
 use bits::BitReader;
 use bits::Cursor;
 
@@ -17,7 +17,7 @@ fn wide(x: u32) -> u64
 // Writes the first count numbers of the list as fields of width bits, one after the other. Two at a time are put as one field of twice the width: each
 // put waits for the one before it.
 pub fn put_fields(buf: &mut [u8], from: Cursor, width: usize, list: &[u32], count: usize) -> Cursor
-    requires { ⌜ (count ≤ length (now list)) × FieldsFill (now buf) (from .at) width (take count (now list)) ⌝ }
+    requires { ⌜ FrontFill (now buf) (from .at) width count (now list) ⌝ }
     ensures { λ r. ⌜ FieldStored (now (buf .entry)) (from .at) (count * width)
         (fields width (take count (now (list .entry)))) (now (buf .exit)) (r .at) ⌝ }
 {

@@ -20,6 +20,11 @@ pub record Sized (L : Layout) (p q n : ℕ) : Type 0 where
   pub q-low : q ≤ mostPayslips
   pub n-low : n ≤ L .limit
 
+-- a layout that can be written and read back, and sizes that it holds
+pub record LayoutHolds (L : Layout) (p q n : ℕ) : Type 0 where
+  pub sound : SoundLayout L
+  pub sized : Sized L p q n
+
 -- sizes, with what they come to: the width of a field, where the steps begin, and the bits before the filling
 abbrev pub extentOf : Layout → ℕ → ℕ → ℕ → Extent
 extentOf L p q n =

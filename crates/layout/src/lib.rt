@@ -1,7 +1,7 @@
 // The layout of a chain's file, as a value, and what a chain's sizes come to in it.
 ghost use mathlib.Core.Path.{_≡_};
 ghost use Rattle.layout.specs.Layout.{edition1};
-ghost use Rattle.layout.specs.Inner.{SoundLayout, Sized, extentOf};
+ghost use Rattle.layout.specs.Inner.{LayoutHolds, extentOf};
 
 // An edition: its number, how many bits n has in its header, and the most steps that it holds.
 pub struct Layout {
@@ -52,7 +52,7 @@ pub struct Extent {
 }
 
 pub fn extent_of(layout: Layout, p: usize, q: usize, n: usize) -> Extent
-    requires { ⌜ SoundLayout layout × Sized layout p q n ⌝ }
+    requires { ⌜ LayoutHolds layout p q n ⌝ }
     ensures { λ r. ⌜ r ≡ extentOf layout p q n ⌝ }
 {
     let width = width::bit_length(p + n);

@@ -1,7 +1,7 @@
 -- Inner vocabulary: how the code finds lines and counts byte by byte, and bounds on what it counts. Nobody has to believe it to believe an entry point's promise.
 use mathlib.Core.Bool.{cond}
 use mathlib.Core.List.{List, [], _∷_}
-use Prim.Native.Nat.{ℕ, suc, _+_, _^_, _<_}
+use Prim.Native.Nat.{ℕ, suc, _+_, _^_, _≤_, _<_}
 use Rattle.chain.specs.Tests.{_=?_}
 use Rattle.decimal.specs.Decimal.{newline}
 use Rattle.text.specs.Text.{tab}
@@ -20,6 +20,11 @@ pub record Low (t : Tally) : Type 0 where
   pub commas-low : t .commas + 1 < 2 ^ 64
   pub digits-low : t .digits + 1 < 2 ^ 64
   pub words-low : t .words + 1 < 2 ^ 64
+
+-- what a byte more asks: a gap is 1 or 0
+pub record CountAsked (t : Tally) (gap : ℕ) : Type 0 where
+  pub low : Low t
+  pub gap-low : gap ≤ 1
 
 -- 1 for a blank
 unfoldable pub blankUnit : ℕ → ℕ

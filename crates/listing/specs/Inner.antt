@@ -1,11 +1,12 @@
--- Inner vocabulary: the table of amounts that is filled column by column, and how long the parts of a listing can be. Nobody has to believe it to believe
--- an entry point's promise.
+-- Inner vocabulary: the table of amounts that is filled column by column, how long the parts of a listing can be, and what the functions ask. Nobody has to
+-- believe it to believe an entry point's promise.
 use mathlib.Core.Path.{_≡_}
 use mathlib.Core.List.{List, [], _∷_}
-use Prim.Native.Nat.{ℕ, _+_, _*_, _<_}
-use lib.ListN.{getD}
+use Prim.Native.Nat.{ℕ, _+_, _*_, _≤_, _<_}
+use lib.ListN.{length, getD}
 use Rattle.chain.specs.Verdict.{Verdict, fine}
 use Rattle.chain.specs.Chain.{mostColumns, mostPayslips}
+use Rattle.chain.specs.Inner.{SizesLow, ChainSound, FiguresAble}
 use Rattle.layout.specs.Layout.{edition1}
 use Rattle.layout.specs.File.{columnsOf, payslipsOf, lengthOf}
 
@@ -45,3 +46,46 @@ mostLine = 2 + mostField * mostColumns + 1
 -- room for every listing
 abbrev pub mostText : ℕ
 mostText = mostSizes + mostLine * mostPayslips
+
+-- payslip i in a whole table, and room for so many bytes from a place on
+pub record LineAsked (bytes i p : ℕ) (table : List ℕ) (at : ℕ) (text : List ℕ) : Type 0 where
+  pub inside : i < mostPayslips
+  pub p-low : p ≤ mostColumns
+  pub table-whole : length table ≡ tableSize
+  pub room : at + bytes ≤ length text
+
+-- a whole table, and room for the lines of the first q payslips
+pub record LinesAsked (p q : ℕ) (table : List ℕ) (at : ℕ) (text : List ℕ) : Type 0 where
+  pub sizes-low : SizesLow p q
+  pub table-whole : length table ≡ tableSize
+  pub room : at + mostLine * q ≤ length text
+
+-- sizes that are not too large for a file, and room for so many bytes
+pub record SizesAsked (bytes p q n : ℕ) (text : List ℕ) : Type 0 where
+  pub sizes-low : SizesLow p q
+  pub n-low : n ≤ edition1 .limit
+  pub room : bytes ≤ length text
+
+-- what the listing of a chain asks
+pub record ListingAsked (p q n : ℕ) (table text : List ℕ) : Type 0 where
+  pub sizes : SizesAsked mostText p q n text
+  pub table-whole : length table ≡ tableSize
+
+-- a column of the table, with a cell for each of the outputs
+pub record GatherAsked (c : ℕ) (outputs values table : List ℕ) : Type 0 where
+  pub column-low : c < mostColumns
+  pub figures-able : FiguresAble outputs (length values) mostPayslips
+  pub table-whole : length table ≡ tableSize
+
+-- a chain whose amounts have room in the table
+pub record MeasureAsked (p : ℕ) (steps outputs scratch table : List ℕ) : Type 0 where
+  pub chain-sound : ChainSound p steps outputs scratch
+  pub outputs-few : length outputs ≤ mostPayslips
+  pub table-whole : length table ≡ tableSize
+
+-- room for every file
+pub record FileRoom (steps outputs scratch table : List ℕ) : Type 0 where
+  pub steps-whole : length steps ≡ 2 * edition1 .limit
+  pub outputs-whole : length outputs ≡ mostPayslips
+  pub scratch-whole : length scratch ≡ mostColumns + edition1 .limit + 1
+  pub table-whole : length table ≡ tableSize

@@ -1,18 +1,18 @@
 // The listing of a file, as text.
 ghost use mathlib.Core.Path.{_≡_};
 ghost use mathlib.Core.List.{[], _∷_};
-ghost use Prim.Native.Nat.{ℕ, _+_, _*_, _/_, _≤_, _<_};
+ghost use Prim.Native.Nat.{_+_, _*_, _≤_};
 ghost use lib.ListN.{length, getD};
-ghost use Rattle.chain.specs.Verdict.{fine, answer};
+ghost use Rattle.chain.specs.Verdict.{answer};
 ghost use Rattle.chain.specs.Written.{over, laid};
-ghost use Rattle.chain.specs.Chain.{mostColumns, mostPayslips, pairs, stepsRule, outputsRule, pick, exponentOf};
+ghost use Rattle.chain.specs.Chain.{mostPayslips, pairs, pick, exponentOf};
 ghost use Rattle.chain.specs.Judgement.{verdictOf};
 ghost use Rattle.verify.specs.Verify.{exponentsRule};
-ghost use Rattle.layout.specs.Layout.{edition1};
 ghost use Rattle.layout.specs.File.{columnsOf, payslipsOf};
 ghost use Rattle.answers.specs.Answers.{readOf};
 ghost use Rattle.listing.specs.Listing.{moreFields, lineOf, payslipLines, amountOf, listingRule, chainText, refusedText, listing};
-ghost use Rattle.listing.specs.Inner.{tableSize, amountIn, TableHolds, AmountsTold, sizesOf, mostField, mostSizes, mostLine, mostText};
+ghost use Rattle.listing.specs.Inner.{amountIn, TableHolds, AmountsTold, sizesOf, mostField, mostSizes, mostLine, mostText};
+ghost use Rattle.listing.specs.Inner.{LineAsked, LinesAsked, SizesAsked, ListingAsked, GatherAsked, MeasureAsked, FileRoom};
 ghost use Rattle.decimal.specs.Inner.{Put, PutShort};
 ghost use Rattle.decimal.specs.Decimal.{blank, decimal};
 ghost use Rattle.digits.specs.Range.{listTo};
@@ -43,7 +43,7 @@ fn put_field(x: u32, at: usize, text: &mut [u8]) -> usize
 
 // The amounts of payslip i, each after a blank. The table has a cell for every payslip that a sheet can have, column after column.
 fn put_amounts(i: usize, p: usize, table: &[u32], at: usize, text: &mut [u8]) -> usize
-    requires { ⌜ (i < mostPayslips) × (p ≤ mostColumns) × (length (now table) ≡ tableSize) × (at + mostField * p ≤ length (now text)) ⌝ }
+    requires { ⌜ LineAsked (mostField * p) i p (now table) at (now text) ⌝ }
     ensures { λ r. ⌜ PutShort (mostField * p) at (moreFields (listTo p (amountIn (now (table .entry)) i))) (now (text .entry)) r (now (text .exit)) ⌝ }
 {
     let mut end = at;
@@ -57,7 +57,7 @@ fn put_amounts(i: usize, p: usize, table: &[u32], at: usize, text: &mut [u8]) ->
 
 // The line of payslip i.
 fn put_payslip(i: usize, p: usize, table: &[u32], at: usize, text: &mut [u8]) -> usize
-    requires { ⌜ (i < mostPayslips) × (p ≤ mostColumns) × (length (now table) ≡ tableSize) × (at + mostLine ≤ length (now text)) ⌝ }
+    requires { ⌜ LineAsked mostLine i p (now table) at (now text) ⌝ }
     ensures { λ r. ⌜ PutShort mostLine at (lineOf (i + 1) (listTo p (amountIn (now (table .entry)) i))) (now (text .entry)) r (now (text .exit)) ⌝ }
 {
     let first = decimal::put_decimal(i + 1, at, text);
@@ -68,7 +68,7 @@ fn put_payslip(i: usize, p: usize, table: &[u32], at: usize, text: &mut [u8]) ->
 
 // The lines of the payslips.
 fn put_payslips(p: usize, q: usize, table: &[u32], at: usize, text: &mut [u8]) -> usize
-    requires { ⌜ (p ≤ mostColumns) × (q ≤ mostPayslips) × (length (now table) ≡ tableSize) × (at + mostLine * q ≤ length (now text)) ⌝ }
+    requires { ⌜ LinesAsked p q (now table) at (now text) ⌝ }
     ensures { λ r. ⌜ Put at (payslipLines p (amountIn (now (table .entry))) q) (now (text .entry)) r (now (text .exit)) ⌝ }
 {
     let mut end = at;
@@ -82,7 +82,7 @@ fn put_payslips(p: usize, q: usize, table: &[u32], at: usize, text: &mut [u8]) -
 
 // The line `p q n`.
 fn put_sizes(p: usize, q: usize, n: usize, text: &mut [u8]) -> usize
-    requires { ⌜ (p ≤ mostColumns) × (q ≤ mostPayslips) × (n ≤ edition1 .limit) × (mostSizes ≤ length (now text)) ⌝ }
+    requires { ⌜ SizesAsked mostSizes p q n (now text) ⌝ }
     ensures { λ r. ⌜ PutShort mostSizes 0 (lineOf p (q ∷ n ∷ [])) (now (text .entry)) r (now (text .exit)) ⌝ }
 {
     let first = decimal::put_decimal(p, 0, text);
@@ -94,7 +94,7 @@ fn put_sizes(p: usize, q: usize, n: usize, text: &mut [u8]) -> usize
 
 // The listing of a chain whose amounts stand in the table.
 fn put_chain(p: usize, q: usize, n: usize, table: &[u32], text: &mut [u8]) -> usize
-    requires { ⌜ (p ≤ mostColumns) × (q ≤ mostPayslips) × (n ≤ edition1 .limit) × (length (now table) ≡ tableSize) × (mostText ≤ length (now text)) ⌝ }
+    requires { ⌜ ListingAsked p q n (now table) (now text) ⌝ }
     ensures { λ r. ⌜ Put 0 (chainText p q n (amountIn (now (table .entry)))) (now (text .entry)) r (now (text .exit)) ⌝ }
 {
     let at = put_sizes(p, q, n, text);
@@ -114,8 +114,7 @@ fn put_refused(number: u32, text: &mut [u8]) -> usize
 
 // The amounts of column c at the outputs, into the column's cells of the table.
 fn gather(c: usize, outputs: &[u32], values: &[u32], table: &mut [u32])
-    requires { ⌜ (c < mostColumns) × (length (now outputs) ≤ mostPayslips) × (length (now table) ≡ tableSize) ×
-        ((i : ℕ) → i < length (now outputs) → getD (now outputs) i 0 < length (now values)) ⌝ }
+    requires { ⌜ GatherAsked c (now outputs) (now values) (now table) ⌝ }
     ensures { λ r. ⌜ now (table .exit) ≡ laid (mostPayslips * c) (pick (now (values .entry)) (now (outputs .entry))) (now (table .entry)) ⌝ }
 {
     chain::show(outputs, values, &mut table[chain::MOST_PAYSLIPS * c..]);
@@ -129,9 +128,7 @@ fn measure(
     scratch: &mut [u32],
     table: &mut [u32],
 ) -> Judgement
-    requires { ⌜ (p ≤ mostColumns) × (stepsRule p 1 (pairs (now steps)) ≡ fine) ×
-        (outputsRule (p + length (pairs (now steps))) 1 (now outputs) ≡ fine) × (length (now outputs) ≤ mostPayslips) ×
-        (p + length (now steps) / 2 < length (now scratch)) × (length (now table) ≡ tableSize) ⌝ }
+    requires { ⌜ MeasureAsked p (now steps) (now outputs) (now scratch) (now table) ⌝ }
     ensures { λ r. ⌜ AmountsTold (verdictOf r) (exponentsRule p (pairs (now (steps .entry)))) (verdictOf r)
         (TableHolds (now (table .exit)) (length (now (outputs .entry))) p (λ i c. exponentOf p (pairs (now (steps .entry))) c (getD (now (outputs .entry)) i 0))) ⌝ }
 {
@@ -157,8 +154,7 @@ fn measure_file(
     scratch: &mut [u32],
     table: &mut [u32],
 ) -> Reading
-    requires { ⌜ (length (now steps) ≡ 2 * edition1 .limit) × (length (now outputs) ≡ mostPayslips) × (length (now scratch) ≡ mostColumns + edition1 .limit + 1) ×
-        (length (now table) ≡ tableSize) ⌝ }
+    requires { ⌜ FileRoom (now steps) (now outputs) (now scratch) (now table) ⌝ }
     ensures { λ r. ⌜ AmountsTold (readOf r) (answer (listingRule (now (bytes .entry))) (sizesOf (now (bytes .entry)))) (listingRule (now (bytes .entry)))
         (TableHolds (now (table .exit)) (payslipsOf (now (bytes .entry))) (columnsOf (now (bytes .entry))) (amountOf (now (bytes .entry)))) ⌝ }
 {

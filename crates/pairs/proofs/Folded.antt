@@ -75,9 +75,9 @@ module _ (steps : List Step) (i room : ℕ) (h : i < length steps) (small : leng
   unfolding Able Ready
   able-ready (Judging p) a = omega arith
   able-ready (Multiplying p m inverse) a =
-      let k = low p (a .2) in
-      let fits = a .3 in
-      (a .0, a .1, omega arith, omega (arith, k .first-low), omega (arith, k .second-low))
+      let k = low p (a .1) in
+      let fits = a .2 in
+      (a .0, omega arith, omega (arith, k .first-low), omega (arith, k .second-low))
   able-ready (Adding p) a =
       let k = low p (a .0) in
       let fits = a .1 in

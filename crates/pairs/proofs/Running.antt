@@ -9,6 +9,7 @@ use lib.ListN.{length, getD, take}
 use Rattle.chain.specs.Verdict.{Verdict, fine, refused, _then_, Answer, answer, onFine}
 use Rattle.chain.specs.Written.{over}
 use Rattle.chain.specs.Chain.{by, pairs, flat, stepsRule, values, pick}
+use Rattle.chain.specs.Inner.{FiguresAble}
 use Rattle.chain.specs.declared.Step.{Step}
 use Rattle.chain.proofs.Rules.{then-assoc, then-fine}
 use Rattle.chain.proofs.Pairs.{pairs-flat}
@@ -21,7 +22,7 @@ use Rattle.rest.proofs.Rest.{rest-parts}
 use Rattle.run.specs.Inner.{startRule, figuresRule}
 use Rattle.run.proofs.Parts.{run-parts, started}
 use Rattle.run.proofs.Runnable.{runnable, fill-all, show-all, outputs-are-values}
-use Rattle.pairs.specs.Inner.{foundBy, unless, Left, left, afterStep, afterSteps, Able, RunAble, RunStarted, FiguresAble, RunEnded}
+use Rattle.pairs.specs.Inner.{foundBy, unless, Left, left, afterStep, afterSteps, Able, RunAble, RunStarted, RunEnded}
 use Rattle.pairs.specs.declared.Task.{Task}
 use Rattle.pairs.specs.declared.Task.the-variants.{Judging, Multiplying, Refused}
 use Rattle.pairs.proofs.Folded.{flat-half, flat-step, none-gone}
@@ -111,7 +112,7 @@ module _ (p : ℕ) (steps : List Step) (outputs : List ℕ) (m : ℕ) (bases zs 
             by-verdict : (v : Verdict) → rule ≡ v → Able (unless v (Multiplying p m (inverseOf m))) steps (length l₃)
             by-verdict fine e =
                 let a = runnable p steps outputs m bases (length zs) places e in
-                (a .modulus, refl, a .steps-fine, omega (arith, a .values-fit))
+                (record { modulus = a .modulus; inverse-is = refl }, a .steps-fine, omega (arith, a .values-fit))
             by-verdict (refused n s) e = tt
 
         module _ (len : length l₃ ≡ length zs) (t₄ : Task) (l₄ : List ℕ) (passed′ : Passed t₃ l₃ t₄ l₄) where

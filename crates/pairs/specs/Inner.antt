@@ -10,7 +10,7 @@ use Rattle.chain.specs.Written.{over}
 use Rattle.chain.specs.Chain.{mostColumns, mostSteps, mostAmount, by, stepRule, stepsRule, pick}
 use Rattle.chain.specs.declared.Step.{Step}
 use Rattle.residue.specs.Residue.{timesMod}
-use Rattle.residue.specs.Inner.{inverseOf}
+use Rattle.residue.specs.Inner.{inverseOf, TimesAsked}
 use Rattle.verify.specs.Inner.{takenUp, foundIn}
 use Rattle.verify.specs.declared.Found.{Found}
 use Rattle.pairs.specs.declared.Task.{Task}
@@ -59,7 +59,7 @@ afterSteps t l steps (suc i) = afterStep (afterSteps t l steps i .task) (afterSt
 unfoldable pub Ready : Task → ℕ → Step → ℕ → Type 0
 Ready (Judging p) i x room = p + i + 1 < 2 ^ 64
 Ready (Multiplying p m inverse) i x room =
-    (0 < m) × (inverse ≡ inverseOf m) × (p + i + 1 < room) × (x .first < room) × (x .second < room)
+    TimesAsked m inverse × (p + i + 1 < room) × (x .first < room) × (x .second < room)
 Ready (Adding p) i x room = (p + i + 1 < room) × (x .first < room) × (x .second < room)
 Ready (Refused n s) i x room = Unit {0}
 
@@ -67,7 +67,7 @@ Ready (Refused n s) i x room = Unit {0}
 unfoldable pub Able : Task → List Step → ℕ → Type 0
 Able (Judging p) steps room = p ≤ mostColumns
 Able (Multiplying p m inverse) steps room =
-    (0 < m) × (inverse ≡ inverseOf m) × (stepsRule p 1 steps ≡ fine) × (p + length steps < room)
+    TimesAsked m inverse × (stepsRule p 1 steps ≡ fine) × (p + length steps < room)
 Able (Adding p) steps room = (stepsRule p 1 steps ≡ fine) × (p + length steps < room)
 Able (Refused n s) steps room = Unit {0}
 
@@ -82,11 +82,6 @@ pub record RunAble (p n m : ℕ) (bases : List ℕ) : Type 0 where
 pub record RunStarted (v : Verdict) (p m : ℕ) (bases old new : List ℕ) (r : Task) : Type 0 where
   pub task-is : r ≡ unless v (Multiplying p m (inverseOf m))
   pub values-are : new ≡ onFine v (over (1 % m ∷ bases) old) old
-
--- what its figures ask
-pub record FiguresAble (outputs : List ℕ) (values figures : ℕ) : Type 0 where
-  pub figures-fit : length outputs ≤ figures
-  pub outputs-within : (i : ℕ) → i < length outputs → getD outputs i 0 < values
 
 -- a run that ends: the figures are the outputs' values where v is fine
 pub record RunEnded (v : Verdict) (n : ℕ) (outputs values values′ old new : List ℕ) (r : Answer) : Type 0 where

@@ -4,7 +4,7 @@ use Prim.Native.Nat.{ℕ, _+_, _-_, _*_, _/_, _%_, _^_, _≤_, _<_}
 use native.Mathlib.Nat.{le-of-lt, le-trans, le-of-eq, lt-of-le-of-lt, suc-mul, mul-assoc, mul-comm, mul-right-comm, mul-add, add-mul, mul-le-mul-left}
 use native.Mathlib.Nat.{mul-le-mul-right, le-of-mul-le-mul-right, lt-of-mul-lt-mul-right, div-mul-le-self, lt-div-mul-add, mul-add-mod-self-left}
 use native.Mathlib.Omega.{arith}
-use Rattle.residue.specs.Inner.{inverseOf}
+use Rattle.residue.specs.Inner.{TimesAsked}
 use Rattle.residue.proofs.Width.{product-fits}
 
 module _ (B m v z : ℕ) (below : v * m < B) (close : B ≤ v * m + m) (small : z < B) where
@@ -60,8 +60,7 @@ take-off m z q under near = record { low = short z (q * m) (m + m) under near; s
 pub record Taken (x y m v q : ℕ) : Type 0 where
   pub x-low : x < 2 ^ 32
   pub y-low : y < 2 ^ 32
-  pub some : 0 < m
-  pub kept : v ≡ inverseOf m
+  pub asked : TimesAsked m v
   pub taken : q ≡ x * y * v / 2 ^ 64
 
 module _ {x y m v q : ℕ} (t : Taken x y m v q) where
@@ -69,10 +68,10 @@ module _ {x y m v q : ℕ} (t : Taken x y m v q) where
   small = product-fits 32 (t .x-low) (t .y-low)
 
   below : v * m < 2 ^ 64
-  below = rw (t .kept) (omega (arith, div-mul-le-self (2 ^ 64 - 1) m))
+  below = rw (t .asked .inverse-is) (omega (arith, div-mul-le-self (2 ^ 64 - 1) m))
 
   close : 2 ^ 64 ≤ v * m + m
-  close = rw (t .kept) (lt-div-mul-add {a = 2 ^ 64 - 1} (t .some))
+  close = rw (t .asked .inverse-is) (lt-div-mul-add {a = 2 ^ 64 - 1} (t .asked .modulus))
 
   pub taken-under : q * m ≤ x * y
   taken-under = rw (t .taken) (not-over (2 ^ 64) m v (x * y) below close small)

@@ -2,7 +2,7 @@
 ghost use mathlib.Core.Path.{_≡_};
 ghost use Prim.Native.Nat.{_*_, _/_, _^_, _<_};
 ghost use Rattle.residue.specs.Residue.{timesMod};
-ghost use Rattle.residue.specs.Inner.{inverseOf};
+ghost use Rattle.residue.specs.Inner.{inverseOf, TimesAsked};
 
 // A number of 64 bits has two digits in this base.
 const BASE: u64 = 4294967296;
@@ -31,7 +31,7 @@ pub fn inverse(m: u32) -> u64
 // The product of two numbers of 32 bits modulo m, in 64 bits. The quotient taken is the right one or one less, so m is to be taken off what is left once
 // more, unless that wraps.
 pub fn times(x: u32, y: u32, m: u32, inverse: u64) -> u32
-    requires { ⌜ (0 < m) × (inverse ≡ inverseOf m) ⌝ }
+    requires { ⌜ TimesAsked m inverse ⌝ }
     ensures { λ r. ⌜ r ≡ timesMod m x y ⌝ }
 {
     let product = (x as u64) * (y as u64);

@@ -1,14 +1,14 @@
 // The run of a chain whose steps are lent flat.
 ghost use mathlib.Core.Path.{_≡_};
-ghost use Prim.Native.Nat.{_+_, _/_, _≤_, _<_};
+ghost use Prim.Native.Nat.{_+_};
 ghost use lib.ListN.{length, take};
-ghost use Rattle.chain.specs.Verdict.{fine};
 ghost use Rattle.chain.specs.Judgement.{verdictOf};
 ghost use Rattle.chain.specs.Written.{over};
-ghost use Rattle.chain.specs.Chain.{mostColumns, pairs, stepsRule, values};
+ghost use Rattle.chain.specs.Chain.{pairs, values};
 ghost use Rattle.residue.specs.Residue.{timesMod};
 ghost use Rattle.run.specs.Run.{residues, runRule, runAnswer, runValues, runFigures};
 ghost use Rattle.answers.specs.Answers.{ranOf};
+ghost use Rattle.runner.specs.Inner.{MultiplyAsked, FillAsked};
 use answers::Ran;
 use chain::Judgement;
 
@@ -31,7 +31,7 @@ fn judge(
 
 // Each step's product, after the p + 1 values that stand in the slice. The modulus is inverted once for all of them.
 fn multiply(p: usize, steps: &[u32], m: u32, cells: &mut [u32])
-    requires { ⌜ (0 < m) × (p ≤ mostColumns) × (stepsRule p 1 (pairs (now steps)) ≡ fine) × (p + length (now steps) / 2 < length (now cells)) ⌝ }
+    requires { ⌜ MultiplyAsked p (now steps) m (now cells) ⌝ }
     ensures { λ r. ⌜ now (cells .exit) ≡ over (values (timesMod m) (take (p + 1) (now (cells .entry))) (pairs (now (steps .entry)))) (now (cells .entry)) ⌝ }
 {
     let n = steps.len() / 2;
@@ -48,8 +48,7 @@ fn multiply(p: usize, steps: &[u32], m: u32, cells: &mut [u32])
 
 // All values of the chain, over the front of the slice.
 fn fill(p: usize, steps: &[u32], m: u32, bases: &[u32], values: &mut [u32])
-    requires { ⌜ (0 < m) × (p ≤ mostColumns) × (length (now bases) ≡ p) × (stepsRule p 1 (pairs (now steps)) ≡ fine) ×
-        (p + length (now steps) / 2 < length (now values)) ⌝ }
+    requires { ⌜ FillAsked p (now steps) m (now bases) (now values) ⌝ }
     ensures { λ r. ⌜ now (values .exit) ≡ over (residues m (now (bases .entry)) (pairs (now (steps .entry)))) (now (values .entry)) ⌝ }
 {
     run::start(m, bases, values);

@@ -1,15 +1,15 @@
 // Sheets: the number of amounts, and an amount by its payslip and column.
 ghost use mathlib.Core.Path.{_≡_};
-ghost use Prim.Native.Nat.{_+_, _*_, _≤_, _<_};
+ghost use Prim.Native.Nat.{_+_, _*_, _<_};
 ghost use lib.ListN.{length};
-ghost use Rattle.chain.specs.Chain.{mostColumns, mostPayslips};
 ghost use Rattle.chain.specs.Judgement.{verdictOf};
+ghost use Rattle.chain.specs.Inner.{SizesLow};
 ghost use Rattle.sheet.specs.Sheet.{amount, amountsRule, sheetRule};
 use chain::Judgement;
 
 // 2: the amounts are not p times q.
 pub fn judge_amounts(p: usize, q: usize, amounts: &[u32]) -> Judgement
-    requires { ⌜ (p ≤ mostColumns) × (q ≤ mostPayslips) ⌝ }
+    requires { ⌜ SizesLow p q ⌝ }
     ensures { λ r. ⌜ verdictOf r ≡ amountsRule p q (now (amounts .entry)) ⌝ }
 {
     if amounts.len() != p * q {

@@ -15,7 +15,7 @@ use Rattle.bits.specs.Inner.{filed, FieldStored}
 use Rattle.bits.proofs.Values.{length-bits}
 use Rattle.bits.proofs.Fields.{length-fields}
 use Rattle.bits.proofs.Filed.{put-next, filed-more}
-use Rattle.fields.specs.Inner.{Clean, FieldsFill}
+use Rattle.fields.specs.Inner.{Clean, FrontFill}
 use Rattle.layout.specs.declared.Layout.{Layout}
 use Rattle.layout.specs.declared.Extent.{Extent}
 use Rattle.layout.specs.File.{headerBits, headerSize, width, widest, fileBits, fileOf, bitCount, byteCount, writeRule}
@@ -110,8 +110,7 @@ module _ (L : Layout) (extent : Extent) (l o old : List ℕ) (to : ToWrite L ext
   pub header-fill : HeaderFill L extent old
   header-fill =
       record {
-        sound = to .sound;
-        sized = sized;
+        holds = record { sound = to .sound; sized = sized };
         q-some = omega (arith, is-payslips, ok .held .sizes .q-some);
         room = omega (arith, ok .room, to .sound .long);
       }
@@ -145,18 +144,20 @@ module _ (L : Layout) (extent : Extent) (l o old : List ℕ) (to : ToWrite L ext
   small x h = subst (λ (k : ℕ). x < 2 ^ k) (ap (width p) (length-pairs l ∙ sym few) ∙ sym is-width) h
 
   module _ (m : List ℕ) (a : ℕ) (s : FieldStored old 0 (headerSize L) (headerBits L p q n) m a) (same : length m ≡ length old) where
-    pub steps-room : (2 * n ≤ length l) × FieldsFill m a w (take (2 * n) l)
-    steps-room = (
-      omega (arith, few),
-      record {
-        narrow = omega (arith, narrow);
-        some = wide;
-        within = omega (arith, length-front, count, short, s .moved);
-        fits = omega (arith, length-front, count, low, s .moved);
-        small = λ k. small (getD (take (2 * n) l) k 0) (rw front (operands-small p (pairs l) o (ok .held .chain) k));
-        clean = filed-clean (headerBits L p q n) old m a (omega (arith, length-header L p q n, s .moved)) (s .is);
-      },
-    )
+    pub steps-room : FrontFill m a w (2 * n) l
+    steps-room =
+        record {
+          there = omega (arith, few);
+          fill =
+              record {
+                narrow = omega (arith, narrow);
+                some = wide;
+                within = omega (arith, length-front, count, short, s .moved);
+                fits = omega (arith, length-front, count, low, s .moved);
+                small = λ k. small (getD (take (2 * n) l) k 0) (rw front (operands-small p (pairs l) o (ok .held .chain) k));
+                clean = filed-clean (headerBits L p q n) old m a (omega (arith, length-header L p q n, s .moved)) (s .is);
+              };
+        }
 
     module _ (m′ : List ℕ) (a′ : ℕ) (t : FieldStored m a (2 * n * w) (fields w (take (2 * n) l)) m′ a′) (same′ : length m′ ≡ length m) where
       abbrev begun : List Bool
@@ -182,18 +183,20 @@ module _ (L : Layout) (extent : Extent) (l o old : List ℕ) (to : ToWrite L ext
       same-size : length o * w ≡ q * w
       same-size = ap (λ (k : ℕ). k * w) (sym is-payslips)
 
-      pub outputs-room : (length o ≤ length o) × FieldsFill m′ a′ w (take (length o) o)
-      outputs-room = (
-        omega arith,
-        record {
-          narrow = omega (arith, narrow);
-          some = wide;
-          within = rw take-length (omega (arith, same-size, count, short, s .moved, t .moved));
-          fits = rw take-length (omega (arith, same-size, count, low, s .moved, t .moved));
-          small = λ k. small (getD (take (length o) o) k 0) (rw take-length (outputs-small p (pairs l) o (ok .held .chain) k));
-          clean = filed-clean begun old m′ a′ length-begun filed-begun;
-        },
-      )
+      pub outputs-room : FrontFill m′ a′ w (length o) o
+      outputs-room =
+          record {
+            there = omega arith;
+            fill =
+                record {
+                  narrow = omega (arith, narrow);
+                  some = wide;
+                  within = rw take-length (omega (arith, same-size, count, short, s .moved, t .moved));
+                  fits = rw take-length (omega (arith, same-size, count, low, s .moved, t .moved));
+                  small = λ k. small (getD (take (length o) o) k 0) (rw take-length (outputs-small p (pairs l) o (ok .held .chain) k));
+                  clean = filed-clean begun old m′ a′ length-begun filed-begun;
+                };
+          }
 
       pub file-stored : (m″ : List ℕ) (a″ : ℕ) → FieldStored m′ a′ (length o * w) (fields w (take (length o) o)) m″ a″
           → m″ ≡ over (fileOf L p (pairs l) o) old

@@ -8,12 +8,11 @@ use Rattle.chain.specs.Chain.{pairs}
 use Rattle.layout.specs.declared.Layout.{Layout}
 use Rattle.layout.specs.declared.Extent.{Extent}
 use Rattle.layout.specs.File.{writeRule, writeAnswer, writeBytes}
-use Rattle.layout.specs.Inner.{SoundLayout, Sized, extentOf}
+use Rattle.layout.specs.Inner.{SoundLayout, LayoutHolds, extentOf}
 
 -- a header that may be put into bytes
 pub record HeaderFill (L : Layout) (s : Extent) (bytes : List ℕ) : Type 0 where
-  pub sound : SoundLayout L
-  pub sized : Sized L (s .p) (s .q) (s .n)
+  pub holds : LayoutHolds L (s .p) (s .q) (s .n)
   pub q-some : 1 ≤ s .q
   pub room : 4 ≤ length bytes
 

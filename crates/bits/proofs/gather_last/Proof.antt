@@ -13,7 +13,7 @@ abbrev μ-loop : tie.MeasureT-loop
 μ-loop file i x₀ j₀ x j = length file - (i + j)
 
 loop-holds : tie.Need-loop-holds Inv-loop μ-loop
-loop-holds c = gather-start _ _ (c .before .pre .0)
+loop-holds c = gather-start _ _ (c .before .pre .there)
 
 add-loop : tie.Need-add-loop Inv-loop μ-loop
 add-loop c = search needs
@@ -36,7 +36,7 @@ shl-x c = search needs
 add-x : tie.Need-add-x Inv-loop μ-loop
 add-x c =
     let l = c .before in
-    record { fits = gather-fits _ _ _ _ (l .before .loop .inv) (l .before .before .before .pre .1) (l .loop-test .taken) _ (c .byte .ensures) }
+    record { fits = gather-fits _ _ _ _ (l .before .loop .inv) (l .before .before .before .pre .few) (l .loop-test .taken) _ (c .byte .ensures) }
 
 add-j : tie.Need-add-j Inv-loop μ-loop
 add-j c = search needs
@@ -47,7 +47,7 @@ loop-less c = search needs
 loop-again : tie.Need-loop-again Inv-loop μ-loop
 loop-again c =
     let l = c .before in
-    gather-on _ _ _ _ (l .before .loop .inv) (l .before .before .before .pre .1) (l .loop-test .taken) _ (c .byte .ensures)
+    gather-on _ _ _ _ (l .before .loop .inv) (l .before .before .before .pre .few) (l .loop-test .taken) _ (c .byte .ensures)
 
 returns : tie.Need-returns Inv-loop μ-loop
 returns c = gather-end _ _ _ _ (c .before .loop .inv) (c .loop-test .left)

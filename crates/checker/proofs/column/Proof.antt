@@ -19,7 +19,7 @@ returns c =
     let b = c .before .before in
     let k = b .before .before .before .before in
     let start = k .before .before .before .before in
-    start-summed _ _ _ (start .pre .0) (pairs (start .args .steps .now)) _ _ _ (k .start .ensures) (b .sum .ensures)
+    start-summed _ _ _ (start .pre .column) (pairs (start .args .steps .now)) _ _ _ (k .start .ensures) (b .sum .ensures)
 
 pub column-spec : {M : Type 1} → statement M
 column-spec = tie.close (tie.spec start-requires sum-requires same-length returns)

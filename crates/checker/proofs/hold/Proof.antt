@@ -34,14 +34,14 @@ take-up-requires c κs =
     let start = b .before .before .before .before .before .before .before .before in
     record {
       column = b .before .before .loop-test .taken;
-      amounts-fit = start .pre .3;
+      amounts-fit = start .pre .amounts-fit;
       outputs-within = λ i h. omega (
         arith,
-        outputs-low (start .args .p + length (pairs (start .args .steps .now))) 1 (start .args .outputs .now) (start .pre .2) i h,
+        outputs-low (start .args .p + length (pairs (start .args .steps .now))) 1 (start .args .outputs .now) (start .pre .chain-sound .outputs-fine) i h,
         length-pairs (start .args .steps .now),
         b .column .kept .1 .1 .1 .0,
         l .inv .1,
-        start .pre .4,
+        start .pre .chain-sound .steps-sound .room,
       );
     }
 
@@ -59,7 +59,7 @@ loop-again c =
     let top = ap (λ (n : ℕ). start .args .p + n + 1) (sym (length-pairs (start .args .steps .now))) in (
       search needs,
       b .column .kept .1 .1 .1 .0 ∙ l .inv .1,
-      held-next _ _ (pairs (start .args .steps .now)) _ _ _ _ _ _ _ (start .pre .2) (b .column .ensures) (c .take-up .ensures) (l .inv .2),
+      held-next _ _ (pairs (start .args .steps .now)) _ _ _ _ _ _ _ (start .pre .chain-sound .outputs-fine) (b .column .ensures) (c .take-up .ensures) (l .inv .2),
       summed-past _ _ _ (pairs (start .args .steps .now)) _ _ _ top (b .column .ensures) ∙ l .inv .3,
     )
 

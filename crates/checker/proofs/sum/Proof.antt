@@ -41,7 +41,7 @@ slice-read-plus : tie.Need-slice-read-plus Inv-loop μ-loop
 slice-read-plus c =
     let l = c .before .before .before .before .before in
     let t = c .before .before .before .before .loop-test .taken in
-    first-within _ _ _ _ _ (c .before .before .before .step-at .ensures) t (l .before .before .before .pre .1) (l .loop .inv .2)
+    first-within _ _ _ _ _ (c .before .before .before .step-at .ensures) t (l .before .before .before .pre .steps-fine) (l .loop .inv .2)
 
 mul-plus-2 : tie.Need-mul-plus-2 Inv-loop μ-loop
 mul-plus-2 c = search (needs, within)
@@ -50,7 +50,7 @@ slice-read-plus-2 : tie.Need-slice-read-plus-2 Inv-loop μ-loop
 slice-read-plus-2 c =
     let l = c .before .before .before .before .before .before in
     let t = c .before .before .before .before .before .loop-test .taken in
-    second-within _ _ _ _ _ (c .before .before .before .before .step-at .ensures) t (l .before .before .before .pre .1) (l .loop .inv .2)
+    second-within _ _ _ _ _ (c .before .before .before .before .step-at .ensures) t (l .before .before .before .pre .steps-fine) (l .loop .inv .2)
 
 plus-requires : tie.Need-plus-requires Inv-loop μ-loop
 plus-requires c κs = search needs
@@ -71,7 +71,7 @@ returns c =
     let start = l .before .before .before .pre in
     record {
       place =
-          sum-bad _ _ _ _ _ _ _ _ (record { there = b .before .loop-test .taken; legal = start .1; room = start .2 }) (b .step-at .ensures)
+          sum-bad _ _ _ _ _ _ _ _ (record { there = b .before .loop-test .taken; legal = start .steps-fine; room = start .room }) (b .step-at .ensures)
           (c .before .plus .ensures) (l .loop .inv .3) (c .if1 .taken) (l .loop .inv .4);
       cells = search sums-stopped;
     }
@@ -106,7 +106,7 @@ loop-again c =
       simp length-set (search needs),
       simp length-set (search needs),
       search fill-on,
-      sum-on _ _ _ _ _ _ _ _ (record { there = b .before .loop-test .taken; legal = start .1; room = start .2 }) (b .step-at .ensures)
+      sum-on _ _ _ _ _ _ _ _ (record { there = b .before .loop-test .taken; legal = start .steps-fine; room = start .room }) (b .step-at .ensures)
           (c .before .plus .ensures) (l .loop .inv .3) (c .if1 .left) (l .loop .inv .4),
     )
 

@@ -46,7 +46,14 @@ hold-requires c κs =
     let f = fits (c .before) in
     let k = legal-parts _ _ _ (f .legal) in
     let parts = chain-parts _ _ _ (k .chain) in
-    (k .sizes .p-low, parts .0, parts .1, f .amounts-fit, room (c .before))
+    record {
+      chain-sound =
+          record {
+            steps-sound = record { p-low = k .sizes .p-low; steps-fine = parts .0; room = room (c .before) };
+            outputs-fine = parts .1;
+          };
+      amounts-fit = f .amounts-fit;
+    }
 
 add-finish : tie.Need-add-finish
 add-finish c = omega (arith, room (c .before .before .before .before))

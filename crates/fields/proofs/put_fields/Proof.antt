@@ -17,7 +17,7 @@ abbrev μ-loop : tie.MeasureT-loop
 μ-loop buf₀ width list count c₀ j₀ buf c j = count - j
 
 loop-holds : tie.Need-loop-holds Inv-loop μ-loop
-loop-holds c = (refl, put-start _ _ _ _ _ (c .before .before .pre .1))
+loop-holds c = (refl, put-start _ _ _ _ _ (c .before .before .pre .fill))
 
 sub-loop : tie.Need-sub-loop Inv-loop μ-loop
 sub-loop c = search needs
@@ -51,7 +51,7 @@ add-both c =
     let v = c .before .before in
     let l = v .before .before in
     let s = l .before .before .before .before in
-    record { fits = both-fits _ _ _ _ _ _ _ _ (s .pre .0) (l .before .loop .inv .1) _ _ (l .loop-test .taken) (v .wide .ensures) (c .wide2 .ensures) }
+    record { fits = both-fits _ _ _ _ _ _ _ _ (s .pre .there) (l .before .loop .inv .1) _ _ (l .loop-test .taken) (v .wide .ensures) (c .wide2 .ensures) }
 
 mul-put : tie.Need-mul-put Inv-loop μ-loop
 mul-put c = search needs
@@ -62,7 +62,7 @@ put-requires c κs =
     let v = u .before .before in
     let l = v .before .before in
     let s = l .before .before .before .before in
-    two-room _ _ _ _ _ _ _ _ (s .pre .0) (l .before .loop .inv .1) _ _ (l .loop-test .taken) (v .wide .ensures) (u .wide2 .ensures)
+    two-room _ _ _ _ _ _ _ _ (s .pre .there) (l .before .loop .inv .1) _ _ (l .loop-test .taken) (v .wide .ensures) (u .wide2 .ensures)
 
 add-j : tie.Need-add-j Inv-loop μ-loop
 add-j c = search needs
@@ -79,7 +79,7 @@ loop-again c =
     let s = l .before .before .before .before in
     let i = l .before .loop .inv in (
       p .put .kept .1 .0 ∙ i .0,
-      two-on _ _ _ _ _ _ _ _ (s .pre .0) (i .1) _ _ (l .loop-test .taken) (v .wide .ensures) (u .wide2 .ensures) _ _ (p .put .ensures) (p .put .kept .1 .0),
+      two-on _ _ _ _ _ _ _ _ (s .pre .there) (i .1) _ _ (l .loop-test .taken) (v .wide .ensures) (u .wide2 .ensures) _ _ (p .put .ensures) (p .put .kept .1 .0),
     )
 
 mul-wide-3 : tie.Need-mul-wide-3 Inv-loop μ-loop
@@ -96,7 +96,7 @@ put-requires-2 c κs =
     let t = c .before .before .before in
     let l = t .before .before in
     let s = l .before .before .before in
-    one-room _ _ _ _ _ _ _ _ (s .pre .0) (l .loop .inv .1) _ (t .if1 .taken) (c .wide3 .ensures)
+    one-room _ _ _ _ _ _ _ _ (s .pre .there) (l .loop .inv .1) _ (t .if1 .taken) (c .wide3 .ensures)
 
 same-length : tie.Need-same-length Inv-loop μ-loop
 same-length c =
@@ -109,7 +109,7 @@ returns c =
     let t = p .before .before .before .before in
     let l = t .before .before in
     let s = l .before .before .before in
-    let last = one-on _ _ _ _ _ _ _ _ (s .pre .0) (l .loop .inv .1) _ (t .if1 .taken) (p .before .wide3 .ensures) _ _ (p .put2 .ensures) (p .put2 .kept .1 .0) in
+    let last = one-on _ _ _ _ _ _ _ _ (s .pre .there) (l .loop .inv .1) _ (t .if1 .taken) (p .before .wide3 .ensures) _ _ (p .put2 .ensures) (p .put2 .kept .1 .0) in
     put-end _ _ _ _ _ _ _ _ last (omega (arith, t .before .loop-test .left))
 
 same-length-2 : tie.Need-same-length-2 Inv-loop μ-loop

@@ -19,7 +19,7 @@ add-start c = search needs
 low : (c : tie.After-bit-length) → let a = c .before .args in 14 + a .layout .bits + (2 * a .n + a .q) * c .bit-length .result < 2 ^ 32
 low c =
     let s = c .before in
-    rw (c .bit-length .ensures) (count-fits (s .args .layout) (s .pre .0) (s .args .p) (s .args .q) (s .args .n) (s .pre .1))
+    rw (c .bit-length .ensures) (count-fits (s .args .layout) (s .pre .sound) (s .args .p) (s .args .q) (s .args .n) (s .pre .sized))
 
 mul-t7 : tie.Need-mul-t7
 mul-t7 c = search needs

@@ -11,13 +11,13 @@ same-requires : tie.Need-same-requires
 same-requires c κs = search needs
 
 add-t5 : tie.Need-add-t5
-add-t5 c = let s = c .before .before in omega (arith, c .before .same .ensures, same-low (s .args .b) tab, s .pre .0 .tabs-low)
+add-t5 c = let s = c .before .before in omega (arith, c .before .same .ensures, same-low (s .args .b) tab, s .pre .low .tabs-low)
 
 same-requires-2 : tie.Need-same-requires-2
 same-requires-2 c κs = search needs
 
 add-t7 : tie.Need-add-t7
-add-t7 c = let s = c .before .before .before .before in omega (arith, c .before .same2 .ensures, same-low (s .args .b) semicolon, s .pre .0 .semicolons-low)
+add-t7 c = let s = c .before .before .before .before in omega (arith, c .before .same2 .ensures, same-low (s .args .b) semicolon, s .pre .low .semicolons-low)
 
 same-requires-3 : tie.Need-same-requires-3
 same-requires-3 c κs = search needs
@@ -25,7 +25,7 @@ same-requires-3 c κs = search needs
 add-t9 : tie.Need-add-t9
 add-t9 c =
     let s = c .before .before .before .before .before .before in
-    omega (arith, c .before .same3 .ensures, same-low (s .args .b) comma, s .pre .0 .commas-low)
+    omega (arith, c .before .same3 .ensures, same-low (s .args .b) comma, s .pre .low .commas-low)
 
 digit-requires : tie.Need-digit-requires
 digit-requires c κs = search needs
@@ -33,7 +33,7 @@ digit-requires c κs = search needs
 add-t11 : tie.Need-add-t11
 add-t11 c =
     let s = c .before .before .before .before .before .before .before .before in
-    omega (arith, c .before .digit .ensures, digit-low (s .args .b), s .pre .0 .digits-low)
+    omega (arith, c .before .digit .ensures, digit-low (s .args .b), s .pre .low .digits-low)
 
 begins-requires : tie.Need-begins-requires
 begins-requires c κs = search needs
@@ -41,7 +41,7 @@ begins-requires c κs = search needs
 add-t13 : tie.Need-add-t13
 add-t13 c =
     let s = c .before .before .before .before .before .before .before .before .before .before in
-    omega (arith, c .before .begins .ensures, begun-low (s .args .gap) (s .args .b), s .pre .1, s .pre .0 .words-low)
+    omega (arith, c .before .begins .ensures, begun-low (s .args .gap) (s .args .b), s .pre .gap-low, s .pre .low .words-low)
 
 returns : tie.Need-returns
 returns c =

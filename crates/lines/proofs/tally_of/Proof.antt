@@ -22,7 +22,7 @@ count-requires : tie.Need-count-requires Inv-loop μ-loop
 count-requires c κs =
     let l = c .before .before in
     let s = l .loop .inv .1 in
-    (tally-room _ _ _ _ s (search needs), s .gap-low)
+    record { low = tally-room _ _ _ _ s (search needs); gap-low = s .gap-low }
 
 blank-requires : tie.Need-blank-requires Inv-loop μ-loop
 blank-requires c κs = search needs

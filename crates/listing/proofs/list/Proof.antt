@@ -34,14 +34,11 @@ slice-aggregate-put-chain c = search needs
 put-chain-requires : tie.Need-put-chain-requires
 put-chain-requires c κs =
     let k = c .before .before .before in
-    let t = k .before .before .before .before .before .before in (
-      columns-few _ _ (t .measure-file .ensures .told-is) _ _ _ (k .p .given .1),
-      payslips-few _ _ (t .measure-file .ensures .told-is) _ _ _ (k .p .given .1),
-      steps-few _ _
-          (t .measure-file .ensures .told-is) _ _ _ (k .p .given .1),
-      search needs,
-      search needs,
-    )
+    let t = k .before .before .before .before .before .before in
+    let columns = columns-few _ _ (t .measure-file .ensures .told-is) _ _ _ (k .p .given .1) in
+    let payslips = payslips-few _ _ (t .measure-file .ensures .told-is) _ _ _ (k .p .given .1) in
+    let steps = steps-few _ _ (t .measure-file .ensures .told-is) _ _ _ (k .p .given .1) in
+    search needs
 
 returns : tie.Need-returns
 returns c =

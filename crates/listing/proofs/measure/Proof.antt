@@ -37,20 +37,23 @@ gather-requires : tie.Need-gather-requires Inv-loop μ-loop
 gather-requires c κs =
     let b = c .before .before .before .before in
     let l = b .before .before .before in
-    let s = l .before .before .before .before .before in (
-      omega (arith, b .before .before .loop-test .taken, s .pre .0),
-      s .pre .3,
-      l .loop .inv .2 ∙ s .pre .5,
-      λ i h. omega (
-        arith,
-        outputs-low (s .args .p + length (pairs (s .args .steps .now))) 1 (s .args .outputs .now) (s .pre .2) i h,
-        length-pairs
-            (s .args .steps .now),
-        b .column .kept .1 .1 .1 .0,
-        l .loop .inv .1,
-        s .pre .4,
-      ),
-    )
+    let s = l .before .before .before .before .before in
+    record {
+      column-low = omega (arith, b .before .before .loop-test .taken, s .pre .chain-sound .steps-sound .p-low);
+      figures-able =
+          record {
+            figures-fit = s .pre .outputs-few;
+            outputs-within = λ i h. omega (
+              arith,
+              outputs-low (s .args .p + length (pairs (s .args .steps .now))) 1 (s .args .outputs .now) (s .pre .chain-sound .outputs-fine) i h,
+              length-pairs (s .args .steps .now),
+              b .column .kept .1 .1 .1 .0,
+              l .loop .inv .1,
+              s .pre .chain-sound .steps-sound .room,
+            );
+          };
+      table-whole = l .loop .inv .2 ∙ s .pre .table-whole;
+    }
 
 earlier-requires : tie.Need-earlier-requires Inv-loop μ-loop
 earlier-requires c κs = search needs
@@ -71,9 +74,9 @@ loop-again c =
       b .column .kept .1 .1 .1 .0 ∙ l .loop .inv .1,
       g .gather .kept .1 .1 .1 .0 ∙ l .loop .inv .2,
       earliest-next (l .loop .c) (largeIn (s .args .p) (pairs (s .args .steps .now))) _ _ _ (c .earlier .ensures) (l .loop .inv .3) (b .column .ensures .place),
-      filled-on (s .args .p) (l .loop .c) (pairs (s .args .steps .now)) (s .args .outputs .now) _ _ _ _ _ _ _ (s .pre .2) (s .pre .3)
-          (omega (arith, b .before .before .loop-test .taken, s .pre .0)) (l .loop .inv .2 ∙ s .pre .5) (c .earlier .ensures) (b .column .ensures) (l .loop .inv .4)
-          (g .gather .ensures),
+      filled-on (s .args .p) (l .loop .c) (pairs (s .args .steps .now)) (s .args .outputs .now) _ _ _ _ _ _ _ (s .pre .chain-sound .outputs-fine)
+          (s .pre .outputs-few) (omega (arith, b .before .before .loop-test .taken, s .pre .chain-sound .steps-sound .p-low)) (l .loop .inv .2 ∙ s .pre .table-whole)
+          (c .earlier .ensures) (b .column .ensures) (l .loop .inv .4) (g .gather .ensures),
     )
 
 same-length : tie.Need-same-length Inv-loop μ-loop

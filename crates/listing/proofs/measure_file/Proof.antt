@@ -35,7 +35,7 @@ read-file c =
     let s = r .before .before .before .before .before .before .before .before .before in
     let a = s .args in
     let e = r .read .ensures in
-    read-good edition1 (now (a .bytes)) (now (a .steps)) (now (a .outputs)) (omega (arith, s .pre .0)) (omega (arith, s .pre .1)) _ (e .0) _ _ _
+    read-good edition1 (now (a .bytes)) (now (a .steps)) (now (a .outputs)) (omega (arith, s .pre .steps-whole)) (omega (arith, s .pre .outputs-whole)) _ (e .0) _ _ _
     (c .p .given .1) _ _ (e .1 .0) (e .1 .1)
 
 mul-measure : tie.Need-mul-measure
@@ -58,7 +58,20 @@ measure-requires c κs =
     let k = c .before .before .before .before .before in
     let s = k .before .before .before .before .before .before .before .before .before .before .before .before .before .before .before in
     let t = read-file k in
-    (columns-few _ _ _ _ _ _ t, steps-fine _ _ _ _ _ _ t, outputs-fine _ _ _ _ _ _ t, outputs-few _ _ _ _ _ _ t, omega (arith, room _ _ _ _ _ _ t, s .pre .2), s .pre .3)
+    record {
+      chain-sound =
+          record {
+            steps-sound =
+                record {
+                  p-low = columns-few _ _ _ _ _ _ t;
+                  steps-fine = steps-fine _ _ _ _ _ _ t;
+                  room = omega (arith, room _ _ _ _ _ _ t, s .pre .scratch-whole);
+                };
+            outputs-fine = outputs-fine _ _ _ _ _ _ t;
+          };
+      outputs-few = outputs-few _ _ _ _ _ _ t;
+      table-whole = s .pre .table-whole;
+    }
 
 enum-known-number-2 : tie.Need-enum-known-number-2
 enum-known-number-2 c = search needs
@@ -80,7 +93,7 @@ returns-2 c =
     let a = s .args in
     listing-refused _ _ _ _
     (unread _ (r .before .before .before .if1 .left) _ _
-    (read-refused edition1 (now (a .bytes)) (now (a .steps)) (now (a .outputs)) (omega (arith, s .pre .0)) (omega (arith, s .pre .1)) _
+    (read-refused edition1 (now (a .bytes)) (now (a .steps)) (now (a .outputs)) (omega (arith, s .pre .steps-whole)) (omega (arith, s .pre .outputs-whole)) _
     (answer-clause (r .read .ensures)) _ _ (n .number .given .1)))
 
 same-length-3 : tie.Need-same-length-3

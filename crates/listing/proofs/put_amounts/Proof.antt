@@ -49,7 +49,7 @@ put-field-requires c κs =
     let k = c .before in
     let l = k .before .before in
     let s = l .before .before .before in
-    omega (arith, decimal-short 9 _ (amount-low k), l .loop .inv .1, l .loop .inv .2, k .before .loop-test .taken, s .pre .3)
+    omega (arith, decimal-short 9 _ (amount-low k), l .loop .inv .1, l .loop .inv .2, k .before .loop-test .taken, s .pre .room)
 
 add-c : tie.Need-add-c Inv-loop μ-loop
 add-c c = search needs
@@ -66,7 +66,7 @@ loop-again c =
       search needs,
       b .put-field .kept .1 .1 .0 ∙ l .loop .inv .1,
       omega (arith, decimal-short 9 _ (amount-low k), b .put-field .ensures .place, l .loop .inv .2),
-      put-amount _ _ (amountIn (s .args .table .now) (s .args .i)) _ _ _ _ _ (omega (arith, s .pre .3)) (l .loop .inv .3) (b .put-field .ensures),
+      put-amount _ _ (amountIn (s .args .table .now) (s .args .i)) _ _ _ _ _ (omega (arith, s .pre .room)) (l .loop .inv .3) (b .put-field .ensures),
     )
 
 same-length : tie.Need-same-length Inv-loop μ-loop

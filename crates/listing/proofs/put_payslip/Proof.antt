@@ -15,25 +15,14 @@ add-put-decimal c = search needs
 put-decimal-requires : tie.Need-put-decimal-requires
 put-decimal-requires c κs =
     let s = c .before .before .before in
-    omega (arith, decimal-short 1 (s .args .i + 1) (omega (arith, s .pre .0)), s .pre .3)
+    omega (arith, decimal-short 1 (s .args .i + 1) (omega (arith, s .pre .inside)), s .pre .room)
 
 put-amounts-requires : tie.Need-put-amounts-requires
 put-amounts-requires c κs =
     let k = c .before .before .before in
-    let s = k .before .before .before .before in (
-      s .pre .0,
-      s .pre .1,
-      s .pre .2,
-      omega (
-        arith,
-        decimal-short 1 (s .args .i + 1)
-            (omega (arith, s .pre .0)),
-        k .put-decimal .ensures .place,
-        k .put-decimal .kept .1 .1 .0,
-        s .pre .1,
-        s .pre .3,
-      ),
-    )
+    let s = k .before .before .before .before in
+    let short = decimal-short 1 (s .args .i + 1) (omega (arith, s .pre .inside)) in
+    search needs
 
 -- where the newline goes
 line-end : (c : tie.After-slice-known3)
@@ -42,19 +31,19 @@ line-end c =
     let k = c .before .before in
     let j = k .before .before .before .before in
     let s = j .before .before .before .before in
-    omega (arith, decimal-short 1 (s .args .i + 1) (omega (arith, s .pre .0)), j .put-decimal .ensures .place, k .put-amounts .ensures .short, s .pre .1)
+    omega (arith, decimal-short 1 (s .args .i + 1) (omega (arith, s .pre .inside)), j .put-decimal .ensures .place, k .put-amounts .ensures .short, s .pre .p-low)
 
 slice-write-text : tie.Need-slice-write-text
 slice-write-text c =
     let k = c .before .before in
     let j = k .before .before .before .before in
     let s = j .before .before .before .before in
-    omega (arith, line-end c, j .put-decimal .kept .1 .1 .0, k .put-amounts .kept .1 .1 .1 .1 .0, s .pre .3)
+    omega (arith, line-end c, j .put-decimal .kept .1 .1 .0, k .put-amounts .kept .1 .1 .1 .1 .0, s .pre .room)
 
 add-result : tie.Need-add-result
 add-result c =
     let s = c .before .before .before .before .before .before .before .before .before .before in
-    omega (arith, line-end c, s .pre .3, s .good .1 .1 .1 .1 .0 .0)
+    omega (arith, line-end c, s .pre .room, s .good .1 .1 .1 .1 .0 .0)
 
 same-length : tie.Need-same-length
 same-length c =
@@ -68,7 +57,7 @@ returns c =
     let j = k .before .before .before .before in
     let s = j .before .before .before .before in
     record {
-      put = put-line _ _ _ _ _ _ _ _ (j .put-decimal .ensures) (k .put-amounts .ensures .put) (omega (arith, line-end c, s .pre .3));
+      put = put-line _ _ _ _ _ _ _ _ (j .put-decimal .ensures) (k .put-amounts .ensures .put) (omega (arith, line-end c, s .pre .room));
       short = omega (arith, line-end c);
     }
 

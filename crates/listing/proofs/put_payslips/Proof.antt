@@ -23,10 +23,7 @@ loop-holds : tie.Need-loop-holds Inv-loop μ-loop
 loop-holds c = (search needs, refl, omega arith, put-none _ _)
 
 put-payslip-requires : tie.Need-put-payslip-requires Inv-loop μ-loop
-put-payslip-requires c κs =
-    let l = c .before .before in
-    let s = l .before .before .before in
-    (omega (arith, c .before .loop-test .taken, s .pre .1), s .pre .0, s .pre .2, omega (arith, c .before .loop-test .taken, l .loop .inv .1, l .loop .inv .2, s .pre .3))
+put-payslip-requires c κs = search needs
 
 add-i : tie.Need-add-i Inv-loop μ-loop
 add-i c = search needs
@@ -42,7 +39,7 @@ loop-again c =
       search needs,
       b .put-payslip .kept .1 .1 .1 .1 .0 ∙ l .loop .inv .1,
       omega (arith, b .put-payslip .ensures .short, l .loop .inv .2),
-      put-next _ _ _ (amountIn (s .args .table .now)) _ _ _ _ _ (omega (arith, s .pre .3)) (l .loop .inv .3) (b .put-payslip .ensures .put),
+      put-next _ _ _ (amountIn (s .args .table .now)) _ _ _ _ _ (omega (arith, s .pre .room)) (l .loop .inv .3) (b .put-payslip .ensures .put),
     )
 
 same-length : tie.Need-same-length Inv-loop μ-loop

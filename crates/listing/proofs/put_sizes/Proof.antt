@@ -14,14 +14,14 @@ use Rattle.listing.proofs.put_sizes.Tie as tie
 short : (s : tie.Start)
     → (length (decimal (s .args .p)) ≤ 2) × (length (decimal (s .args .q)) ≤ 2) × (length (decimal (s .args .n)) ≤ 5)
 short s = (
-  decimal-short 1 (s .args .p) (omega (arith, s .pre .0)),
-  decimal-short 1 (s .args .q) (omega (arith, s .pre .1)),
+  decimal-short 1 (s .args .p) (omega (arith, s .pre .sizes-low .p-low)),
+  decimal-short 1 (s .args .q) (omega (arith, s .pre .sizes-low .q-low)),
   decimal-short 4 (s .args .n)
-      (omega (arith, s .pre .2)),
+      (omega (arith, s .pre .n-low)),
 )
 
 put-decimal-requires : tie.Need-put-decimal-requires
-put-decimal-requires c κs = let s = c .before .before in omega (arith, short s .0, s .pre .3)
+put-decimal-requires c κs = let s = c .before .before in omega (arith, short s .0, s .pre .room)
 
 cast-put-field : tie.Need-cast-put-field
 cast-put-field c = search needs
@@ -30,7 +30,7 @@ put-field-requires : tie.Need-put-field-requires
 put-field-requires c κs =
     let k = c .before .before .before in
     let s = k .before .before .before in
-    omega (arith, short s .0, short s .1, k .put-decimal .ensures .place, k .put-decimal .kept .1 .1 .0, s .pre .3)
+    omega (arith, short s .0, short s .1, k .put-decimal .ensures .place, k .put-decimal .kept .1 .1 .0, s .pre .room)
 
 cast-put-field-2 : tie.Need-cast-put-field-2
 cast-put-field-2 c = search needs
@@ -40,7 +40,7 @@ put-field-requires-2 c κs =
     let k = c .before .before .before in
     let j = k .before .before .before .before in
     let s = j .before .before .before in
-    omega (arith, short s .0, short s .1, short s .2, j .put-decimal .ensures .place, j .put-decimal .kept .1 .1 .0, k .put-field .ensures .place, k .put-field .kept .1 .1 .0, s .pre .3)
+    omega (arith, short s .0, short s .1, short s .2, j .put-decimal .ensures .place, j .put-decimal .kept .1 .1 .0, k .put-field .ensures .place, k .put-field .kept .1 .1 .0, s .pre .room)
 
 -- where the newline goes
 line-end : (c : tie.After-slice-known4) → c .before .before .put-field2 .result ≤ 11
@@ -57,7 +57,7 @@ slice-write-text c =
     let j = k .before .before .before .before in
     let i = j .before .before .before .before in
     let s = i .before .before .before in
-    omega (arith, line-end c, i .put-decimal .kept .1 .1 .0, j .put-field .kept .1 .1 .0, k .put-field2 .kept .1 .1 .0, s .pre .3)
+    omega (arith, line-end c, i .put-decimal .kept .1 .1 .0, j .put-field .kept .1 .1 .0, k .put-field2 .kept .1 .1 .0, s .pre .room)
 
 add-result : tie.Need-add-result
 add-result c = omega (arith, line-end c)
@@ -77,9 +77,9 @@ returns c =
     let s = i .before .before .before in
     record {
       put = put-line _ _ _ _ _ _ _ _ (i .put-decimal .ensures)
-          (put-two _ _ _ _ _ _ _ _ (omega (arith, short s .0, i .put-decimal .ensures .place, i .put-decimal .kept .1 .1 .0, s .pre .3)) (j .put-field .ensures)
+          (put-two _ _ _ _ _ _ _ _ (omega (arith, short s .0, i .put-decimal .ensures .place, i .put-decimal .kept .1 .1 .0, s .pre .room)) (j .put-field .ensures)
           (k .put-field2 .ensures))
-          (omega (arith, line-end c, s .pre .3));
+          (omega (arith, line-end c, s .pre .room));
       short = omega (arith, line-end c);
     }
 

@@ -1,9 +1,8 @@
 -- Each arm does what the task asks; the index and the modulus are in range since the step is ready.
 use borrow.Author.Needs.{needs}
-use mathlib.Core.Path.{_≡_}
 use Prim.Native.Nat.{_+_, _^_, _<_}
 use lib.ListN.{length}
-use Rattle.residue.specs.Inner.{inverseOf}
+use Rattle.residue.specs.Inner.{TimesAsked}
 use Rattle.pairs.proofs.Tasks.{ready-judging, ready-multiplying, ready-adding, stepping}
 use Rattle.pairs.proofs.advance.Statement.{statement}
 use Rattle.pairs.proofs.advance.Tie as tie
@@ -16,7 +15,7 @@ judging k = ready-judging _ _ _ _ _ _ (k .before .task .given .1) (k .before .be
 multiplying : (k : tie.After-known-told2)
     → let g = k .before .task2 .given .0 in
     let a = k .before .before .before .before .args in
-    (0 < g .1 .0) × (g .1 .1 .0 ≡ inverseOf (g .1 .0)) × (g .0 + a .i + 1 < length (a .cells .now)) × (a .first < length (a .cells .now))
+    TimesAsked (g .1 .0) (g .1 .1 .0) × (g .0 + a .i + 1 < length (a .cells .now)) × (a .first < length (a .cells .now))
     × (a .second < length (a .cells .now))
 multiplying k = ready-multiplying _ _ _ _ _ _ _ _ (k .before .task2 .given .1) (k .before .before .before .before .pre)
 
@@ -51,28 +50,28 @@ mul-times : tie.Need-mul-times
 mul-times c = search needs
 
 slice-read-times : tie.Need-slice-read-times
-slice-read-times c = multiplying (c .before) .3
+slice-read-times c = multiplying (c .before) .2
 
 mul-times-2 : tie.Need-mul-times-2
 mul-times-2 c = search needs
 
 slice-read-times-2 : tie.Need-slice-read-times-2
-slice-read-times-2 c = multiplying (c .before .before) .4
+slice-read-times-2 c = multiplying (c .before .before) .3
 
 times-requires : tie.Need-times-requires
-times-requires c κs = let h = multiplying (c .before .before) in (h .0, h .1)
+times-requires c κs = multiplying (c .before .before) .0
 
 add-cells : tie.Need-add-cells
-add-cells c = let h = multiplying (c .before .before .before) .2 in search needs
+add-cells c = let h = multiplying (c .before .before .before) .1 in search needs
 
 add-cells-2 : tie.Need-add-cells-2
-add-cells-2 c = let h = multiplying (c .before .before .before) .2 in search needs
+add-cells-2 c = let h = multiplying (c .before .before .before) .1 in search needs
 
 mul-cells : tie.Need-mul-cells
-mul-cells c = let h = multiplying (c .before .before .before) .2 in search needs
+mul-cells c = let h = multiplying (c .before .before .before) .1 in search needs
 
 slice-write-cells : tie.Need-slice-write-cells
-slice-write-cells c = let h = multiplying (c .before .before .before) .2 in search needs
+slice-write-cells c = let h = multiplying (c .before .before .before) .1 in search needs
 
 enum-known-task-3 : tie.Need-enum-known-task-3
 enum-known-task-3 c = search needs

@@ -18,8 +18,7 @@ enum-told c = search needs
 show-requires : tie.Need-show-requires
 show-requires c κs =
     let e = c .before .before in
-    let a = e .before .before .before .before .before .before .pre (sym (told-fine _ _ (e .before .before .found .ensures) (e .enum-told .given .1))) in
-    (a .figures-fit, a .outputs-within)
+    e .before .before .before .before .before .before .pre (sym (told-fine _ _ (e .before .before .found .ensures) (e .enum-told .given .1)))
 
 returns : tie.Need-returns
 returns c = search (judging, ending) depth 8

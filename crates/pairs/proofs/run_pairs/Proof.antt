@@ -40,6 +40,7 @@ use denote.Triple.Table.{entered, cited}
 use denote.Triple.Walked.{says, Stays, stay-dropped, gave-slice, walkOf, goes-dropped, goes-gave-slice, Walks, walked, walk-meets}
 use denote.Exit.{yes}
 use Rattle.chain.specs.Verdict.{fine, _then_}
+use Rattle.chain.specs.Inner.{FiguresAble}
 use Rattle.chain.specs.declared.Step.{Step}
 use Rattle.chain.proofs.Step as T
 use Rattle.run.specs.Run.{runAnswer, runValues, runFigures}
@@ -49,7 +50,7 @@ use Rattle.answers.specs.Answers.{ranOf}
 use Rattle.answers.specs.declared.Ran.{Ran}
 use Rattle.answers.proofs.Ran as E
 use Rattle.answers.proofs.Ran.Laws as E′
-use Rattle.pairs.specs.Inner.{foundBy, unless, RunAble, RunStarted, FiguresAble, RunEnded}
+use Rattle.pairs.specs.Inner.{foundBy, unless, RunAble, RunStarted, RunEnded}
 use Rattle.pairs.specs.declared.Task.{Task}
 use Rattle.pairs.specs.declared.Task.the-variants.{Judging}
 use Rattle.pairs.proofs.Task as K

@@ -41,7 +41,7 @@ extent-of-requires : tie.Need-extent-of-requires
 extent-of-requires c κs =
     let h = c .before .before .before .before .before .before in
     let s = h .before .before .before in
-    (s .pre, sized-by (s .args .layout) _ _ (h .take-header .ensures) (few c))
+    record { sound = s .pre; sized = sized-by (s .args .layout) _ _ (h .take-header .ensures) (few c) }
 
 returns-3 : tie.Need-returns-3
 returns-3 c =

@@ -15,12 +15,12 @@ high-requires c κs = search needs
 mul-left : tie.Need-mul-left
 mul-left c =
     let s = c .before in
-    record { fits = taken-fits (record { x-low = s .fits .x .fits; y-low = s .fits .y .fits; some = s .pre .0; kept = s .pre .1; taken = c .high .ensures }) }
+    record { fits = taken-fits (record { x-low = s .fits .x .fits; y-low = s .fits .y .fits; asked = s .pre; taken = c .high .ensures }) }
 
 sub-left : tie.Need-sub-left
 sub-left c =
     let s = c .before in
-    taken-under (record { x-low = s .fits .x .fits; y-low = s .fits .y .fits; some = s .pre .0; kept = s .pre .1; taken = c .high .ensures })
+    taken-under (record { x-low = s .fits .x .fits; y-low = s .fits .y .fits; asked = s .pre; taken = c .high .ensures })
 
 wrapping-sub-u64-requires : tie.Need-wrapping-sub-u64-requires
 wrapping-sub-u64-requires c κs = search needs
@@ -30,7 +30,7 @@ cast-result c =
     let told = c .before .wrapping-sub-u64 in
     let call = c .before .before in
     let s = call .before in
-    let t : Taken _ _ _ _ _ = record { x-low = s .fits .x .fits; y-low = s .fits .y .fits; some = s .pre .0; kept = s .pre .1; taken = call .high .ensures } in
+    let t : Taken _ _ _ _ _ = record { x-low = s .fits .x .fits; y-low = s .fits .y .fits; asked = s .pre; taken = call .high .ensures } in
     record { fits = one-more (what-is-left t) (s .fits .m .fits) (told .ok) (told .ensures) (c .if1 .taken) .low }
 
 cast-result-2 : tie.Need-cast-result-2
@@ -38,7 +38,7 @@ cast-result-2 c =
     let told = c .before .wrapping-sub-u64 in
     let call = c .before .before in
     let s = call .before in
-    let t : Taken _ _ _ _ _ = record { x-low = s .fits .x .fits; y-low = s .fits .y .fits; some = s .pre .0; kept = s .pre .1; taken = call .high .ensures } in
+    let t : Taken _ _ _ _ _ = record { x-low = s .fits .x .fits; y-low = s .fits .y .fits; asked = s .pre; taken = call .high .ensures } in
     record { fits = as-it-is (what-is-left t) (s .fits .m .fits) (told .ok) (told .ensures) (c .if1 .left) .low }
 
 returns : tie.Need-returns
@@ -46,7 +46,7 @@ returns c =
     let told = c .before .wrapping-sub-u64 in
     let call = c .before .before in
     let s = call .before in
-    let t : Taken _ _ _ _ _ = record { x-low = s .fits .x .fits; y-low = s .fits .y .fits; some = s .pre .0; kept = s .pre .1; taken = call .high .ensures } in
+    let t : Taken _ _ _ _ _ = record { x-low = s .fits .x .fits; y-low = s .fits .y .fits; asked = s .pre; taken = call .high .ensures } in
     one-more (what-is-left t) (s .fits .m .fits) (told .ok) (told .ensures) (c .if1 .taken) .is
 
 returns-2 : tie.Need-returns-2
@@ -54,7 +54,7 @@ returns-2 c =
     let told = c .before .wrapping-sub-u64 in
     let call = c .before .before in
     let s = call .before in
-    let t : Taken _ _ _ _ _ = record { x-low = s .fits .x .fits; y-low = s .fits .y .fits; some = s .pre .0; kept = s .pre .1; taken = call .high .ensures } in
+    let t : Taken _ _ _ _ _ = record { x-low = s .fits .x .fits; y-low = s .fits .y .fits; asked = s .pre; taken = call .high .ensures } in
     as-it-is (what-is-left t) (s .fits .m .fits) (told .ok) (told .ensures) (c .if1 .left) .is
 
 pub times-spec : {M : Type 1} → statement M

@@ -42,7 +42,7 @@ slice-read-times : tie.Need-slice-read-times Inv-loop μ-loop
 slice-read-times c =
     let l = c .before .before .before .before .before in
     let t = c .before .before .before .before .loop-test .taken in
-    first-within _ _ _ _ _ (c .before .before .before .step-at .ensures) t (l .before .before .before .before .pre .2) (l .loop .inv .2)
+    first-within _ _ _ _ _ (c .before .before .before .step-at .ensures) t (l .before .before .before .before .pre .steps-sound .steps-fine) (l .loop .inv .2)
 
 mul-times-2 : tie.Need-mul-times-2 Inv-loop μ-loop
 mul-times-2 c = search (needs, within)
@@ -51,7 +51,7 @@ slice-read-times-2 : tie.Need-slice-read-times-2 Inv-loop μ-loop
 slice-read-times-2 c =
     let l = c .before .before .before .before .before .before in
     let t = c .before .before .before .before .before .loop-test .taken in
-    second-within _ _ _ _ _ (c .before .before .before .before .step-at .ensures) t (l .before .before .before .before .pre .2) (l .loop .inv .2)
+    second-within _ _ _ _ _ (c .before .before .before .before .step-at .ensures) t (l .before .before .before .before .pre .steps-sound .steps-fine) (l .loop .inv .2)
 
 times-requires : tie.Need-times-requires Inv-loop μ-loop
 times-requires c κs = search needs

@@ -29,13 +29,23 @@ enum-told c = search needs
 fill-requires : tie.Need-fill-requires
 fill-requires c κs =
     let a = acc (c .before) in
-    (a .modulus, a .sizes .p-low, a .bases-are-p, a .steps-fine, rw length-pairs at (a .values-fit))
+    record {
+      products =
+          record {
+            modulus = a .modulus;
+            steps-sound = record { p-low = a .sizes .p-low; steps-fine = a .steps-fine; room = rw length-pairs at (a .values-fit) };
+          };
+      bases-are-p = a .bases-are-p;
+    }
 
 show-requires : tie.Need-show-requires
 show-requires c κs =
     let a = acc (c .before .before .before .before .before .before) in
     let filled = c .before .before .before .before in
-    (a .figures-fit, λ i h. omega (arith, a .outputs-within i h, a .values-fit, filled .fill .kept .1 .1 .1 .1 .0))
+    record {
+      figures-fit = a .figures-fit;
+      outputs-within = λ i h. omega (arith, a .outputs-within i h, a .values-fit, filled .fill .kept .1 .1 .1 .1 .0);
+    }
 
 returns : tie.Need-returns
 unfolding runAnswer runValues runFigures

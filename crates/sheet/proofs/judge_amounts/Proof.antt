@@ -7,7 +7,7 @@ use Rattle.sheet.proofs.judge_amounts.Statement.{statement}
 use Rattle.sheet.proofs.judge_amounts.Tie as tie
 
 mul-if1 : tie.Need-mul-if1
-mul-if1 c = omega (arith, product-low _ _ (c .pre .0) (c .pre .1))
+mul-if1 c = omega (arith, product-low _ _ (c .pre .p-low) (c .pre .q-low))
 
 returns : tie.Need-returns
 unfolding amountsRule

@@ -20,7 +20,7 @@ enum-told : tie.Need-enum-told
 enum-told c = search needs
 
 judge-amounts-requires : tie.Need-judge-amounts-requires
-judge-amounts-requires c κs = (search shape-columns, search shape-payslips)
+judge-amounts-requires c κs = record { p-low = search shape-columns; q-low = search shape-payslips }
 
 returns-2 : tie.Need-returns-2
 unfolding startRule

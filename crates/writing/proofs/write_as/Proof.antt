@@ -39,7 +39,7 @@ held c =
     sized (a .layout) (a .p) (now (a .steps)) (now (a .outputs)) (now (a .bytes)) _ (j .judge-shape .ensures) (c .enum-told .given .1)
 
 extent-of-requires : tie.Need-extent-of-requires
-extent-of-requires c κs = (c .before .before .before .before .before .before .pre, held c)
+extent-of-requires c κs = record { sound = c .before .before .before .before .before .before .pre; sized = held c }
 
 add-count : tie.Need-add-count
 add-count c =

@@ -11,7 +11,7 @@ use lib.ListN.{length, getD, take, drop, replicate}
 use Rattle.chain.specs.Tests.{_<?_}
 use Rattle.chain.specs.Verdict.{Verdict, fine, refused, _then_, Answer, answer, onFine}
 use Rattle.chain.specs.Written.{over}
-use Rattle.chain.specs.Chain.{mostColumns, mostSteps, mostAmount, by, pairs, flat, stepsRule, outputsRule, values}
+use Rattle.chain.specs.Chain.{mostAmount, by, pairs, flat, stepsRule, outputsRule, values}
 use Rattle.chain.specs.declared.Step.{Step}
 use Rattle.chain.proofs.Rules.{then-assoc, then-fine, lt-yes, lt-no}
 use Rattle.chain.proofs.Pairs.{pairs-flat}
@@ -19,8 +19,8 @@ use Rattle.chain.proofs.Filling.{madeTo, fill-start, fill-on}
 use Rattle.chain.proofs.Legal.{legal-parts, chain-parts}
 use Rattle.chain.proofs.Outputs.{outputs-low}
 use Rattle.verify.specs.Verify.{firstOver, fittingRule, verifyAnswer, verifyScratch}
-use Rattle.rest.specs.Inner.{endRule}
-use Rattle.rest.proofs.Rest.{rest-parts}
+use Rattle.rest.specs.Inner.{EndAsked, endRule}
+use Rattle.rest.proofs.Rest.{rest-parts, end-asked}
 use Rattle.verify.specs.Inner.{startRule, columnStart, stepsBefore, SummedUp, Comparable, foundIn, Finished}
 use Rattle.verify.specs.declared.Found.{Found}
 use Rattle.verify.proofs.Over.{overLeft, over-start}
@@ -151,10 +151,10 @@ module _ (p : ℕ) (steps : List Step) (outputs amounts old : List ℕ) where
       pub scratch-same : l₂ ≡ old
       scratch-same = judged-kept p steps old opening t₁ opened t₂ l₂ passed
 
-      pub start-able : foundBy t₂ ≡ fine → (p ≤ mostColumns) × (length steps ≤ mostSteps)
+      pub start-able : foundBy t₂ ≡ fine → EndAsked p (length steps)
       start-able e =
           let s = started p (length outputs) (length steps) amounts (then-fine opening (stepsRule p 1 steps) (sym found-is ∙ e) .0) in
-          (s .shape .sizes .p-low, s .shape .few)
+          end-asked (s .shape)
 
       module _ (t₃ : Task) (begun : t₃ ≡ unless (foundBy t₂ then endRule p (length steps) outputs (length old)) (Adding p)) where
         pub rule-found : foundBy t₃ ≡ rule
@@ -202,7 +202,7 @@ module _ (p : ℕ) (steps : List Step) (outputs amounts old : List ℕ) where
             module _ (t : Task) (l′ : List ℕ) (starts : left t l′ ≡ left (Adding p) (columnStart p c l)) where
               pub add-able : length l′ ≡ length old → Able t steps (length l′)
               unfolding Able
-              add-able len′ = subst (λ (u : Task). Able u steps (length l′)) (sym (ap (λ (s : Left). s .task) starts)) (parts .0, omega (arith, fits .room))
+              add-able len′ = subst (λ (u : Task). Able u steps (length l′)) (sym (ap (λ (s : Left). s .task) starts)) (record { steps-fine = parts .0; enough = omega (arith, fits .room) })
 
               -- the column is summed, and what is found taken up
               pub stands-next : (t′ : Task) (l″ l‴ : List ℕ) (f′ : Found) → Passed t l′ t′ l″ → ColumnTaken f (placeIn (foundBy t′)) p c outputs amounts l″ l‴ f′

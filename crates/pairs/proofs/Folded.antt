@@ -14,7 +14,7 @@ use Rattle.chain.specs.Inner.{stepAt}
 use Rattle.chain.specs.declared.Step.{Step}
 use Rattle.chain.proofs.Pairs.{getD-pairs, pairs-flat, length-flat}
 use Rattle.chain.proofs.Steps.{LegalStep, steps-legal}
-use Rattle.pairs.specs.Inner.{unless, left, summed, afterStep, afterSteps, Ready, Able}
+use Rattle.pairs.specs.Inner.{unless, left, summed, afterStep, afterSteps, StepCells, StepsCells, Ready, Able}
 use Rattle.pairs.specs.declared.Task.{Task}
 use Rattle.pairs.specs.declared.Task.the-variants.{Judging, Multiplying, Adding, Refused}
 
@@ -71,17 +71,18 @@ module _ (steps : List Step) (i room : ℕ) (h : i < length steps) (small : leng
   low : (p : ℕ) → stepsRule p 1 steps ≡ fine → LegalStep (p + (1 + i)) (getD steps i (by 0 0))
   low p ok = steps-legal p 1 steps (by 0 0) ok i h
 
+  cells-ready : (p : ℕ) → StepsCells p steps room → StepCells p i (getD steps i (by 0 0)) room
+  cells-ready p c =
+      let k = low p (c .steps-fine) in
+      let fits = c .enough in
+      record { own = omega arith; first = omega (arith, k .first-low); second = omega (arith, k .second-low) }
+
   able-ready : (t : Task) → Able t steps room → Ready t i (getD steps i (by 0 0)) room
   unfolding Able Ready
   able-ready (Judging p) a = omega arith
   able-ready (Multiplying p m inverse) a =
-      let k = low p (a .1) in
-      let fits = a .2 in
-      (a .0, omega arith, omega (arith, k .first-low), omega (arith, k .second-low))
-  able-ready (Adding p) a =
-      let k = low p (a .0) in
-      let fits = a .1 in
-      (omega arith, omega (arith, k .first-low), omega (arith, k .second-low))
+      record { times = a .times; cells = cells-ready p (a .cells) }
+  able-ready (Adding p) a = cells-ready p a
   able-ready (Refused n s) a = tt
 
   refused-ready : (n s : ℕ) → Ready (Refused n s) i (getD steps i (by 0 0)) room

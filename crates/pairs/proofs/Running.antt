@@ -18,7 +18,7 @@ use Rattle.residue.specs.Residue.{timesMod}
 use Rattle.residue.specs.Inner.{inverseOf}
 use Rattle.run.specs.Run.{residues, runRule, runAnswer, runValues, runFigures}
 use Rattle.rest.specs.Inner.{endRule}
-use Rattle.rest.proofs.Rest.{rest-parts}
+use Rattle.rest.proofs.Rest.{rest-parts, end-asked}
 use Rattle.run.specs.Inner.{startRule, figuresRule}
 use Rattle.run.proofs.Parts.{run-parts, started}
 use Rattle.run.proofs.Runnable.{runnable, fill-all, show-all, outputs-are-values}
@@ -84,7 +84,7 @@ module _ (p : ℕ) (steps : List Step) (outputs : List ℕ) (m : ℕ) (bases zs 
       pub start-able : foundBy t₂ ≡ fine → RunAble p (length steps) m bases
       start-able e =
           let s = started p (length outputs) (length steps) m bases (then-fine opening (stepsRule p 1 steps) (sym found-is ∙ e) .0) in
-          record { columns = s .shape .sizes .p-low; few = s .shape .few; modulus = s .modulus; bases-are-p = s .bases-are-p }
+          record { end = end-asked (s .shape); modulus = s .modulus; bases-are-p = s .bases-are-p }
 
       -- what is found after the steps, with so many cells
       abbrev ending : ℕ → Verdict
@@ -112,7 +112,10 @@ module _ (p : ℕ) (steps : List Step) (outputs : List ℕ) (m : ℕ) (bases zs 
             by-verdict : (v : Verdict) → rule ≡ v → Able (unless v (Multiplying p m (inverseOf m))) steps (length l₃)
             by-verdict fine e =
                 let a = runnable p steps outputs m bases (length zs) places e in
-                (record { modulus = a .modulus; inverse-is = refl }, a .steps-fine, omega (arith, a .values-fit))
+                record {
+                  times = record { modulus = a .modulus; inverse-is = refl };
+                  cells = record { steps-fine = a .steps-fine; enough = omega (arith, a .values-fit) };
+                }
             by-verdict (refused n s) e = tt
 
         module _ (len : length l₃ ≡ length zs) (t₄ : Task) (l₄ : List ℕ) (passed′ : Passed t₃ l₃ t₄ l₄) where

@@ -8,8 +8,8 @@ use Rattle.chain.specs.Written.{over}
 use Rattle.chain.specs.Chain.{mostAmount, by, stepRule, pick}
 use Rattle.chain.proofs.Rules.{lt-yes, lt-no, stop, pass, answer-refused, answer-done, kept, renewed}
 use Rattle.residue.specs.Residue.{timesMod}
-use Rattle.residue.specs.Inner.{inverseOf, TimesAsked}
-use Rattle.pairs.specs.Inner.{foundBy, unless, left, afterStep, Ready, RunStarted, RunEnded, placeIn, ColumnTaken, CheckEnded}
+use Rattle.residue.specs.Inner.{inverseOf}
+use Rattle.pairs.specs.Inner.{foundBy, unless, left, afterStep, StepCells, Multiplies, Ready, RunStarted, RunEnded, placeIn, ColumnTaken, CheckEnded}
 use Rattle.verify.specs.Inner.{takenUp, foundIn, Finished}
 use Rattle.verify.specs.declared.Found.{Found}
 use Rattle.pairs.specs.declared.Task.{Task}
@@ -112,11 +112,11 @@ module _ (t : Task) (i a b room : ℕ) where
   ready-judging p e r = rw e at r
 
   pub ready-multiplying : (p m v : ℕ) → t ≡ Multiplying p m v → Ready t i (by a b) room
-      → TimesAsked m v × (p + i + 1 < room) × (a < room) × (b < room)
+      → Multiplies m v (StepCells p i (by a b) room)
   unfolding Ready
   ready-multiplying p m v e r = rw e at r
 
-  pub ready-adding : (p : ℕ) → t ≡ Adding p → Ready t i (by a b) room → (p + i + 1 < room) × (a < room) × (b < room)
+  pub ready-adding : (p : ℕ) → t ≡ Adding p → Ready t i (by a b) room → StepCells p i (by a b) room
   unfolding Ready
   ready-adding p e r = rw e at r
 

@@ -7,8 +7,9 @@ use lib.ListN.{length, getD, set, replicate}
 use Rattle.chain.specs.Tests.{_<?_}
 use Rattle.chain.specs.Verdict.{Verdict, fine, refused, _then_, Answer, answer, onFine}
 use Rattle.chain.specs.Written.{over}
-use Rattle.chain.specs.Chain.{mostColumns, mostSteps, mostAmount, by, stepRule, stepsRule, pick}
+use Rattle.chain.specs.Chain.{mostColumns, mostAmount, by, stepRule, stepsRule, pick}
 use Rattle.chain.specs.declared.Step.{Step}
+use Rattle.rest.specs.Inner.{EndAsked}
 use Rattle.residue.specs.Residue.{timesMod}
 use Rattle.residue.specs.Inner.{inverseOf, TimesAsked}
 use Rattle.verify.specs.Inner.{takenUp, foundIn}
@@ -55,26 +56,39 @@ unfoldable pub afterSteps : Task → List ℕ → List Step → ℕ → Left
 afterSteps t l steps zero = left t l
 afterSteps t l steps (suc i) = afterStep (afterSteps t l steps i .task) (afterSteps t l steps i .cells) i (getD steps i (by 0 0))
 
+-- among so many cells there are that of step i and those that it reads
+pub record StepCells (p i : ℕ) (x : Step) (room : ℕ) : Type 0 where
+  pub own : p + i + 1 < room
+  pub first : x .first < room
+  pub second : x .second < room
+
+-- among so many cells there is one for each value of steps that are in order
+pub record StepsCells (p : ℕ) (steps : List Step) (room : ℕ) : Type 0 where
+  pub steps-fine : stepsRule p 1 steps ≡ fine
+  pub enough : p + length steps < room
+
+-- a task that multiplies asks for cells, and what a product asks
+pub record Multiplies (m inverse : ℕ) (Cells : Type 0) : Type 0 where
+  pub times : TimesAsked m inverse
+  pub cells : Cells
+
 -- what step i asks of its task, with how many cells there are
 unfoldable pub Ready : Task → ℕ → Step → ℕ → Type 0
 Ready (Judging p) i x room = p + i + 1 < 2 ^ 64
-Ready (Multiplying p m inverse) i x room =
-    TimesAsked m inverse × (p + i + 1 < room) × (x .first < room) × (x .second < room)
-Ready (Adding p) i x room = (p + i + 1 < room) × (x .first < room) × (x .second < room)
+Ready (Multiplying p m inverse) i x room = Multiplies m inverse (StepCells p i x room)
+Ready (Adding p) i x room = StepCells p i x room
 Ready (Refused n s) i x room = Unit {0}
 
 -- what all steps ask
 unfoldable pub Able : Task → List Step → ℕ → Type 0
 Able (Judging p) steps room = p ≤ mostColumns
-Able (Multiplying p m inverse) steps room =
-    TimesAsked m inverse × (stepsRule p 1 steps ≡ fine) × (p + length steps < room)
-Able (Adding p) steps room = (stepsRule p 1 steps ≡ fine) × (p + length steps < room)
+Able (Multiplying p m inverse) steps room = Multiplies m inverse (StepsCells p steps room)
+Able (Adding p) steps room = StepsCells p steps room
 Able (Refused n s) steps room = Unit {0}
 
 -- what a run whose steps were found fine may rely on
 pub record RunAble (p n m : ℕ) (bases : List ℕ) : Type 0 where
-  pub columns : p ≤ mostColumns
-  pub few : n ≤ mostSteps
+  pub end : EndAsked p n
   pub modulus : 0 < m
   pub bases-are-p : length bases ≡ p
 

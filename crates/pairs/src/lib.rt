@@ -1,13 +1,13 @@
 // The check and the run of a chain that is lent as a slice of steps: the steps are gone through as they stand, with one task or another.
 ghost use mathlib.Core.Path.{_≡_};
-ghost use Prim.Native.Nat.{_+_, _≤_, _<_};
+ghost use Prim.Native.Nat.{_+_, _<_};
 ghost use lib.ListN.{length};
 ghost use Rattle.chain.specs.Verdict.{fine, _then_, onFine};
 ghost use Rattle.chain.specs.Judgement.{verdictOf};
-ghost use Rattle.chain.specs.Chain.{mostColumns, mostSteps, by};
+ghost use Rattle.chain.specs.Chain.{by};
 ghost use Rattle.chain.specs.Inner.{FiguresAble};
 ghost use Rattle.run.specs.Run.{runAnswer, runValues, runFigures};
-ghost use Rattle.rest.specs.Inner.{endRule};
+ghost use Rattle.rest.specs.Inner.{EndAsked, endRule};
 ghost use Rattle.run.specs.Inner.{startRule, figuresRule};
 ghost use Rattle.answers.specs.Answers.{ranOf, verifiedOf};
 ghost use Rattle.verify.specs.Verify.{verifyAnswer, verifyScratch};
@@ -168,7 +168,7 @@ fn check_open(p: usize, q: usize, n: usize, amounts: &[u32]) -> Task
 
 // A check once its steps are judged: where nothing is found, they are to be added in each column.
 fn check_start(task: Task, p: usize, n: usize, outputs: &[u32], scratch: usize) -> Task
-    requires { ⌜ (foundBy task ≡ fine → (p ≤ mostColumns) × (n ≤ mostSteps)) ⌝ }
+    requires { ⌜ (foundBy task ≡ fine → EndAsked p n) ⌝ }
     ensures { λ r. ⌜ r ≡ unless (foundBy task then endRule p n (now (outputs .entry)) scratch) (Adding p) ⌝ }
 {
     match found(task) {

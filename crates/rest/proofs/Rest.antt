@@ -6,12 +6,13 @@ use native.Mathlib.Omega.{arith}
 use lib.ListN.{length, getD}
 use Rattle.chain.specs.Tests.{_<?_}
 use Rattle.chain.specs.Verdict.{Verdict, fine, _then_, refuseIf}
-use Rattle.chain.specs.Chain.{pairs, stepsRule, outputsRule, chainRule}
+use Rattle.chain.specs.Chain.{mostSteps, pairs, stepsRule, outputsRule, chainRule}
 use Rattle.chain.specs.declared.Step.{Step}
 use Rattle.chain.proofs.Rules.{then-assoc, then-fine, refuseIf-fine, not-lt}
 use Rattle.chain.proofs.Outputs.{outputs-low}
 use Rattle.chain.proofs.Pairs.{length-pairs}
-use Rattle.rest.specs.Inner.{endRule, restRule}
+use Rattle.chain.proofs.Sizes.{Shape}
+use Rattle.rest.specs.Inner.{EndAsked, endRule, restRule}
 
 pub rest-is : (p : ℕ) (steps : List Step) (outputs : List ℕ) (cells : ℕ)
     → restRule p steps outputs cells ≡ (chainRule p steps outputs then refuseIf (cells <? p + length steps + 1) 5 0)
@@ -28,6 +29,10 @@ pub rest-flat : (p : ℕ) (l outputs : List ℕ) (cells : ℕ) (v : Verdict)
     → v ≡ (stepsRule p 1 (pairs l) then endRule p (length l / 2) outputs cells) → v ≡ restRule p (pairs l) outputs cells
 unfolding restRule
 rest-flat p l outputs cells v e = rw (length-pairs l) e
+
+-- a shape that is fine has what the end asks
+pub end-asked : {p q n : ℕ} → Shape mostSteps p q n → EndAsked p n
+end-asked s = record { p-low = s .sizes .p-low; n-low = s .few }
 
 -- an end that is fine
 pub record Ended (p n : ℕ) (outputs : List ℕ) (cells : ℕ) : Type 0 where

@@ -1,16 +1,16 @@
 // A chain judged from its steps on, by a call that is lent cells for its values: the steps, 12, then 5.
 ghost use mathlib.Core.Path.{_≡_};
-ghost use Prim.Native.Nat.{_/_, _≤_};
+ghost use Prim.Native.Nat.{_/_};
 ghost use lib.ListN.{length};
 ghost use Rattle.chain.specs.Verdict.{fine, _then_};
-ghost use Rattle.chain.specs.Chain.{mostColumns, mostSteps, pairs};
+ghost use Rattle.chain.specs.Chain.{pairs};
 ghost use Rattle.chain.specs.Judgement.{verdictOf};
-ghost use Rattle.rest.specs.Inner.{endRule, restRule};
+ghost use Rattle.rest.specs.Inner.{EndAsked, endRule, restRule};
 use chain::Judgement;
 
 // After n steps: 12, then 5 where fewer cells are lent than there are values.
 pub fn judge_end(p: usize, n: usize, outputs: &[u32], cells: usize) -> Judgement
-    requires { ⌜ (p ≤ mostColumns) × (n ≤ mostSteps) ⌝ }
+    requires { ⌜ EndAsked p n ⌝ }
     ensures { λ r. ⌜ verdictOf r ≡ endRule p n (now (outputs .entry)) cells ⌝ }
 {
     match legal::judge_outputs(p + n, outputs) {
@@ -33,7 +33,7 @@ pub fn judge_rest(
     outputs: &[u32],
     cells: usize,
 ) -> Judgement
-    requires { ⌜ (verdictOf found ≡ fine → (p ≤ mostColumns) × (length (now steps) / 2 ≤ mostSteps)) ⌝ }
+    requires { ⌜ (verdictOf found ≡ fine → EndAsked p (length (now steps) / 2)) ⌝ }
     ensures { λ r. ⌜ verdictOf r ≡ (verdictOf found then restRule p (pairs (now (steps .entry))) (now (outputs .entry)) cells) ⌝ }
 {
     match found {

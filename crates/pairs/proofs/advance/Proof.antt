@@ -2,7 +2,8 @@
 use borrow.Author.Needs.{needs}
 use Prim.Native.Nat.{_+_, _^_, _<_}
 use lib.ListN.{length}
-use Rattle.residue.specs.Inner.{TimesAsked}
+use Rattle.chain.specs.Chain.{by}
+use Rattle.pairs.specs.Inner.{StepCells, Multiplies}
 use Rattle.pairs.proofs.Tasks.{ready-judging, ready-multiplying, ready-adding, stepping}
 use Rattle.pairs.proofs.advance.Statement.{statement}
 use Rattle.pairs.proofs.advance.Tie as tie
@@ -15,14 +16,13 @@ judging k = ready-judging _ _ _ _ _ _ (k .before .task .given .1) (k .before .be
 multiplying : (k : tie.After-known-told2)
     → let g = k .before .task2 .given .0 in
     let a = k .before .before .before .before .args in
-    TimesAsked (g .1 .0) (g .1 .1 .0) × (g .0 + a .i + 1 < length (a .cells .now)) × (a .first < length (a .cells .now))
-    × (a .second < length (a .cells .now))
+    Multiplies (g .1 .0) (g .1 .1 .0) (StepCells (g .0) (a .i) (by (a .first) (a .second)) (length (a .cells .now)))
 multiplying k = ready-multiplying _ _ _ _ _ _ _ _ (k .before .task2 .given .1) (k .before .before .before .before .pre)
 
 adding : (k : tie.After-known-told3)
     → let g = k .before .task3 .given .0 in
     let a = k .before .before .before .before .args in
-    (g .0 + a .i + 1 < length (a .cells .now)) × (a .first < length (a .cells .now)) × (a .second < length (a .cells .now))
+    StepCells (g .0) (a .i) (by (a .first) (a .second)) (length (a .cells .now))
 adding k = ready-adding _ _ _ _ _ _ (k .before .task3 .given .1) (k .before .before .before .before .pre)
 
 enum-known-task : tie.Need-enum-known-task
@@ -50,28 +50,28 @@ mul-times : tie.Need-mul-times
 mul-times c = search needs
 
 slice-read-times : tie.Need-slice-read-times
-slice-read-times c = multiplying (c .before) .2
+slice-read-times c = multiplying (c .before) .cells .first
 
 mul-times-2 : tie.Need-mul-times-2
 mul-times-2 c = search needs
 
 slice-read-times-2 : tie.Need-slice-read-times-2
-slice-read-times-2 c = multiplying (c .before .before) .3
+slice-read-times-2 c = multiplying (c .before .before) .cells .second
 
 times-requires : tie.Need-times-requires
-times-requires c κs = multiplying (c .before .before) .0
+times-requires c κs = multiplying (c .before .before) .times
 
 add-cells : tie.Need-add-cells
-add-cells c = let h = multiplying (c .before .before .before) .1 in search needs
+add-cells c = let h = multiplying (c .before .before .before) .cells .own in search needs
 
 add-cells-2 : tie.Need-add-cells-2
-add-cells-2 c = let h = multiplying (c .before .before .before) .1 in search needs
+add-cells-2 c = let h = multiplying (c .before .before .before) .cells .own in search needs
 
 mul-cells : tie.Need-mul-cells
-mul-cells c = let h = multiplying (c .before .before .before) .1 in search needs
+mul-cells c = let h = multiplying (c .before .before .before) .cells .own in search needs
 
 slice-write-cells : tie.Need-slice-write-cells
-slice-write-cells c = let h = multiplying (c .before .before .before) .1 in search needs
+slice-write-cells c = let h = multiplying (c .before .before .before) .cells .own in search needs
 
 enum-known-task-3 : tie.Need-enum-known-task-3
 enum-known-task-3 c = search needs
@@ -80,13 +80,13 @@ mul-plus : tie.Need-mul-plus
 mul-plus c = search needs
 
 slice-read-plus : tie.Need-slice-read-plus
-slice-read-plus c = adding (c .before) .1
+slice-read-plus c = adding (c .before) .first
 
 mul-plus-2 : tie.Need-mul-plus-2
 mul-plus-2 c = search needs
 
 slice-read-plus-2 : tie.Need-slice-read-plus-2
-slice-read-plus-2 c = adding (c .before .before) .2
+slice-read-plus-2 c = adding (c .before .before) .second
 
 plus-requires : tie.Need-plus-requires
 plus-requires c κs = search needs
@@ -95,7 +95,7 @@ cast-if1 : tie.Need-cast-if1
 cast-if1 c = search needs
 
 add-t41 : tie.Need-add-t41
-add-t41 c = let h = adding (c .before .before .before .before) .0 in search needs
+add-t41 c = let h = adding (c .before .before .before .before) .own in search needs
 
 returns : tie.Need-returns
 returns c = search (needs, stepping)
@@ -104,16 +104,16 @@ cast-cells : tie.Need-cast-cells
 cast-cells c = search needs
 
 add-cells-3 : tie.Need-add-cells-3
-add-cells-3 c = let h = adding (c .before .before .before .before) .0 in search needs
+add-cells-3 c = let h = adding (c .before .before .before .before) .own in search needs
 
 add-cells-4 : tie.Need-add-cells-4
-add-cells-4 c = let h = adding (c .before .before .before .before) .0 in search needs
+add-cells-4 c = let h = adding (c .before .before .before .before) .own in search needs
 
 mul-cells-2 : tie.Need-mul-cells-2
-mul-cells-2 c = let h = adding (c .before .before .before .before) .0 in search needs
+mul-cells-2 c = let h = adding (c .before .before .before .before) .own in search needs
 
 slice-write-cells-2 : tie.Need-slice-write-cells-2
-slice-write-cells-2 c = let h = adding (c .before .before .before .before) .0 in search needs
+slice-write-cells-2 c = let h = adding (c .before .before .before .before) .own in search needs
 
 enum-known-task-4 : tie.Need-enum-known-task-4
 enum-known-task-4 c = search needs

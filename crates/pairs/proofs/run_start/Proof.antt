@@ -30,7 +30,7 @@ enum-told : tie.Need-enum-told
 enum-told c = search needs
 
 judge-end-requires : tie.Need-judge-end-requires
-judge-end-requires c κs = (able c .columns, able c .few)
+judge-end-requires c κs = able c .end
 
 judge-figures-requires : tie.Need-judge-figures-requires
 judge-figures-requires c κs = search needs

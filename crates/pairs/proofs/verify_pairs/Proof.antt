@@ -53,11 +53,10 @@ use denote.Triple.Table.{entered, cited}
 use denote.Triple.Walked.{says, Stays, stay-dropped, gave-slice, walkOf, goes-dropped, goes-gave-slice, Walks, walked, walk-meets}
 use denote.Exit.{yes}
 use Rattle.chain.specs.Verdict.{fine, _then_, onFine}
-use Rattle.chain.specs.Chain.{mostColumns, mostSteps}
 use Rattle.chain.specs.declared.Step.{Step}
 use Rattle.chain.proofs.Step as T
 use Rattle.verify.specs.Verify.{verifyAnswer, verifyScratch}
-use Rattle.rest.specs.Inner.{endRule}
+use Rattle.rest.specs.Inner.{EndAsked, endRule}
 use Rattle.verify.specs.Inner.{startRule, columnStart, Comparable}
 use Rattle.verify.specs.declared.Found.{Found}
 use Rattle.verify.proofs.Found as F
@@ -260,7 +259,7 @@ module _ {M : Type 1} (𝓤 : URA M) (H : Heap 𝓤) (A : Atoms 𝓤) (W : Given
       tt,
     )
 
-    asks-start : TaskIs t → (foundBy t ≡ fine → (p ≤ mostColumns) × (length (x .now) ≤ mostSteps))
+    asks-start : TaskIs t → (foundBy t ≡ fine → EndAsked p (length (x .now)))
         → ent 𝓤 (⋆ 𝓤 H A (‵ (flft κ₁ q₁) ∷ Outputs ∷ [])) (Start 𝓤 H A at-mem run .pre to-start)
     asks-start is able =
         qed W (‵ (flft κ₁ q₁) ∷ Outputs ∷ []) ∵ says ! able $ nothing ! $ move ! (1 ∷ 0 ∷ []) $ join ! $ frame ! $

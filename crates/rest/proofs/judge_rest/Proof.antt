@@ -1,11 +1,11 @@
 -- What was found is told on; else the verdicts on the steps and on their end, in their order.
 use borrow.Author.Needs.{needs}
 use mathlib.Core.Path.{ap}
-use Prim.Native.Nat.{_/_, _≤_}
+use Prim.Native.Nat.{_/_}
 use lib.ListN.{length}
-use Rattle.chain.specs.Chain.{mostColumns, mostSteps}
 use Rattle.chain.specs.Judgement.{verdictOf}
 use Rattle.chain.proofs.Rules.{judging}
+use Rattle.rest.specs.Inner.{EndAsked}
 use Rattle.rest.proofs.Rest.{rest-flat}
 use Rattle.rest.proofs.judge_rest.Statement.{statement}
 use Rattle.rest.proofs.judge_rest.Tie as tie
@@ -13,7 +13,7 @@ use Rattle.rest.proofs.judge_rest.Tie as tie
 -- nothing was found before the steps, and so they are asked of as they may be
 able : (e : tie.After-enum-told)
     → let a = e .before .before .before .before .args in
-    (a .p ≤ mostColumns) × (length (a .steps .now) / 2 ≤ mostSteps)
+    EndAsked (a .p) (length (a .steps .now) / 2)
 able e = e .before .before .before .before .pre (ap verdictOf (e .enum-told .given .1))
 
 enum-known-found : tie.Need-enum-known-found
@@ -26,7 +26,7 @@ enum-told : tie.Need-enum-told
 enum-told c = search needs
 
 judge-steps-requires : tie.Need-judge-steps-requires
-judge-steps-requires c κs = able c .0
+judge-steps-requires c κs = able c .p-low
 
 enum-known-number : tie.Need-enum-known-number
 enum-known-number c = search needs

@@ -2,6 +2,7 @@
 use borrow.Author.Needs.{needs}
 use mathlib.Core.Path.{sym, _∙_}
 use Rattle.run.proofs.Parts.{run-flat, started}
+use Rattle.rest.proofs.Rest.{end-asked}
 use Rattle.runner.proofs.judge.Statement.{statement}
 use Rattle.runner.proofs.judge.Tie as tie
 
@@ -9,7 +10,7 @@ judge-start-requires : tie.Need-judge-start-requires
 judge-start-requires c κs = search needs
 
 judge-rest-requires : tie.Need-judge-rest-requires
-judge-rest-requires c κs = λ e. let s = started _ _ _ _ _ (sym (c .judge-start .ensures) ∙ e) .shape in (s .sizes .p-low, s .few)
+judge-rest-requires c κs = λ e. end-asked (started _ _ _ _ _ (sym (c .judge-start .ensures) ∙ e) .shape)
 
 judge-figures-requires : tie.Need-judge-figures-requires
 judge-figures-requires c κs = search needs

@@ -13,7 +13,7 @@ use Rattle.digits.proofs.Count.{low-count}
 use Rattle.sheet.specs.Sheet.{amount}
 use Rattle.methods.specs.Powers.{largestIn}
 use Rattle.methods.specs.Inner.{Largest}
-use Rattle.methods.proofs.Filling.{fill-end, filled-at}
+use Rattle.methods.proofs.Filling.{Filled, filled-all, filled-at}
 
 -- the largest amount of column c over the first i payslips
 unfoldable pub largestTo : ℕ → List ℕ → ℕ → ℕ → ℕ
@@ -36,10 +36,10 @@ module _ (p : ℕ) (amounts : List ℕ) (c : ℕ) where
 pub ruleset finding-largest = (column-start, column-on, column-end)
 
 -- filled column by column, cells hold the largest amount of each
-pub all-largest : (p q : ℕ) (amounts old cells : List ℕ) (c : ℕ) → c ≤ p → p ≤ c → p ≤ length cells → cells ≡ over (listTo c (largestIn p q amounts)) old
+pub all-largest : (p q : ℕ) (amounts old cells : List ℕ) (c : ℕ) → p ≤ c → p ≤ length old → Filled (largestIn p q amounts) old p c cells
     → Largest p q amounts cells
-all-largest p q amounts old cells c h g room e =
-    record { there = room; are = filled-at (largestIn p q amounts) old p cells (fill-end (largestIn p q amounts) old p c cells h g e) }
+all-largest p q amounts old cells c g room d =
+    record { there = omega (arith, d .long); are = filled-at (largestIn p q amounts) old p cells (filled-all (largestIn p q amounts) old p c cells g d) }
 
 -- a number of 32 bits has no more digits than bits
 pub digits-low : (k x r : ℕ) → 0 < k → x < 2 ^ 32 → r ≡ digitCount k x → r ≤ 32

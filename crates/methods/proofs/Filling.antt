@@ -1,10 +1,10 @@
 -- Cells are filled one after the other with a function's values: what stands in them is always the list of the values so far, over what was there.
-use mathlib.Core.Path.{_≡_, sym, ap, _∙_}
+use mathlib.Core.Path.{_≡_, refl, sym, ap, _∙_}
 use mathlib.Core.List.{List, [], _∷_, _++_}
 use Prim.Native.Nat.{ℕ, _+_, _≤_, _<_}
 use native.Mathlib.Numerals.{add-one}
 use native.Mathlib.Omega.{arith}
-use lib.ListN.{length, getD, take, set}
+use lib.ListN.{length, getD, take, set, length-set}
 use Rattle.chain.specs.Written.{over}
 use Rattle.chain.proofs.Written.{take-over, over-next, over-getD}
 use Rattle.digits.specs.Range.{listTo}
@@ -12,9 +12,6 @@ use Rattle.digits.proofs.Listed.{length-list, getD-list}
 use Rattle.methods.proofs.Paying.{over-none}
 
 module _ (f : ℕ → ℕ) (old : List ℕ) where
-  pub fill-none : old ≡ over (listTo 0 f) old
-  fill-none = over-none old
-
   pub fill-on : (n c x : ℕ) (cells : List ℕ) → c < n → n ≤ length old → x ≡ f c → cells ≡ over (listTo c f) old
       → set cells c x ≡ over (listTo (c + 1) f) old
   fill-on n c x cells h room is e =
@@ -23,10 +20,23 @@ module _ (f : ℕ → ℕ) (old : List ℕ) where
       ∙ over-next (listTo c f) old x c (length-list c f) (omega arith)
       ∙ ap (λ (y : ℕ). over (listTo c f ++ y ∷ []) old) is)
 
-  pub fill-end : (n c : ℕ) (cells : List ℕ) → c ≤ n → n ≤ c → cells ≡ over (listTo c f) old → cells ≡ over (listTo n f) old
-  fill-end n c cells h g e =
-      let last : c ≡ n = omega arith in
-      e ∙ ap (λ (m : ℕ). over (listTo m f) old) last
+  -- the loop's invariant: c of n cells are filled
+  pub record Filled (n c : ℕ) (cells : List ℕ) : Type 0 where
+    pub some : c ≤ n
+    pub long : length cells ≡ length old
+    pub are : cells ≡ over (listTo c f) old
+
+  pub filled-none : (n : ℕ) → Filled n 0 old
+  filled-none n = record { some = omega arith; long = refl; are = over-none old }
+
+  pub filled-more : (n c x : ℕ) (cells : List ℕ) → c < n → n ≤ length old → x ≡ f c → Filled n c cells → Filled n (c + 1) (set cells c x)
+  filled-more n c x cells h room is d =
+      record { some = omega arith; long = length-set cells c x ∙ d .long; are = fill-on n c x cells h room is (d .are) }
+
+  pub filled-all : (n c : ℕ) (cells : List ℕ) → n ≤ c → Filled n c cells → cells ≡ over (listTo n f) old
+  filled-all n c cells g d =
+      let last : c ≡ n = omega (arith, d .some) in
+      d .are ∙ ap (λ (m : ℕ). over (listTo m f) old) last
 
   -- read back from the front
   module _ (n : ℕ) (cells : List ℕ) (e : cells ≡ over (listTo n f) old) where
@@ -39,4 +49,4 @@ module _ (f : ℕ → ℕ) (old : List ℕ) where
     pub filled-length : n ≡ length (take n cells)
     filled-length = sym (ap length filled-front ∙ length-list n f)
 
-pub ruleset filling = (fill-none, fill-on, fill-end)
+pub ruleset filling = (filled-none, filled-more, filled-all)

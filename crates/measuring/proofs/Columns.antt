@@ -6,9 +6,8 @@ use native.Mathlib.Numerals.{add-one}
 use native.Mathlib.Omega.{arith}
 use lib.ListN.{length}
 use lib.Pow.{pow-mono}
-use Rattle.chain.specs.Written.{over}
 use Rattle.digits.specs.Digits.{digitCount}
-use Rattle.digits.specs.Range.{maxTo, listTo}
+use Rattle.digits.specs.Range.{maxTo}
 use Rattle.digits.proofs.Count.{low-count}
 use Rattle.sheet.specs.Sheet.{amount}
 use Rattle.methods.specs.Powers.{largestIn}

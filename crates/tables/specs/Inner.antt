@@ -6,6 +6,11 @@ use Rattle.chain.specs.declared.Step.{Step}
 use Rattle.products.specs.Inner.{StepsStored}
 use Rattle.tables.specs.Table.{table}
 
+-- what finding the lowest digit of t that is not 0 asks, in base 2^k
+pub record LowestAsked (k t : ℕ) : Type 0 where
+  pub k-some : 0 < k
+  pub t-some : 0 < t
+
 -- the row of a table's entries with one digit more than d, and that their numbers fit
 pub record RowAsked (k : ℕ) (inputs : List ℕ) (at d : ℕ) : Type 0 where
   pub k-some : 0 < k

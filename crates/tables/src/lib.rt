@@ -7,7 +7,7 @@ ghost use lib.ListN.{length};
 ghost use Rattle.digits.specs.Digits.{digitCount};
 ghost use Rattle.products.specs.Inner.{stepsIn, WithRoom, StepsRoom, StepsStored};
 ghost use Rattle.tables.specs.Table.{isUnit, entry, lowest, tableNext, table};
-ghost use Rattle.tables.specs.Inner.{LowestAsked, RowAsked, Longer};
+ghost use Rattle.tables.specs.Inner.{LowestAsked, RowAsked, TableAsked, Longer};
 
 // The value number of entry t, which is not zero and whose d digits are counted, of a table whose first step makes value at: an input for the unit
 // with as many digits, else a step.
@@ -76,8 +76,8 @@ fn make_row(k: usize, inputs: &[u32], at: u32, d: usize, n: usize, steps: &mut [
 
 // The table of all products of the inputs with exponents below 2^k, after n steps.
 pub fn make_table(p: usize, k: usize, inputs: &[u32], n: usize, steps: &mut [u32]) -> usize
-    requires { ⌜ (0 < k) × (k < 32) × (k * length (now inputs) < 32) × (p + n + 2 ^ (k * length (now inputs)) < 2 ^ 32) ⌝ }
-    requires { ⌜ StepsRoom p (now steps) n (stepsIn (now steps) n ++ table k (now inputs) (p + n + 1) (2 ^ (k * length (now inputs)))) ⌝ }
+    requires { ⌜ WithRoom (TableAsked p k (now inputs) n)
+        (StepsRoom p (now steps) n (stepsIn (now steps) n ++ table k (now inputs) (p + n + 1) (2 ^ (k * length (now inputs))))) ⌝ }
     ensures { λ r. ⌜ StepsStored (now (steps .entry)) (now (steps .exit)) r
         (stepsIn (now (steps .entry)) n ++ table k (now (inputs .entry)) (p + n + 1) (2 ^ (k * length (now (inputs .entry))))) ⌝ }
 {

@@ -9,12 +9,13 @@ use Rattle.chain.proofs.Rules.{then-fine}
 use Rattle.chain.proofs.Sizes.{Sizes, sizes-fit, length-fits}
 use Rattle.sheet.specs.Sheet.{sheetRule}
 use Rattle.sheet.proofs.Amounts.{amounts-fit}
-use Rattle.methods.specs.Inner.{SheetSized, Asked}
-use Rattle.straus.specs.Straus.{strausMost, strausMostBits}
+use Rattle.methods.specs.Inner.{SheetSized, AskedByLargest}
+use Rattle.straus.specs.Inner.{StrausAsked}
 use Rattle.yao.specs.Yao.{yaoMost}
 use Rattle.parameters.specs.Parameters.{methodRule}
 use Rattle.parameters.proofs.Fits.{Fits, method-fits}
 use Rattle.compile.specs.Compile.{count, acceptedRule}
+use Rattle.compile.specs.Inner.{MeasuredFor}
 
 -- the sheet and the parameter keep to their ranges
 pub record InRange (p q : ℕ) (amounts : List ℕ) (method k : ℕ) : Type 0 where
@@ -33,15 +34,15 @@ module _ {p q : ℕ} {amounts : List ℕ} {method k : ℕ} (r : InRange p q amou
   sized : SheetSized p q amounts
   sized = record { p-some = r .sizes .p-some; p-low = r .sizes .p-low; q-low = r .sizes .q-low; amounts-are = r .amounts-are }
 
-  pub first-asks : method ≡ 1 → Asked strausMost p q amounts k × (p * k ≤ strausMostBits)
+  pub first-asks : method ≡ 1 → StrausAsked p q amounts k
   first-asks e =
       let f = r .fits .one e in
-      (record { sheet = sized; k-some = f .0; k-low = f .1 }, f .2)
+      record { ranges = record { sheet = sized; k-some = f .0; k-low = f .1 }; bits-low = f .2 }
 
-  pub other-asks : (method ≡ 1 → ⊥) → Asked yaoMost p q amounts k
-  other-asks e =
+  pub other-asks : {cells : List ℕ} → MeasuredFor method p q amounts cells → (method ≡ 1 → ⊥) → AskedByLargest yaoMost p q amounts k cells
+  other-asks m e =
       let f = r .fits .more e in
-      record { sheet = sized; k-some = f .2; k-low = f .3 }
+      record { ranges = record { sheet = sized; k-some = f .2; k-low = f .3 }; largest = m .columns e }
 
 pub record Accepted (p q : ℕ) (amounts : List ℕ) (method k : ℕ) : Type 0 where
   pub ranges : InRange p q amounts method k

@@ -5,11 +5,10 @@ ghost use Prim.Native.Nat.{_*_, _/_, _≤_};
 ghost use lib.ListN.{length};
 ghost use Rattle.chain.specs.Chain.{mostColumns};
 ghost use Rattle.chain.specs.Verdict.{fine, answer};
-ghost use Rattle.sheet.specs.Sheet.{sheetRule};
-ghost use Rattle.methods.specs.Inner.{ChainStored};
-ghost use Rattle.parameters.specs.Parameters.{methodRule};
+ghost use Rattle.products.specs.Inner.{WithRoom};
+ghost use Rattle.methods.specs.Inner.{LentRoom, ChainStored};
 ghost use Rattle.compile.specs.Compile.{chainOf, count, acceptedRule, compileAnswer, compileSteps, compileOutputs};
-ghost use Rattle.compile.specs.Inner.{MeasuredFor};
+ghost use Rattle.compile.specs.Inner.{MeasuredFor, StepCountAsked, EmitAsked};
 ghost use Rattle.answers.specs.Answers.{compiledOf};
 use answers::Compiled;
 use chain::Judgement;
@@ -33,7 +32,7 @@ fn step_count(
     k: usize,
     largest: &[u32],
 ) -> usize
-    requires { ⌜ (sheetRule p q (now amounts) ≡ fine) × (methodRule p method k ≡ fine) × MeasuredFor method p q (now amounts) (now largest) ⌝ }
+    requires { ⌜ StepCountAsked p q (now amounts) method k (now largest) ⌝ }
     ensures { λ r. ⌜ r ≡ count p q (now (amounts .entry)) method k ⌝ }
 {
     match method {
@@ -87,8 +86,7 @@ fn emit(
     steps: &mut [u32],
     outputs: &mut [u32],
 )
-    requires { ⌜ (acceptedRule p q (now amounts) method k ≡ fine) × MeasuredFor method p q (now amounts) (now largest) ⌝ }
-    requires { ⌜ (2 * count p q (now amounts) method k ≤ length (now steps)) × (q ≤ length (now outputs)) ⌝ }
+    requires { ⌜ WithRoom (EmitAsked p q (now amounts) method k (now largest)) (LentRoom q (count p q (now amounts) method k) (now steps) (now outputs)) ⌝ }
     ensures { λ r. ⌜ ChainStored (now (steps .entry)) (now (outputs .entry)) (now (steps .exit)) (now (outputs .exit))
         (chainOf p q (now (amounts .entry)) method k) ⌝ }
 {

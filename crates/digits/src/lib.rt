@@ -2,6 +2,7 @@
 ghost use mathlib.Core.Path.{_≡_};
 ghost use Prim.Native.Nat.{_*_, _^_, _≤_, _<_};
 ghost use Rattle.digits.specs.Digits.{digitCount, digit};
+ghost use Rattle.digits.specs.Inner.{CountAsked};
 
 // 2^e
 pub fn power(e: usize) -> u32
@@ -21,7 +22,7 @@ pub fn raised(x: u32, e: usize) -> u64
 
 // How many digits x has in base 2^k: its bits, cut into digits. Digits of one bit are not cut, which spares a division.
 pub fn digit_count(k: usize, x: u32) -> usize
-    requires { ⌜ (0 < k) × (k < 32) ⌝ }
+    requires { ⌜ CountAsked k ⌝ }
     ensures { λ r. ⌜ r ≡ digitCount k x ⌝ }
 {
     let bits = 32 - u32::leading_zeros(x) as usize;

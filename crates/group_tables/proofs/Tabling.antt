@@ -1,7 +1,7 @@
 -- A group's table is appended to those of the groups before it, and there is room for it because all of them have it.
 use mathlib.Core.Path.{_≡_, ap, ap₂, _∙_, subst}
 use mathlib.Core.List.{List, _++_}
-use Prim.Native.Nat.{ℕ, suc, _+_, _-_, _*_, _^_, _≤_, _<_}
+use Prim.Native.Nat.{ℕ, suc, _+_, _*_, _^_, _≤_, _<_}
 use native.Mathlib.Nat.{one-mul}
 use native.Mathlib.Numerals.{add-one}
 use native.Mathlib.Omega.{arith}
@@ -11,6 +11,7 @@ use Rattle.products.specs.Inner.{stepsIn, StepsRoom, StepsStored}
 use Rattle.products.proofs.Sound.{Begins, begins-more, begins-rise, begins-length}
 use Rattle.products.proofs.Emitted.{stored-is, stored-on, stored-room}
 use Rattle.tables.specs.Table.{table}
+use Rattle.tables.specs.Inner.{TableAsked}
 use Rattle.groups.specs.declared.Grouping.{Grouping}
 use Rattle.groups.specs.Groups.{group, groupSize, groupTables}
 use Rattle.groups.specs.Inner.{TablesRoom, tablesAfter}
@@ -52,15 +53,18 @@ module _ {s : Grouping} {members old : List ℕ} {n : ℕ} (room : TablesRoom s 
     pub table-on : {cells′ : List ℕ} {end′ : ℕ} → StepsStored cells cells′ end′ longer → StepsStored old cells′ end′ (made (g + 1))
     table-on t = let u = rw next-is at t in rw (add-one g) (stored-on st (begins-more (made g) _) u)
 
-    pub table-small : 1 * length own < 32
-    table-small = let few = room .cuts .few in omega (arith, ap length own-is, group-small (s .c) g members few)
-
-    pub table-numbers : s .p + end + 2 ^ (1 * length own) < 2 ^ 32
-    table-numbers =
+    pub table-asked : TableAsked (s .p) 1 own end
+    table-asked =
         let columns = room .cuts .columns in
+        let few = room .cuts .few in
         let low = room .few in
         let long = begins-length (rise g (omega arith)) in
-        rw own-is (omega (arith, group-parts (s .c) g members (room .cuts .few), st .count))
+        record {
+          k-some = omega arith;
+          k-low = omega arith;
+          places-low = omega (arith, ap length own-is, group-small (s .c) g members few);
+          numbers-low = rw own-is (omega (arith, group-parts (s .c) g members few, st .count));
+        }
 
 pub tables-end : (s : Grouping) (members : List ℕ) (start : List Step) {old cells : List ℕ} {end : ℕ} (g : ℕ)
     → StepsStored old cells end (groupTables (s .p) (s .c) members start g) → g ≤ s .groups → s .groups ≤ g

@@ -1,11 +1,10 @@
 // The squarings, the inputs that they make, and the groups' tables.
 ghost use mathlib.Core.Path.{_≡_};
-ghost use Prim.Native.Nat.{_+_, _-_, _*_, _^_, _≤_, _<_};
+ghost use Prim.Native.Nat.{_+_, _^_, _≤_, _<_};
 ghost use lib.ListN.{length};
 ghost use Rattle.chain.specs.Chain.{mostColumns};
 ghost use Rattle.chain.specs.Written.{over, laid};
-ghost use Rattle.products.specs.Inner.{stepsIn, StepsRoom, StepsStored};
-ghost use Rattle.tables.specs.Table.{entry};
+ghost use Rattle.products.specs.Inner.{stepsIn, WithRoom, StepsRoom, StepsStored};
 ghost use Rattle.methods.specs.Powers.{powerAt};
 ghost use Rattle.digits.specs.Range.{listTo};
 ghost use Rattle.groups.specs.Inner.{GroupsMade, GroupsRoom, InputsRoom, TablesRoom, bitInputs, bitSquarings};
@@ -55,7 +54,7 @@ fn count_squarings(bits: &[u32], cells: &mut [u32])
 
 // The squarings of columns of these bits: the number of steps made.
 fn make_squarings(bits: &[u32], steps: &mut [u32]) -> usize
-    requires { ⌜ (length (now bits) ≤ mostColumns) × StepsRoom (length (now bits)) (now steps) 0 (bitSquarings (now bits)) ⌝ }
+    requires { ⌜ WithRoom (length (now bits) ≤ mostColumns) (StepsRoom (length (now bits)) (now steps) 0 (bitSquarings (now bits))) ⌝ }
     ensures { λ r. ⌜ StepsStored (now (steps .entry)) (now (steps .exit)) r (bitSquarings (now (bits .entry))) ⌝ }
 {
     let p = bits.len();

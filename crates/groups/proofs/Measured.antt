@@ -11,7 +11,7 @@ use Rattle.digits.specs.Digits.{bitLength, digitCount}
 use Rattle.digits.specs.Range.{sumTo, listTo}
 use Rattle.digits.proofs.Range.{sum-same}
 use Rattle.methods.specs.Powers.{countsOf, squarings, powerAt, powerOf}
-use Rattle.methods.specs.Inner.{SheetSized, Largest, digitsAt}
+use Rattle.methods.specs.Inner.{Largest, AskedByLargest, digitsAt}
 use Rattle.methods.proofs.Columns.{squarings-same}
 use Rattle.measuring.proofs.Columns.{digits-low}
 use Rattle.methods.proofs.Filling.{filled-front, filled-length}
@@ -23,7 +23,7 @@ use Rattle.digits.proofs.Listed.{getD-list, length-list, list-same}
 use Rattle.groups.specs.Groups.{columnBits, columnSquarings, group, groupCount, groupTables, inputCount, inputs, mostInputs}
 use Rattle.groups.specs.Groups.{mostMembers, overInputs, selection, sheetSquarings, sheetTables, weigh}
 use Rattle.digits.specs.Inner.{Bounded}
-use Rattle.groups.specs.Inner.{Grouped, GroupedBy, GroupedFor, GroupsMade, GroupsRoom, Narrow, bitInputs, bitSquarings, bitTables}
+use Rattle.groups.specs.Inner.{Grouped, GroupedBy, GroupedFor, GroupingAsked, GroupsMade, GroupsRoom, Narrow, bitInputs, bitSquarings, bitTables}
 use Rattle.groups.specs.Inner.{bitsLess, partNumbers}
 use Rattle.groups.proofs.Counting.{lessTo}
 use Rattle.groups.proofs.Inputs.{over-same}
@@ -59,19 +59,19 @@ module _ (p : ℕ) (largest old cells : List ℕ) (e : cells ≡ over (listTo p 
       by-place col (no ge) = rw (List·getD-eq-default (take p cells) 0 {n = col} (omega (arith, measured-long))) (omega arith)
 
 -- their grouping, from what their bits add up to
-pub columns-grouped : (s : Grouping) (largest old cells : List ℕ) → s .p ≤ mostColumns → 1 ≤ s .c → s .c ≤ mostMembers
+pub columns-grouped : (s : Grouping) (largest old cells : List ℕ) → GroupingAsked (s .p) (s .c) largest old
     → cells ≡ over (listTo (s .p) (digitsAt 1 largest)) old
     → Bounded (s .inputs) (lessTo (take (s .p) cells) 0 (length (take (s .p) cells))) mostInputs
     → Bounded (s .groups) (groupCount (s .c) (s .inputs)) mostInputs
     → Bounded (s .squarings) (lessTo (take (s .p) cells) 1 (length (take (s .p) cells))) mostInputs
     → GroupedBy (s .p) (s .q) (s .c) largest (take (s .p) cells) s
-columns-grouped s largest old cells columns some few e w G n =
+columns-grouped s largest old cells asked e w G n =
     record {
       cuts =
           record {
-            columns = columns;
-            some = some;
-            few = few;
+            columns = asked .columns;
+            some = asked .some;
+            few = asked .few;
             groups-are = G .is;
             inputs-few = w .low;
             groups-few = G .low;
@@ -91,15 +91,15 @@ unfolding columnBits bitLength
 sheet-bits {p} {q} {amounts} {largest} l e = e ∙ list-same p (digitsAt 1 largest) (columnBits p q amounts) (λ col h. ap (digitCount 1) (l .are col h))
 
 -- so the grouping of its columns is the sheet's
-pub sheet-grouped : {p q : ℕ} {amounts : List ℕ} {c : ℕ} {largest bits : List ℕ} {s : Grouping} → SheetSized p q amounts → Largest p q amounts largest
+pub sheet-grouped : {p q : ℕ} {amounts : List ℕ} {c : ℕ} {largest bits : List ℕ} {s : Grouping} → AskedByLargest mostMembers p q amounts c largest
     → GroupedBy p q c largest bits s → GroupedFor p q amounts c bits s
-sheet-grouped {p} {q} {amounts} {c} {largest} {bits} {s} sized l b =
-    let is = sheet-bits l (b .bits-are) in
+sheet-grouped {p} {q} {amounts} {c} {largest} {bits} {s} asked b =
+    let is = sheet-bits (asked .largest) (b .bits-are) in
     record {
       grouped =
           record {
             cuts = b .cuts;
-            sheet = rw (b .same-p, b .same-q) sized;
+            sheet = rw (b .same-p, b .same-q) (asked .ranges .sheet);
             bits-are = rw (b .same-p, b .same-q) is;
             inputs-are = rw (b .same-p, b .same-q) (less-told p q amounts bits is 0 (s .inputs) (b .inputs-are) ∙ sum-same p _ _ (λ col h. omega arith));
             squarings-are = rw (b .same-p, b .same-q) (less-told p q amounts bits is 1 (s .squarings) (b .squarings-are));

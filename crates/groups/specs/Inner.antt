@@ -30,6 +30,14 @@ pub record Narrow (bits : List ℕ) : Type 0 where
   pub columns : length bits ≤ mostColumns
   pub each : (col : ℕ) → getD bits col 0 ≤ 32
 
+-- what grouping p columns by their largest amounts asks: groups of c, and a cell for the bits of each column
+pub record GroupingAsked (p c : ℕ) (largest cells : List ℕ) : Type 0 where
+  pub columns : p ≤ mostColumns
+  pub some : 1 ≤ c
+  pub few : c ≤ mostMembers
+  pub largest-there : p ≤ length largest
+  pub room : p ≤ length cells
+
 -- the numbers of a grouping go together
 pub record Cuts (s : Grouping) : Type 0 where
   pub columns : s .p ≤ mostColumns

@@ -1,11 +1,10 @@
 // Method 3 up to its groups' tables: the columns' bits, the inputs and their groups.
 ghost use Prim.Native.Nat.{_≤_};
 ghost use lib.ListN.{length, take};
-ghost use Rattle.chain.specs.Chain.{mostColumns};
 ghost use Rattle.digits.specs.Range.{sumTo};
 ghost use Rattle.groups.specs.Groups.{groupCount, mostInputs, mostMembers};
 ghost use Rattle.digits.specs.Inner.{Bounded};
-ghost use Rattle.groups.specs.Inner.{GroupedBy, Narrow, bitsLess};
+ghost use Rattle.groups.specs.Inner.{GroupedBy, GroupingAsked, Narrow, bitsLess};
 
 // No sheet has more inputs: an amount has at most 32 bits.
 pub const MOST_INPUTS: usize = chain::MOST_COLUMNS * 32;
@@ -44,7 +43,7 @@ fn group_count(c: usize, w: usize) -> usize
 
 // The columns' bits into cells, by their largest amounts, and the inputs in groups.
 pub fn group_columns(p: usize, q: usize, c: usize, largest: &[u32], cells: &mut [u32]) -> Grouping
-    requires { ⌜ (p ≤ mostColumns) × (1 ≤ c) × (c ≤ mostMembers) × (p ≤ length (now largest)) × (p ≤ length (now cells)) ⌝ }
+    requires { ⌜ GroupingAsked p c (now largest) (now cells) ⌝ }
     ensures { λ r. ⌜ GroupedBy p q c (now (largest .entry)) (take p (now (cells .exit))) r ⌝ }
 {
     measuring::measure_digits(p, 1, largest, cells);

@@ -15,7 +15,7 @@ use Rattle.products.specs.Product.{Made, payslips}
 use Rattle.products.specs.Inner.{stepsIn, StepsRoom, StepsStored, Emitted}
 use Rattle.products.proofs.Sound.{Begins, begins-own, begins-rise, begins-length}
 use Rattle.products.proofs.Emitted.{stored-own, stored-is, stored-length, stored-on, stored-room}
-use Rattle.methods.specs.Inner.{ChainRoom, ChainStored}
+use Rattle.methods.specs.Inner.{ChainRoom, ChainStored, PayslipsRoom}
 
 pub over-none : (old : List ℕ) → old ≡ over [] old
 unfolding over
@@ -72,15 +72,14 @@ pub record Paying (q : ℕ) (slip : ℕ → List Step → Made) (start : List St
   pub outputs-are : outputs ≡ over (payslips slip start i .outputs) outputs₀
 
 pub paying-start : (p q : ℕ) (slip : ℕ → List Step → Made) (steps outputs : List ℕ) (n : ℕ)
-    → StepsRoom p steps n (payslips slip (stepsIn steps n) q .steps) → q ≤ length outputs
-    → Paying q slip (stepsIn steps n) steps outputs 0 steps outputs n
-paying-start p q slip steps outputs n room fit =
+    → PayslipsRoom p q steps n (payslips slip (stepsIn steps n) q .steps) outputs → Paying q slip (stepsIn steps n) steps outputs 0 steps outputs n
+paying-start p q slip steps outputs n room =
     record {
       so-far = zero-le;
       steps-long = refl;
       outputs-long = refl;
-      outputs-fit = fit;
-      stored = paid-none p steps n _ room;
+      outputs-fit = room .outputs-fit;
+      stored = paid-none p steps n _ (room .steps-room);
       outputs-are = over-none outputs;
     }
 
@@ -95,9 +94,10 @@ paying-end {q} {slip} {start} {steps₀} {outputs₀} {i} state done =
 module _ (slip : ℕ → List Step → Made) (each : (i : ℕ) (before : List Step) → Begins before (slip i before .steps)) where
   -- a turn: there is room for payslip i, and its steps and output are stored
   module _ {q : ℕ} {start : List Step} {steps₀ outputs₀ : List ℕ} {i : ℕ} {steps outputs : List ℕ} {s : ℕ}
-      (state : Paying q slip start steps₀ outputs₀ i steps outputs s) {p n : ℕ} (room : StepsRoom p steps₀ n (payslips slip start q .steps)) (less : i < q) where
+      (state : Paying q slip start steps₀ outputs₀ i steps outputs s) {p n : ℕ}
+      (room : PayslipsRoom p q steps₀ n (payslips slip start q .steps) outputs₀) (less : i < q) where
     pub paying-room : StepsRoom p steps s (slip i (stepsIn steps s) .steps)
-    paying-room = pay-room slip start each steps₀ steps s i (state .stored) p n q room less
+    paying-room = pay-room slip start each steps₀ steps s i (state .stored) p n q (room .steps-room) less
 
     pub paying-on : {steps′ : List ℕ} {s′ v : ℕ} → Emitted steps steps′ s′ v (slip i (stepsIn steps s))
         → Paying q slip start steps₀ outputs₀ (i + 1) steps′ (set outputs i v) s′
@@ -117,7 +117,7 @@ module _ (slip : ℕ → List Step → Made) (each : (i : ℕ) (before : List St
   module _ (start : List Step) (q : ℕ) {p count : ℕ} {old outputs₀ : List ℕ} (columns : p ≤ mostColumns) (fits : ChainRoom q count old outputs₀)
       (counted : length (payslips slip start q .steps) ≡ count) where
     whole : StepsRoom p old 0 (payslips slip start q .steps)
-    whole = record { so-far = zero-le; cells-hold = omega (arith, fits .steps-fit); numbers-fit = omega (arith, fits .short) }
+    whole = record { so-far = zero-le; cells-hold = omega (arith, fits .lent .steps-fit); numbers-fit = omega (arith, fits .short) }
 
     -- there is room for the beginning, and after it for the payslips
     pub begin-room : StepsRoom p old 0 start
@@ -126,8 +126,13 @@ module _ (slip : ℕ → List Step → Made) (each : (i : ℕ) (before : List St
         let longer = begins-length (paid-begins slip start each 0 q zero-le) in
         record { so-far = zero-le; cells-hold = omega (arith, w .cells-hold); numbers-fit = omega (arith, w .numbers-fit) }
 
-    pub payslips-room : {cells : List ℕ} {n : ℕ} → StepsStored old cells n start → StepsRoom p cells n (payslips slip (stepsIn cells n) q .steps)
-    payslips-room st = rw (stored-is st) (stored-room whole st (paid-begins slip start each 0 q zero-le) (begins-own _))
+    pub payslips-room : {cells : List ℕ} {n : ℕ} → StepsStored old cells n start
+        → PayslipsRoom p q cells n (payslips slip (stepsIn cells n) q .steps) outputs₀
+    payslips-room st =
+        record {
+          outputs-fit = fits .lent .outputs-fit;
+          steps-room = rw (stored-is st) (stored-room whole st (paid-begins slip start each 0 q zero-le) (begins-own _));
+        }
 
   -- the payslips over the beginning are the chain
   pub chain-stored : (start : List Step) (q : ℕ) {old cells : List ℕ} {n : ℕ} → StepsStored old cells n start

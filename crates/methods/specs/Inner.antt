@@ -5,7 +5,9 @@ use Prim.Native.Nat.{ℕ, _*_, _≤_, _<_}
 use lib.ListN.{length, getD}
 use Rattle.chain.specs.Chain.{Chain, mostColumns, mostPayslips, mostSteps, flat}
 use Rattle.chain.specs.Written.{over}
+use Rattle.chain.specs.declared.Step.{Step}
 use Rattle.digits.specs.Digits.{digitCount}
+use Rattle.products.specs.Inner.{StepsRoom}
 use Rattle.methods.specs.Powers.{largestIn}
 
 -- a sheet whose sizes keep to their ranges
@@ -26,15 +28,29 @@ pub record Largest (p q : ℕ) (amounts cells : List ℕ) : Type 0 where
   pub there : p ≤ length cells
   pub are : (c : ℕ) → c < p → getD cells c 0 ≡ largestIn p q amounts c
 
+-- what a method is asked for that goes by the columns' largest amounts, which the cells hold
+pub record AskedByLargest (most p q : ℕ) (amounts : List ℕ) (k : ℕ) (cells : List ℕ) : Type 0 where
+  pub ranges : Asked most p q amounts k
+  pub largest : Largest p q amounts cells
+
 -- the digits of one of some numbers in base 2^k
 abbrev pub digitsAt : ℕ → List ℕ → ℕ → ℕ
 digitsAt k numbers c = digitCount k (getD numbers c 0)
 
+-- room for so many steps and q outputs
+pub record LentRoom (q count : ℕ) (steps outputs : List ℕ) : Type 0 where
+  pub steps-fit : 2 * count ≤ length steps
+  pub outputs-fit : q ≤ length outputs
+
 -- room for a chain of so many steps with q outputs, which is not too long
 pub record ChainRoom (q count : ℕ) (steps outputs : List ℕ) : Type 0 where
   pub short : count ≤ mostSteps
-  pub steps-fit : 2 * count ≤ length steps
+  pub lent : LentRoom q count steps outputs
+
+-- room for q payslips after n steps: for all the steps then, and for the outputs
+pub record PayslipsRoom (p q : ℕ) (cells : List ℕ) (n : ℕ) (steps : List Step) (outputs : List ℕ) : Type 0 where
   pub outputs-fit : q ≤ length outputs
+  pub steps-room : StepsRoom p cells n steps
 
 -- two slices hold a chain, its steps in turn and its outputs, over the front of what they held before
 pub record ChainStored (steps₀ outputs₀ steps outputs : List ℕ) (c : Chain) : Type 0 where

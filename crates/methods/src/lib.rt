@@ -3,7 +3,7 @@ ghost use mathlib.Core.Path.{_≡_};
 ghost use Prim.Native.Nat.{_+_, _^_, _≤_, _<_};
 ghost use lib.ListN.{length};
 ghost use Rattle.chain.specs.Chain.{mostColumns};
-ghost use Rattle.products.specs.Inner.{StepsRoom, StepsStored};
+ghost use Rattle.products.specs.Inner.{WithRoom, StepsRoom, StepsStored};
 ghost use Rattle.methods.specs.Powers.{countsOf, squarings, powerAt};
 use products::PartialProduct;
 
@@ -20,7 +20,7 @@ pub fn power_at(c: usize, first: usize, j: usize) -> u32
 
 // The squarings of the columns' bases, column by column, as many for each as counts says: the number of steps made.
 pub fn square_columns(p: usize, counts: &[u32], steps: &mut [u32]) -> usize
-    requires { ⌜ (length (now counts) ≤ mostColumns) × StepsRoom p (now steps) 0 (squarings p (countsOf (now counts)) (length (now counts))) ⌝ }
+    requires { ⌜ WithRoom (length (now counts) ≤ mostColumns) (StepsRoom p (now steps) 0 (squarings p (countsOf (now counts)) (length (now counts)))) ⌝ }
     ensures { λ r. ⌜ StepsStored (now (steps .entry)) (now (steps .exit)) r (squarings p (countsOf (now (counts .entry))) (length (now (counts .entry)))) ⌝ }
 {
     let mut n: usize = 0;

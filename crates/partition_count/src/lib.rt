@@ -4,7 +4,7 @@ ghost use Prim.Native.Nat.{_-_, _*_, _≤_};
 ghost use lib.ListN.{length};
 ghost use Rattle.digits.specs.Range.{sumTo, sign};
 ghost use Rattle.methods.specs.Powers.{countsOf};
-ghost use Rattle.methods.specs.Inner.{Asked, Largest};
+ghost use Rattle.methods.specs.Inner.{AskedByLargest};
 ghost use Rattle.groups.specs.Groups.{mostInputs, mostMembers};
 ghost use Rattle.digits.specs.Inner.{Bounded};
 ghost use Rattle.groups.specs.Inner.{Grouped, PartsRoom};
@@ -65,8 +65,7 @@ fn chain_count(s: Grouping, amounts: &[u32], bits: &[u32]) -> usize
 
 // The number of steps of the chain.
 pub fn count(p: usize, q: usize, amounts: &[u32], c: usize, largest: &[u32]) -> usize
-    requires { ⌜ Asked mostMembers p q (now amounts) c ⌝ }
-    requires { ⌜ Largest p q (now amounts) (now largest) ⌝ }
+    requires { ⌜ AskedByLargest mostMembers p q (now amounts) c (now largest) ⌝ }
     ensures { λ r. ⌜ r ≡ partitionCount p q (now (amounts .entry)) c ⌝ }
 {
     let mut bits = [0u32; chain::MOST_COLUMNS];

@@ -5,9 +5,9 @@ use Prim.Native.Nat.{ℕ, _≤_}
 use native.Mathlib.Omega.{arith}
 use lib.ListN.{length}
 use Rattle.chain.specs.declared.Step.{Step}
-use Rattle.products.specs.Inner.{stepsIn, StepsRoom, StepsStored}
+use Rattle.products.specs.Inner.{stepsIn, StepsStored}
 use Rattle.products.proofs.Sound.{Begins, begins-length}
-use Rattle.methods.specs.Inner.{ChainRoom, ChainStored}
+use Rattle.methods.specs.Inner.{ChainRoom, ChainStored, PayslipsRoom}
 use Rattle.methods.proofs.Paying.{begin-room, payslips-room, chain-stored, paid-begins}
 use Rattle.groups.specs.declared.Grouping.{Grouping}
 use Rattle.groups.specs.Groups.{mostInputs, sheetTables}
@@ -43,7 +43,7 @@ module _ {s : Grouping} {amounts bits : List ℕ} (grouped : Grouped s amounts b
     tabled : StepsStored old cells n tables
     tabled = sheet-stored grouped made
 
-    pub slips-room : StepsRoom (s .p) cells n (payslipsOf s amounts (stepsIn cells n) .steps)
+    pub slips-room : PayslipsRoom (s .p) (s .q) cells n (payslipsOf s amounts (stepsIn cells n) .steps) outputs
     slips-room = payslips-room (payslipOf s amounts) each tables (s .q) (grouped .cuts .columns) fits counted tabled
 
     pub chain-whole : {cells′ outputs′ : List ℕ} → ChainStored cells outputs cells′ outputs′ (payslipsOf s amounts (stepsIn cells n))

@@ -41,20 +41,11 @@ payslipOf s amounts = partitionPayslip (s .p) (s .q) amounts (s .c)
 abbrev pub payslipsOf : Grouping → List ℕ → List Step → Chain
 payslipsOf s amounts start = payslips (payslipOf s amounts) start (s .q)
 
--- room after n steps: for a payslip's parts with these numbers, for payslip i, and for all payslips with their outputs
-pub record NumbersRoom (s : Grouping) (members numbers steps : List ℕ) (n : ℕ) : Type 0 where
-  pub numbered : Numbered s members numbers
-  pub room : StepsRoom (s .p) steps n (partsBy s members (countsOf numbers) (stepsIn steps n) (s .groups) .steps)
-
+-- payslip i of a grouped sheet, and room for it after n steps
 pub record PayslipRoom (s : Grouping) (amounts bits members cells steps : List ℕ) (i n : ℕ) : Type 0 where
   pub ready : Ready s amounts bits members cells
   pub inside : i < s .q
   pub room : StepsRoom (s .p) steps n (payslipOf s amounts i (stepsIn steps n) .steps)
-
-pub record PayslipsRoom (s : Grouping) (amounts bits members cells steps outputs : List ℕ) (n : ℕ) : Type 0 where
-  pub ready : Ready s amounts bits members cells
-  pub outputs-fit : s .q ≤ length outputs
-  pub room : StepsRoom (s .p) steps n (payslipsOf s amounts (stepsIn steps n) .steps)
 
 -- a grouped sheet, cells for its inputs and for the parts of a payslip, and room for its chain
 pub record SheetRoom (s : Grouping) (amounts bits members cells steps outputs : List ℕ) : Type 0 where

@@ -1,10 +1,10 @@
 // Method 3, partition: the chain's squarings and tables, then its payslips.
-ghost use Rattle.products.specs.Inner.{stepsIn, Emitted};
-ghost use Rattle.methods.specs.Inner.{Asked, Largest, ChainRoom, ChainStored};
+ghost use Rattle.products.specs.Inner.{stepsIn, WithRoom, StepsRoom, Emitted};
+ghost use Rattle.methods.specs.Inner.{AskedByLargest, ChainRoom, ChainStored, PayslipsRoom};
 ghost use Rattle.methods.specs.Powers.{countsOf};
 ghost use Rattle.groups.specs.Groups.{mostMembers};
 ghost use Rattle.partition.specs.Partition.{partition, partitionCount};
-ghost use Rattle.partition_emit.specs.Inner.{NumbersRoom, PayslipRoom, PayslipsRoom, SheetRoom, partsBy, payslipOf, payslipsOf};
+ghost use Rattle.partition_emit.specs.Inner.{Numbered, Ready, PayslipRoom, SheetRoom, partsBy, payslipOf, payslipsOf};
 use groups::Grouping;
 use products::PartialProduct;
 
@@ -16,7 +16,8 @@ fn make_parts(
     n: usize,
     steps: &mut [u32],
 ) -> PartialProduct
-    requires { ⌜ NumbersRoom s (now members) (now numbers) (now steps) n ⌝ }
+    requires { ⌜ WithRoom (Numbered s (now members) (now numbers))
+        (StepsRoom (s .p) (now steps) n (partsBy s (now members) (countsOf (now numbers)) (stepsIn (now steps) n) (s .groups) .steps)) ⌝ }
     ensures { λ r. ⌜ Emitted (now (steps .entry)) (now (steps .exit)) (r .n) (r .value)
         (partsBy s (now (members .entry)) (countsOf (now (numbers .entry))) (stepsIn (now (steps .entry)) n) (s .groups)) ⌝ }
 {
@@ -61,7 +62,8 @@ fn make_payslips(
     steps: &mut [u32],
     outputs: &mut [u32],
 )
-    requires { ⌜ PayslipsRoom s (now amounts) (now bits) (now members) (now cells) (now steps) (now outputs) n ⌝ }
+    requires { ⌜ WithRoom (Ready s (now amounts) (now bits) (now members) (now cells))
+        (PayslipsRoom (s .p) (s .q) (now steps) n (payslipsOf s (now amounts) (stepsIn (now steps) n) .steps) (now outputs)) ⌝ }
     ensures { λ r. ⌜ ChainStored (now (steps .entry)) (now (outputs .entry)) (now (steps .exit)) (now (outputs .exit))
         (payslipsOf s (now (amounts .entry)) (stepsIn (now (steps .entry)) n)) ⌝ }
 {
@@ -104,9 +106,8 @@ pub fn emit(
     steps: &mut [u32],
     outputs: &mut [u32],
 )
-    requires { ⌜ Asked mostMembers p q (now amounts) c ⌝ }
-    requires { ⌜ Largest p q (now amounts) (now largest) ⌝ }
-    requires { ⌜ ChainRoom q (partitionCount p q (now amounts) c) (now steps) (now outputs) ⌝ }
+    requires { ⌜ WithRoom (AskedByLargest mostMembers p q (now amounts) c (now largest))
+        (ChainRoom q (partitionCount p q (now amounts) c) (now steps) (now outputs)) ⌝ }
     ensures { λ r. ⌜ ChainStored (now (steps .entry)) (now (outputs .entry)) (now (steps .exit)) (now (outputs .exit))
         (partition p q (now (amounts .entry)) c) ⌝ }
 {

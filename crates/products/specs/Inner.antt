@@ -18,6 +18,11 @@ stepsIn cells n = pairs (take (2 * n) cells)
 abbrev pub productIn : List ℕ → PartialProduct → Made
 productIn cells m = made (stepsIn cells (m .n)) (m .value)
 
+-- what a function that fills what it is lent asks: what is asked of it, and the room for what it makes
+pub record WithRoom (Question Room : Type 0) : Type 0 where
+  pub asked : Question
+  pub room : Room
+
 -- room for all the steps in a slice that holds n of them, and numbers below 2^32 for all their values
 pub record StepsRoom (p : ℕ) (cells : List ℕ) (n : ℕ) (steps : List Step) : Type 0 where
   pub so-far : 2 * n ≤ length cells

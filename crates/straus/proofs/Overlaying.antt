@@ -12,9 +12,8 @@ use Rattle.digits.proofs.Overlay.{or-on, or-count}
 use Rattle.digits.proofs.Words.{digit-place}
 use Rattle.sheet.specs.Sheet.{amount}
 use Rattle.sheet.proofs.Amounts.{payslip-within}
-use Rattle.methods.specs.Inner.{Asked}
-use Rattle.straus.specs.Straus.{strausDigits, strausMost, strausMostBits}
-use Rattle.straus.specs.Inner.{PayslipAsked}
+use Rattle.straus.specs.Straus.{strausDigits}
+use Rattle.straus.specs.Inner.{StrausAsked, PayslipAsked}
 
 -- the amounts of payslip i, one over the other: those of its first c columns, with the next
 abbrev pub overlaidTo : ℕ → List ℕ → ℕ → ℕ → ℕ
@@ -41,11 +40,12 @@ digits-fit k x (suc r) some low e = digit-place k x (suc r - 1) some low (omega 
 pub ruleset overlaying = (overlaid-on, overlaid-end)
 
 -- what a payslip's functions ask, from what the chain's do
-pub payslip-asked : {p q : ℕ} {amounts : List ℕ} {k i : ℕ} → Asked strausMost p q amounts k → p * k ≤ strausMostBits → i < q → PayslipAsked p amounts k i
-payslip-asked {p} {q} {amounts} {k} {i} asked small less =
+pub payslip-asked : {p q : ℕ} {amounts : List ℕ} {k i : ℕ} → StrausAsked p q amounts k → i < q → PayslipAsked p amounts k i
+payslip-asked {p} {q} {amounts} {k} {i} asked less =
+    let ranges = asked .ranges in
     record {
-      there = payslip-within p q i (length amounts) (asked .sheet .amounts-are) less;
-      k-some = asked .k-some;
-      k-low = omega (arith, asked .k-low);
-      vectors-low = omega (arith, asked .sheet .p-low, mul-comm p k);
+      there = payslip-within p q i (length amounts) (ranges .sheet .amounts-are) less;
+      k-some = ranges .k-some;
+      k-low = omega (arith, ranges .k-low);
+      vectors-low = omega (arith, ranges .sheet .p-low, asked .bits-low, mul-comm p k);
     }

@@ -1,10 +1,8 @@
 // Method 1, Straus: the number of steps, without making them.
 ghost use mathlib.Core.Path.{_≡_};
-ghost use Prim.Native.Nat.{_*_, _≤_};
 ghost use Rattle.digits.specs.Inner.{Bounded};
-ghost use Rattle.methods.specs.Inner.{Asked};
-ghost use Rattle.straus.specs.Straus.{strausPayslipCount, strausCount, strausMost, strausMostBits};
-ghost use Rattle.straus.specs.Inner.{PayslipAsked};
+ghost use Rattle.straus.specs.Straus.{strausPayslipCount, strausCount};
+ghost use Rattle.straus.specs.Inner.{StrausAsked, PayslipAsked};
 ghost use Rattle.straus_count.specs.Inner.{strausPayslipMost};
 
 // The steps of payslip i.
@@ -29,7 +27,7 @@ fn payslip_count(p: usize, amounts: &[u32], k: usize, i: usize) -> usize
 
 // The number of steps of the chain.
 pub fn count(p: usize, q: usize, amounts: &[u32], k: usize) -> usize
-    requires { ⌜ Asked strausMost p q (now amounts) k × (p * k ≤ strausMostBits) ⌝ }
+    requires { ⌜ StrausAsked p q (now amounts) k ⌝ }
     ensures { λ r. ⌜ r ≡ strausCount p q (now (amounts .entry)) k ⌝ }
 {
     let mut n = digits::power(p * k) as usize - p - 1;

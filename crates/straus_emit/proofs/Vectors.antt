@@ -22,7 +22,7 @@ use Rattle.straus.specs.Inner.{PayslipAsked}
 use Rattle.straus.proofs.Bases.{length-bases}
 use Rattle.straus.proofs.Payslip.{in-table}
 use Rattle.tables.specs.Table.{entry}
-use Rattle.straus_emit.specs.Inner.{raisedAt, maskAt, vectorAt, digitsMade, DigitsAsked}
+use Rattle.straus_emit.specs.Inner.{PayslipOver, raisedAt, maskAt, vectorAt, digitsMade, DigitsAsked}
 use Rattle.straus_emit.proofs.Emitting.{horner-same}
 
 -- column c's place in a vector
@@ -70,7 +70,7 @@ pub columns-few : {p : ℕ} {amounts : List ℕ} {k i : ℕ} → PayslipAsked p 
 columns-few {p} asked = omega (arith, asked .vectors-low, mul-le-mul-right p (asked .k-some), one-mul p)
 
 -- a payslip laid out
-module _ {p : ℕ} {amounts : List ℕ} {k i : ℕ} (asked : PayslipAsked p amounts k i) (old cells old′ masks : List ℕ)
+module _ {p : ℕ} {amounts : List ℕ} {k : ℕ} {inputs : List ℕ} {i : ℕ} (asked : PayslipOver p amounts k inputs i) (old cells old′ masks : List ℕ)
     (raised : cells ≡ over (listTo p (raisedAt p amounts k i)) old) (masked : masks ≡ over (listTo p (maskAt k)) old′) where
   vector-is : (j : ℕ) → vectorAt p cells masks (k * j) ≡ digitVector p amounts k i j
   vector-is j =
@@ -78,32 +78,32 @@ module _ {p : ℕ} {amounts : List ℕ} {k i : ℕ} (asked : PayslipAsked p amou
       (λ c h. ap₂ (λ (a m : ℕ). bitAnd (a / 2 ^ (k * j)) m) (filled-at (raisedAt p amounts k i) old p cells raised c h) (filled-at (maskAt k) old′ p masks masked c h)
       ∙ digit-masked k (amount p amounts i c) j c)
 
-  module _ {inputs : List ℕ} (bases-are : inputs ≡ bases p) where
-    table-wide : k * length inputs ≡ k * p
-    table-wide = ap (λ (l : List ℕ). k * length l) bases-are ∙ ap (λ (n : ℕ). k * n) (length-bases p)
+  table-wide : k * length inputs ≡ k * p
+  table-wide = ap (λ (l : List ℕ). k * length l) (asked .bases-are) ∙ ap (λ (n : ℕ). k * n) (length-bases p)
 
-    pub digits-asked : (digits : ℕ) → k * (digits - 1) < 32 → p ≤ length cells → p ≤ length masks → DigitsAsked p k inputs cells masks digits
-    digits-asked digits low cells-long masks-long =
-        let most : 2 ^ (k * p) ≤ 2 ^ 31 = pow-mono {j = 31} (omega (arith, asked .vectors-low)) in
-        record {
-          k-some = asked .k-some;
-          k-low = asked .k-low;
-          places-low = low;
-          cells-there = cells-long;
-          masks-there = masks-long;
-          entries = λ j. rw (table-wide, vector-is j) (in-table p amounts k (asked .k-some) i j);
-          numbers = rw table-wide (omega (arith, asked .vectors-low));
-        }
+  pub digits-asked : (digits : ℕ) → k * (digits - 1) < 32 → p ≤ length cells → p ≤ length masks → DigitsAsked p k inputs cells masks digits
+  digits-asked digits low cells-long masks-long =
+      let payslip = asked .payslip in
+      let most : 2 ^ (k * p) ≤ 2 ^ 31 = pow-mono {j = 31} (omega (arith, payslip .vectors-low)) in
+      record {
+        k-some = payslip .k-some;
+        k-low = payslip .k-low;
+        places-low = low;
+        cells-there = cells-long;
+        masks-there = masks-long;
+        entries = λ j. rw (table-wide, vector-is j) (in-table p amounts k (payslip .k-some) i j);
+        numbers = rw table-wide (omega (arith, payslip .vectors-low));
+      }
 
-    -- its digits make the payslip
-    pub payslip-is : (digits : ℕ) → digits ≡ strausDigits p amounts k i → (before : List Step)
-        → digitsMade p k inputs cells masks digits before digits ≡ strausPayslip p amounts k i before
-    payslip-is digits is before =
-        ap₂ (λ (l : List ℕ) (J : ℕ). digitsMade p k l cells masks J before J) bases-are is
-        ∙ horner-same p k _ J _ (λ j. ap (entry k (bases p) (p + 1)) (vector-is j)) before J
-      where
-        J : ℕ
-        J = strausDigits p amounts k i
+  -- its digits make the payslip
+  pub payslip-is : (digits : ℕ) → digits ≡ strausDigits p amounts k i → (before : List Step)
+      → digitsMade p k inputs cells masks digits before digits ≡ strausPayslip p amounts k i before
+  payslip-is digits is before =
+      ap₂ (λ (l : List ℕ) (J : ℕ). digitsMade p k l cells masks J before J) (asked .bases-are) is
+      ∙ horner-same p k _ J _ (λ j. ap (entry k (bases p) (p + 1)) (vector-is j)) before J
+    where
+      J : ℕ
+      J = strausDigits p amounts k i
 
 -- a sum in the making is low where the whole is
 module _ (f : ℕ → ℕ) (p : ℕ) (low : sumTo p f < 2 ^ 32) where

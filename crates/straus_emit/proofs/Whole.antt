@@ -1,7 +1,7 @@
 -- The chain is the table of the bases and then the payslips: there is room for both, and both together are what was asked for.
 use mathlib.Core.Path.{_≡_, ap}
 use mathlib.Core.List.{List, _++_}
-use Prim.Native.Nat.{ℕ, _+_, _*_, _^_, _≤_, _<_}
+use Prim.Native.Nat.{ℕ, _+_, _*_, _^_, _≤_}
 use native.Mathlib.Nat.{add-zero, mul-comm}
 use native.Mathlib.Omega.{arith}
 use lib.ListN.{length}
@@ -10,46 +10,51 @@ use Rattle.chain.specs.declared.Step.{Step}
 use Rattle.products.specs.Product.{payslips}
 use Rattle.products.specs.Inner.{stepsIn, StepsRoom, StepsStored}
 use Rattle.tables.specs.Table.{table}
-use Rattle.methods.specs.Inner.{Asked, ChainRoom, ChainStored}
+use Rattle.tables.specs.Inner.{TableAsked}
+use Rattle.methods.specs.Inner.{ChainRoom, ChainStored, PayslipsRoom}
 use Rattle.methods.proofs.Paying.{begin-room, payslips-room, chain-stored}
-use Rattle.straus.specs.Straus.{bases, strausTable, strausPayslip, straus, strausCount, strausMost, strausMostBits}
+use Rattle.straus.specs.Straus.{strausTable, strausPayslip, straus, strausCount, strausMostBits}
 use Rattle.straus.proofs.Bases.{length-bases}
+use Rattle.straus_emit.specs.Inner.{ChainOver}
 use Rattle.straus_emit.proofs.Emitting.{payslip-begins}
 use Rattle.straus.proofs.Straus.{straus-count}
 
-module _ {p q : ℕ} {amounts : List ℕ} {k : ℕ} (asked : Asked strausMost p q amounts k) (small : p * k ≤ strausMostBits) {inputs : List ℕ} (is : inputs ≡ bases p) where
+module _ {p q : ℕ} {amounts : List ℕ} {k : ℕ} {inputs : List ℕ} (asked : ChainOver p q amounts k inputs) where
   size-low : k * length inputs ≤ strausMostBits
-  size-low = omega (arith, ap (λ (l : List ℕ). k * length l) is, ap (λ (n : ℕ). k * n) (length-bases p), mul-comm k p)
+  size-low = omega (arith, asked .chain .bits-low, ap (λ (l : List ℕ). k * length l) (asked .bases-are), ap (λ (n : ℕ). k * n) (length-bases p), mul-comm k p)
 
-  pub table-size : k * length inputs < 32
-  table-size = omega (arith, size-low)
-
-  pub table-numbers : p + 0 + 2 ^ (k * length inputs) < 2 ^ 32
-  table-numbers =
+  pub table-asked : TableAsked p k inputs 0
+  table-asked =
+      let ranges = asked .chain .ranges in
       let most : 2 ^ (k * length inputs) ≤ 2 ^ strausMostBits = pow-mono {j = strausMostBits} size-low in
-      omega (arith, asked .sheet .p-low)
+      record {
+        k-some = ranges .k-some;
+        k-low = omega (arith, ranges .k-low);
+        places-low = omega (arith, size-low);
+        numbers-low = omega (arith, ranges .sheet .p-low);
+      }
 
   -- the table as it is emitted, before any other step
   abbrev Table : List ℕ → List Step
   Table old = stepsIn old 0 ++ table k inputs (p + 0 + 1) (2 ^ (k * length inputs))
 
   table-is : (old : List ℕ) → Table old ≡ strausTable p k
-  table-is old = rw (is, length-bases p, add-zero p, mul-comm k p)
+  table-is old = rw (asked .bases-are, length-bases p, add-zero p, mul-comm k p)
 
   counted : length (payslips (strausPayslip p amounts k) (strausTable p k) q .steps) ≡ strausCount p q amounts k
   unfolding straus
-  counted = straus-count p q amounts k (asked .k-some)
+  counted = straus-count p q amounts k (asked .chain .ranges .k-some)
 
   module _ {old outputs : List ℕ} (fits : ChainRoom q (strausCount p q amounts k) old outputs) where
     pub table-room : StepsRoom p old 0 (Table old)
     table-room =
         rw (table-is old)
-        (begin-room (strausPayslip p amounts k) (payslip-begins p amounts k) (strausTable p k) q (asked .sheet .p-low) fits counted)
+        (begin-room (strausPayslip p amounts k) (payslip-begins p amounts k) (strausTable p k) q (asked .chain .ranges .sheet .p-low) fits counted)
 
     pub after-table : {cells : List ℕ} {n : ℕ} → StepsStored old cells n (Table old)
-        → StepsRoom p cells n (payslips (strausPayslip p amounts k) (stepsIn cells n) q .steps)
+        → PayslipsRoom p q cells n (payslips (strausPayslip p amounts k) (stepsIn cells n) q .steps) outputs
     after-table st =
-        payslips-room (strausPayslip p amounts k) (payslip-begins p amounts k) (strausTable p k) q (asked .sheet .p-low) fits counted
+        payslips-room (strausPayslip p amounts k) (payslip-begins p amounts k) (strausTable p k) q (asked .chain .ranges .sheet .p-low) fits counted
         (rw (table-is old) at st)
 
   pub chain-made : {old cells outputs₀ cells′ outputs′ : List ℕ} {n : ℕ} → StepsStored old cells n (Table old)

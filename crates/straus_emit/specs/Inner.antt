@@ -1,5 +1,5 @@
--- Inner vocabulary: a payslip's amounts laid out so that a vector of its digits is cut from all of them at one place. Nobody has to believe it to
--- believe an entry point's promise.
+-- Inner vocabulary: what the functions of this crate ask, and a payslip's amounts laid out so that a vector of its digits is cut from all of them at one
+-- place. Nobody has to believe it to believe an entry point's promise.
 use mathlib.Core.Path.{_≡_}
 use mathlib.Core.List.{List}
 use Prim.Native.Nat.{ℕ, _+_, _-_, _*_, _/_, _^_, _≤_, _<_}
@@ -9,8 +9,18 @@ use Rattle.chain.specs.declared.Step.{Step}
 use Rattle.digits.specs.Range.{sumTo}
 use Rattle.products.specs.Product.{Made}
 use Rattle.sheet.specs.Sheet.{amount}
-use Rattle.straus.specs.Straus.{horner}
+use Rattle.straus.specs.Straus.{bases, horner}
+use Rattle.straus.specs.Inner.{StrausAsked, PayslipAsked}
 use Rattle.tables.specs.Table.{entry}
+
+-- what is made over inputs that are the bases: a payslip, and a whole chain
+pub record PayslipOver (p : ℕ) (amounts : List ℕ) (k : ℕ) (inputs : List ℕ) (i : ℕ) : Type 0 where
+  pub payslip : PayslipAsked p amounts k i
+  pub bases-are : inputs ≡ bases p
+
+pub record ChainOver (p q : ℕ) (amounts : List ℕ) (k : ℕ) (inputs : List ℕ) : Type 0 where
+  pub chain : StrausAsked p q amounts k
+  pub bases-are : inputs ≡ bases p
 
 -- r is how many digits in base 2^k there are, and the top one begins within 32 bits
 pub record Counted (k r digits : ℕ) : Type 0 where

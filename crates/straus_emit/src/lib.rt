@@ -1,16 +1,16 @@
 // Method 1, Straus: the chain's table, then its payslips.
 ghost use mathlib.Core.Path.{_≡_};
-ghost use Prim.Native.Nat.{_+_, _-_, _*_, _^_, _≤_, _<_};
+ghost use Prim.Native.Nat.{_+_, _*_, _^_, _≤_, _<_};
 ghost use lib.ListN.{length};
 ghost use Rattle.chain.specs.Chain.{mostColumns};
 ghost use Rattle.chain.specs.Written.{over};
 ghost use Rattle.digits.specs.Range.{listTo};
 ghost use Rattle.products.specs.Product.{times, squared, payslips};
-ghost use Rattle.products.specs.Inner.{stepsIn, productIn, StepsRoom, Emitted};
-ghost use Rattle.methods.specs.Inner.{Asked, ChainRoom, ChainStored};
-ghost use Rattle.straus.specs.Straus.{bases, strausDigits, strausPayslip, straus, strausCount, strausMost, strausMostBits};
-ghost use Rattle.straus.specs.Inner.{PayslipAsked};
-ghost use Rattle.straus_emit.specs.Inner.{Counted, raisedAt, maskAt, vectorAt, digitsMade, DigitsAsked};
+ghost use Rattle.products.specs.Inner.{stepsIn, productIn, WithRoom, StepsRoom, Emitted};
+ghost use Rattle.methods.specs.Inner.{ChainRoom, ChainStored, PayslipsRoom};
+ghost use Rattle.straus.specs.Straus.{bases, strausDigits, strausPayslip, straus, strausCount};
+ghost use Rattle.straus.specs.Inner.{StrausAsked, PayslipAsked};
+ghost use Rattle.straus_emit.specs.Inner.{PayslipOver, ChainOver, Counted, raisedAt, maskAt, vectorAt, digitsMade, DigitsAsked};
 use products::PartialProduct;
 
 // How many digits the largest amount of payslip i has.
@@ -23,7 +23,7 @@ fn digit_count(p: usize, amounts: &[u32], k: usize, i: usize) -> usize
 
 // The amounts of payslip i, each moved up to where its digits stand in a vector.
 fn raise_amounts(p: usize, amounts: &[u32], k: usize, i: usize, cells: &mut [u64])
-    requires { ⌜ PayslipAsked p (now amounts) k i × (p ≤ length (now cells)) ⌝ }
+    requires { ⌜ WithRoom (PayslipAsked p (now amounts) k i) (p ≤ length (now cells)) ⌝ }
     ensures { λ r. ⌜ now (cells .exit) ≡ over (listTo p (raisedAt p (now (amounts .entry)) k i)) (now (cells .entry)) ⌝ }
 {
     let mut c: usize = 0;
@@ -35,7 +35,7 @@ fn raise_amounts(p: usize, amounts: &[u32], k: usize, i: usize, cells: &mut [u64
 
 // The mask of each column's digit in a vector.
 fn fill_masks(p: usize, k: usize, cells: &mut [u64])
-    requires { ⌜ (p + k * p < 32) × (p ≤ length (now cells)) ⌝ }
+    requires { ⌜ WithRoom (p + k * p < 32) (p ≤ length (now cells)) ⌝ }
     ensures { λ r. ⌜ now (cells .exit) ≡ over (listTo p (maskAt k)) (now (cells .entry)) ⌝ }
 {
     let mut c: usize = 0;
@@ -79,8 +79,8 @@ fn take_digits(
     n: usize,
     steps: &mut [u32],
 ) -> PartialProduct
-    requires { ⌜ DigitsAsked p k (now inputs) (now cells) (now masks) digits ⌝ }
-    requires { ⌜ StepsRoom p (now steps) n (digitsMade p k (now inputs) (now cells) (now masks) digits (stepsIn (now steps) n) digits .steps) ⌝ }
+    requires { ⌜ WithRoom (DigitsAsked p k (now inputs) (now cells) (now masks) digits)
+        (StepsRoom p (now steps) n (digitsMade p k (now inputs) (now cells) (now masks) digits (stepsIn (now steps) n) digits .steps)) ⌝ }
     ensures { λ r. ⌜ Emitted (now (steps .entry)) (now (steps .exit)) (r .n) (r .value)
         (digitsMade p k (now (inputs .entry)) (now (cells .entry)) (now (masks .entry)) digits (stepsIn (now (steps .entry)) n) digits) ⌝ }
 {
@@ -105,8 +105,8 @@ fn make_payslip(
     n: usize,
     steps: &mut [u32],
 ) -> PartialProduct
-    requires { ⌜ PayslipAsked p (now amounts) k i × (now inputs ≡ bases p) ⌝ }
-    requires { ⌜ StepsRoom p (now steps) n (strausPayslip p (now amounts) k i (stepsIn (now steps) n) .steps) ⌝ }
+    requires { ⌜ WithRoom (PayslipOver p (now amounts) k (now inputs) i)
+        (StepsRoom p (now steps) n (strausPayslip p (now amounts) k i (stepsIn (now steps) n) .steps)) ⌝ }
     ensures { λ r. ⌜ Emitted (now (steps .entry)) (now (steps .exit)) (r .n) (r .value)
         (strausPayslip p (now (amounts .entry)) k i (stepsIn (now (steps .entry)) n)) ⌝ }
 {
@@ -129,8 +129,8 @@ fn make_payslips(
     steps: &mut [u32],
     outputs: &mut [u32],
 )
-    requires { ⌜ Asked strausMost p q (now amounts) k × (p * k ≤ strausMostBits) × (now inputs ≡ bases p) × (q ≤ length (now outputs)) ⌝ }
-    requires { ⌜ StepsRoom p (now steps) n (payslips (strausPayslip p (now amounts) k) (stepsIn (now steps) n) q .steps) ⌝ }
+    requires { ⌜ WithRoom (ChainOver p q (now amounts) k (now inputs))
+        (PayslipsRoom p q (now steps) n (payslips (strausPayslip p (now amounts) k) (stepsIn (now steps) n) q .steps) (now outputs)) ⌝ }
     ensures { λ r. ⌜ ChainStored (now (steps .entry)) (now (outputs .entry)) (now (steps .exit)) (now (outputs .exit))
         (payslips (strausPayslip p (now (amounts .entry)) k) (stepsIn (now (steps .entry)) n) q) ⌝ }
 {
@@ -154,8 +154,7 @@ fn make_chain(
     steps: &mut [u32],
     outputs: &mut [u32],
 )
-    requires { ⌜ Asked strausMost p q (now amounts) k × (p * k ≤ strausMostBits) × (now inputs ≡ bases p) ⌝ }
-    requires { ⌜ ChainRoom q (strausCount p q (now amounts) k) (now steps) (now outputs) ⌝ }
+    requires { ⌜ WithRoom (ChainOver p q (now amounts) k (now inputs)) (ChainRoom q (strausCount p q (now amounts) k) (now steps) (now outputs)) ⌝ }
     ensures { λ r. ⌜ ChainStored (now (steps .entry)) (now (outputs .entry)) (now (steps .exit)) (now (outputs .exit)) (straus p q (now (amounts .entry)) k) ⌝ }
 {
     let n = tables::make_table(p, k, inputs, 0, steps);
@@ -164,7 +163,7 @@ fn make_chain(
 
 // The values of the bases.
 fn fill_bases(p: usize, cells: &mut [u32])
-    requires { ⌜ (p ≤ mostColumns) × (p ≤ length (now cells)) ⌝ }
+    requires { ⌜ WithRoom (p ≤ mostColumns) (p ≤ length (now cells)) ⌝ }
     ensures { λ r. ⌜ now (cells .exit) ≡ over (bases p) (now (cells .entry)) ⌝ }
 {
     let mut c: usize = 0;
@@ -176,8 +175,7 @@ fn fill_bases(p: usize, cells: &mut [u32])
 
 // The chain: its steps, first and second in turn, and its outputs.
 pub fn emit(p: usize, q: usize, amounts: &[u32], k: usize, steps: &mut [u32], outputs: &mut [u32])
-    requires { ⌜ Asked strausMost p q (now amounts) k × (p * k ≤ strausMostBits) ⌝ }
-    requires { ⌜ ChainRoom q (strausCount p q (now amounts) k) (now steps) (now outputs) ⌝ }
+    requires { ⌜ WithRoom (StrausAsked p q (now amounts) k) (ChainRoom q (strausCount p q (now amounts) k) (now steps) (now outputs)) ⌝ }
     ensures { λ r. ⌜ ChainStored (now (steps .entry)) (now (outputs .entry)) (now (steps .exit)) (now (outputs .exit)) (straus p q (now (amounts .entry)) k) ⌝ }
 {
     let mut inputs = [0u32; chain::MOST_COLUMNS];

@@ -5,9 +5,9 @@ ghost use mathlib.Core.List.{_++_};
 ghost use Prim.Native.Nat.{_+_, _-_, _*_, _^_, _≤_, _<_};
 ghost use lib.ListN.{length};
 ghost use Rattle.digits.specs.Digits.{digitCount};
-ghost use Rattle.products.specs.Inner.{stepsIn, StepsRoom, StepsStored};
+ghost use Rattle.products.specs.Inner.{stepsIn, WithRoom, StepsRoom, StepsStored};
 ghost use Rattle.tables.specs.Table.{isUnit, entry, lowest, tableNext, table};
-ghost use Rattle.tables.specs.Inner.{RowAsked, Longer};
+ghost use Rattle.tables.specs.Inner.{LowestAsked, RowAsked, TableAsked, Longer};
 
 // The value number of entry t, which is not zero and whose d digits are counted, of a table whose first step makes value at: an input for the unit
 // with as many digits, else a step.
@@ -37,7 +37,7 @@ pub fn entry(k: usize, inputs: &[u32], at: u32, t: u32) -> u32
 
 // The place of the lowest digit of t that is not 0, from the zeros below it. Digits of one bit are not cut, which spares a division.
 fn lowest(k: usize, t: u32) -> usize
-    requires { ⌜ (0 < k) × (0 < t) ⌝ }
+    requires { ⌜ LowestAsked k t ⌝ }
     ensures { λ r. ⌜ r ≡ lowest k t ⌝ }
 {
     let zeros = u32::trailing_zeros(t) as usize;
@@ -60,7 +60,7 @@ fn put_entry(k: usize, inputs: &[u32], at: u32, d: usize, t: u32, n: usize, step
 
 // The steps of the entries with one digit more than d, after n steps: the number of steps then. The first of these entries is a unit and costs none.
 fn make_row(k: usize, inputs: &[u32], at: u32, d: usize, n: usize, steps: &mut [u32]) -> usize
-    requires { ⌜ RowAsked k (now inputs) at d × (2 * (n + (2 ^ (k * (d + 1)) - 2 ^ (k * d) - 1)) ≤ length (now steps)) ⌝ }
+    requires { ⌜ WithRoom (RowAsked k (now inputs) at d) (2 * (n + (2 ^ (k * (d + 1)) - 2 ^ (k * d) - 1)) ≤ length (now steps)) ⌝ }
     ensures { λ r. ⌜ Longer k (now (inputs .entry)) at (now (steps .entry)) n (2 ^ (k * d) + 1) (now (steps .exit)) r (2 ^ (k * (d + 1))) ⌝ }
 {
     let end = digits::power(k * (d + 1));
@@ -76,8 +76,8 @@ fn make_row(k: usize, inputs: &[u32], at: u32, d: usize, n: usize, steps: &mut [
 
 // The table of all products of the inputs with exponents below 2^k, after n steps.
 pub fn make_table(p: usize, k: usize, inputs: &[u32], n: usize, steps: &mut [u32]) -> usize
-    requires { ⌜ (0 < k) × (k < 32) × (k * length (now inputs) < 32) × (p + n + 2 ^ (k * length (now inputs)) < 2 ^ 32) ⌝ }
-    requires { ⌜ StepsRoom p (now steps) n (stepsIn (now steps) n ++ table k (now inputs) (p + n + 1) (2 ^ (k * length (now inputs)))) ⌝ }
+    requires { ⌜ WithRoom (TableAsked p k (now inputs) n)
+        (StepsRoom p (now steps) n (stepsIn (now steps) n ++ table k (now inputs) (p + n + 1) (2 ^ (k * length (now inputs))))) ⌝ }
     ensures { λ r. ⌜ StepsStored (now (steps .entry)) (now (steps .exit)) r
         (stepsIn (now (steps .entry)) n ++ table k (now (inputs .entry)) (p + n + 1) (2 ^ (k * length (now (inputs .entry))))) ⌝ }
 {

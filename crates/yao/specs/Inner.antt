@@ -3,7 +3,8 @@ use mathlib.Core.Path.{_≡_}
 use mathlib.Core.List.{List}
 use Prim.Native.Nat.{ℕ, _+_, _-_, _*_, _≤_, _<_}
 use lib.ListN.{length, getD}
-use Rattle.yao.specs.Yao.{yaoDigits}
+use Rattle.methods.specs.Inner.{Asked}
+use Rattle.yao.specs.Yao.{yaoDigits, yaoMost}
 
 -- cells that say how many digits each of the first n columns has; none begins past 32 bits
 pub record DigitsFew (k n : ℕ) (cells : List ℕ) : Type 0 where
@@ -22,3 +23,13 @@ squaringsIn k cells c = (getD cells c 0 - 1) * k
 -- the most squarings of a column
 abbrev pub squaringsMost : ℕ
 squaringsMost = 31
+
+-- a chain that is asked for, with the sheet's columns measured
+pub record YaoAsked (p q : ℕ) (amounts : List ℕ) (k : ℕ) (cells : List ℕ) : Type 0 where
+  pub ranges : Asked yaoMost p q amounts k
+  pub measured : Measured p q amounts k cells
+
+-- payslip i of it
+pub record YaoPayslipAsked (p q : ℕ) (amounts : List ℕ) (k : ℕ) (cells : List ℕ) (i : ℕ) : Type 0 where
+  pub chain : YaoAsked p q amounts k cells
+  pub inside : i < q

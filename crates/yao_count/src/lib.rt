@@ -4,9 +4,9 @@ ghost use Prim.Native.Nat.{_+_, _*_, _≤_, _<_};
 ghost use Rattle.chain.specs.Chain.{mostColumns};
 ghost use Rattle.digits.specs.Range.{sumTo};
 ghost use Rattle.digits.specs.Inner.{Bounded};
-ghost use Rattle.methods.specs.Inner.{Asked, Largest};
+ghost use Rattle.methods.specs.Inner.{AskedByLargest};
 ghost use Rattle.yao.specs.Yao.{amountCount, yaoPayslipCount, yaoCount, yaoMost};
-ghost use Rattle.yao.specs.Inner.{DigitsFew, Measured, squaringsIn, squaringsMost};
+ghost use Rattle.yao.specs.Inner.{DigitsFew, YaoAsked, YaoPayslipAsked, squaringsIn, squaringsMost};
 ghost use Rattle.yao_count.specs.Inner.{amountMost, yaoPayslipMost};
 
 // How often the p columns measured are squared.
@@ -46,7 +46,7 @@ fn amount_count(k: usize, digits: usize, x: u32) -> usize
 
 // The steps of payslip i.
 fn payslip_count(p: usize, q: usize, amounts: &[u32], k: usize, columns: &[u32], i: usize) -> usize
-    requires { ⌜ Asked yaoMost p q (now amounts) k × (i < q) × Measured p q (now amounts) k (now columns) ⌝ }
+    requires { ⌜ YaoPayslipAsked p q (now amounts) k (now columns) i ⌝ }
     ensures { λ r. ⌜ Bounded r (yaoPayslipCount p q (now (amounts .entry)) k i) yaoPayslipMost ⌝ }
 {
     let mut n: usize = 0;
@@ -67,7 +67,7 @@ fn payslip_count(p: usize, q: usize, amounts: &[u32], k: usize, columns: &[u32],
 
 // The squarings, and the steps of the payslips.
 fn chain_count(p: usize, q: usize, amounts: &[u32], k: usize, columns: &[u32]) -> usize
-    requires { ⌜ Asked yaoMost p q (now amounts) k × Measured p q (now amounts) k (now columns) ⌝ }
+    requires { ⌜ YaoAsked p q (now amounts) k (now columns) ⌝ }
     ensures { λ r. ⌜ r ≡ yaoCount p q (now (amounts .entry)) k ⌝ }
 {
     let mut n = squaring_count(p, k, columns);
@@ -81,8 +81,7 @@ fn chain_count(p: usize, q: usize, amounts: &[u32], k: usize, columns: &[u32]) -
 
 // The number of steps of the chain.
 pub fn count(p: usize, q: usize, amounts: &[u32], k: usize, largest: &[u32]) -> usize
-    requires { ⌜ Asked yaoMost p q (now amounts) k ⌝ }
-    requires { ⌜ Largest p q (now amounts) (now largest) ⌝ }
+    requires { ⌜ AskedByLargest yaoMost p q (now amounts) k (now largest) ⌝ }
     ensures { λ r. ⌜ r ≡ yaoCount p q (now (amounts .entry)) k ⌝ }
 {
     let mut columns = [0u32; chain::MOST_COLUMNS];

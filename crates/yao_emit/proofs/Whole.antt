@@ -6,38 +6,28 @@ use native.Mathlib.Omega.{arith}
 use lib.ListN.{length, getD}
 use Rattle.chain.specs.Chain.{mostColumns}
 use Rattle.chain.specs.declared.Step.{Step}
-use Rattle.digits.specs.Range.{listTo}
 use Rattle.digits.proofs.Listed.{length-list, getD-list}
 use Rattle.products.specs.Product.{payslips}
 use Rattle.products.specs.Inner.{stepsIn, StepsRoom, StepsStored}
 use Rattle.methods.specs.Powers.{countsOf, squarings}
-use Rattle.methods.specs.Inner.{Asked, ChainRoom, ChainStored}
+use Rattle.methods.specs.Inner.{ChainRoom, ChainStored, PayslipsRoom}
 use Rattle.methods.proofs.Columns.{squarings-same}
 use Rattle.methods.proofs.Paying.{begin-room, payslips-room, chain-stored}
-use Rattle.yao.specs.Yao.{yaoSquarings, yao, yaoCount, yaoMost}
-use Rattle.yao.specs.Inner.{Measured, squaringsIn}
-use Rattle.yao_emit.specs.Inner.{yaoSlip}
+use Rattle.yao.specs.Yao.{yaoSquarings, yao, yaoCount}
+use Rattle.yao.specs.Inner.{squaringsIn}
+use Rattle.yao_emit.specs.Inner.{SquaringsCounted, yaoSlip}
 use Rattle.yao_emit.proofs.Paying.{slip-begins}
 use Rattle.yao.proofs.Measuring.{squarings-are}
 use Rattle.yao.proofs.Yao.{yao-count}
 
--- the bases are squared as the cells say
-module _ (p q : ℕ) (amounts : List ℕ) (k : ℕ) (cells : List ℕ) (m : Measured p q amounts k cells) (counts : List ℕ)
-    (is : counts ≡ listTo p (squaringsIn k cells)) where
+module _ {p q : ℕ} {amounts : List ℕ} {k : ℕ} {columns counts : List ℕ} (asked : SquaringsCounted p q amounts k columns counts) where
   counts-length : length counts ≡ p
-  counts-length = ap length is ∙ length-list p (squaringsIn k cells)
+  counts-length = ap length (asked .counts-are) ∙ length-list p (squaringsIn k columns)
 
-  pub counts-few : p ≤ mostColumns → length counts ≤ mostColumns
-  counts-few columns = omega (arith, counts-length)
+  pub counts-few : length counts ≤ mostColumns
+  counts-few = omega (arith, counts-length, asked .chain .ranges .sheet .p-low)
 
-  pub squared-as : squarings p (countsOf counts) (length counts) ≡ squarings p (yaoSquarings p q amounts k) p
-  squared-as =
-      ap (squarings p (countsOf counts)) counts-length
-      ∙ squarings-same p (countsOf counts) (yaoSquarings p q amounts k) p
-      (λ c h. ap (λ (l : List ℕ). getD l c 0) is ∙ getD-list p (squaringsIn k cells) c h ∙ squarings-are p q amounts k cells m c h)
-
-module _ {p q : ℕ} {amounts : List ℕ} {k : ℕ} (asked : Asked yaoMost p q amounts k) {cells : List ℕ} (measured : Measured p q amounts k cells) {counts : List ℕ}
-    (is : counts ≡ listTo p (squaringsIn k cells)) where
+  -- the bases are squared as the counts say
   abbrev Squared : List Step
   Squared = squarings p (countsOf counts) (length counts)
 
@@ -45,20 +35,24 @@ module _ {p q : ℕ} {amounts : List ℕ} {k : ℕ} (asked : Asked yaoMost p q a
   start = squarings p (yaoSquarings p q amounts k) p
 
   squared-is : Squared ≡ start
-  squared-is = squared-as p q amounts k cells measured counts is
+  squared-is =
+      ap (squarings p (countsOf counts)) counts-length
+      ∙ squarings-same p (countsOf counts) (yaoSquarings p q amounts k) p
+      (λ c h. ap (λ (l : List ℕ). getD l c 0) (asked .counts-are) ∙ getD-list p (squaringsIn k columns) c h
+      ∙ squarings-are p q amounts k columns (asked .chain .measured) c h)
 
   counted : length (payslips (yaoSlip p q amounts k) start q .steps) ≡ yaoCount p q amounts k
   unfolding yao
-  counted = yao-count p q amounts k (asked .k-some)
+  counted = yao-count p q amounts k (asked .chain .ranges .k-some)
 
   module _ {old outputs : List ℕ} (fits : ChainRoom q (yaoCount p q amounts k) old outputs) where
     pub squarings-room : StepsRoom p old 0 Squared
-    squarings-room = rw squared-is (begin-room (yaoSlip p q amounts k) (slip-begins p q amounts k) start q (asked .sheet .p-low) fits counted)
+    squarings-room = rw squared-is (begin-room (yaoSlip p q amounts k) (slip-begins p q amounts k) start q (asked .chain .ranges .sheet .p-low) fits counted)
 
     pub after-squarings : {steps : List ℕ} {n : ℕ} → StepsStored old steps n Squared
-        → StepsRoom p steps n (payslips (yaoSlip p q amounts k) (stepsIn steps n) q .steps)
+        → PayslipsRoom p q steps n (payslips (yaoSlip p q amounts k) (stepsIn steps n) q .steps) outputs
     after-squarings st =
-        payslips-room (yaoSlip p q amounts k) (slip-begins p q amounts k) start q (asked .sheet .p-low) fits counted (rw squared-is at st)
+        payslips-room (yaoSlip p q amounts k) (slip-begins p q amounts k) start q (asked .chain .ranges .sheet .p-low) fits counted (rw squared-is at st)
 
   pub chain-made : {old steps outputs₀ steps′ outputs′ : List ℕ} {n : ℕ} → StepsStored old steps n Squared
       → ChainStored steps outputs₀ steps′ outputs′ (payslips (yaoSlip p q amounts k) (stepsIn steps n) q)

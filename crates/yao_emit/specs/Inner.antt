@@ -5,8 +5,10 @@ use Prim.Native.Nat.{ℕ, _+_, _-_, _*_, _^_, _≤_, _<_}
 use Rattle.chain.specs.declared.Step.{Step}
 use Rattle.products.specs.Product.{Made, made, times}
 use Rattle.products.specs.Inner.{StepsStored}
+use Rattle.digits.specs.Range.{listTo}
 use Rattle.methods.specs.Powers.{powerAt}
 use Rattle.yao.specs.Yao.{gather, Sweep, sweep, yaoPayslip}
+use Rattle.yao.specs.Inner.{YaoAsked, squaringsIn}
 use Rattle.yao_emit.specs.declared.Column.{Column}
 
 -- the value number of power 2^(ki) in a column
@@ -38,6 +40,11 @@ pub record SweepEmitted (before cells : List ℕ) (n a b : ℕ) (r : Sweep) : Ty
   pub stored : StepsStored before cells n (r .steps)
   pub a-is : a ≡ r .a
   pub b-is : b ≡ r .b
+
+-- a chain that is asked for, with the columns' squarings counted
+pub record SquaringsCounted (p q : ℕ) (amounts : List ℕ) (k : ℕ) (columns counts : List ℕ) : Type 0 where
+  pub chain : YaoAsked p q amounts k columns
+  pub counts-are : counts ≡ listTo p (squaringsIn k columns)
 
 -- the whole of payslip i
 abbrev pub yaoSlip : ℕ → ℕ → List ℕ → ℕ → ℕ → List Step → Made

@@ -1,15 +1,15 @@
 // Method 2, Yao: the chain's steps and outputs.
 ghost use mathlib.Core.Path.{_≡_};
-ghost use Prim.Native.Nat.{_-_, _^_, _≤_, _<_};
+ghost use Prim.Native.Nat.{_-_, _^_, _≤_};
 ghost use lib.ListN.{length};
 ghost use Rattle.chain.specs.Written.{over};
 ghost use Rattle.digits.specs.Range.{listTo};
 ghost use Rattle.products.specs.Product.{payslips};
-ghost use Rattle.products.specs.Inner.{stepsIn, productIn, StepsRoom, Emitted};
-ghost use Rattle.methods.specs.Inner.{Asked, Largest, ChainRoom, ChainStored};
+ghost use Rattle.products.specs.Inner.{stepsIn, productIn, WithRoom, StepsRoom, Emitted};
+ghost use Rattle.methods.specs.Inner.{AskedByLargest, ChainRoom, ChainStored, PayslipsRoom};
 ghost use Rattle.yao.specs.Yao.{gatherOne, yaoPayslip, yao, yaoCount, yaoMost};
-ghost use Rattle.yao.specs.Inner.{DigitsFew, Measured, squaringsIn};
-ghost use Rattle.yao_emit.specs.Inner.{Reach, gatherIn, sweepIn, joined, SweepEmitted, yaoSlip};
+ghost use Rattle.yao.specs.Inner.{DigitsFew, YaoAsked, YaoPayslipAsked, squaringsIn};
+ghost use Rattle.yao_emit.specs.Inner.{Reach, gatherIn, sweepIn, joined, SweepEmitted, SquaringsCounted, yaoSlip};
 use products::PartialProduct;
 
 // A column of a payslip: the sheet's columns p and the parameter k, its place c, the value after which its powers are made, how many they are, and its
@@ -51,8 +51,7 @@ fn gather_one(
 
 // b times each power whose digit is d, lowest first.
 fn gather_powers(column: Column, d: u32, b: PartialProduct, steps: &mut [u32]) -> PartialProduct
-    requires { ⌜ Reach column ⌝ }
-    requires { ⌜ StepsRoom (column .p) (now steps) (b .n) (gatherIn column d (column .digits) (productIn (now steps) b) .steps) ⌝ }
+    requires { ⌜ WithRoom (Reach column) (StepsRoom (column .p) (now steps) (b .n) (gatherIn column d (column .digits) (productIn (now steps) b) .steps)) ⌝ }
     ensures { λ r. ⌜ Emitted (now (steps .entry)) (now (steps .exit)) (r .n) (r .value)
         (gatherIn column d (column .digits) (productIn (now (steps .entry)) b)) ⌝ }
 {
@@ -75,8 +74,7 @@ fn gather_powers(column: Column, d: u32, b: PartialProduct, steps: &mut [u32]) -
 
 // The products of a column: for each digit from the largest down, b takes up its powers, then a takes up b.
 fn sweep_column(column: Column, n: usize, steps: &mut [u32]) -> Pair
-    requires { ⌜ Reach column ⌝ }
-    requires { ⌜ StepsRoom (column .p) (now steps) n (sweepIn column (stepsIn (now steps) n) (2 ^ column .k - 1) .steps) ⌝ }
+    requires { ⌜ WithRoom (Reach column) (StepsRoom (column .p) (now steps) n (sweepIn column (stepsIn (now steps) n) (2 ^ column .k - 1) .steps)) ⌝ }
     ensures { λ r. ⌜ SweepEmitted (now (steps .entry)) (now (steps .exit)) (r .n) (r .a) (r .b)
         (sweepIn column (stepsIn (now (steps .entry)) n) (2 ^ column .k - 1)) ⌝ }
 {
@@ -108,7 +106,7 @@ fn sweep_column(column: Column, n: usize, steps: &mut [u32]) -> Pair
 
 // How often each of the p columns measured is squared.
 fn all_squarings(p: usize, k: usize, columns: &[u32], counts: &mut [u32])
-    requires { ⌜ DigitsFew k p (now columns) × (p ≤ length (now counts)) ⌝ }
+    requires { ⌜ WithRoom (DigitsFew k p (now columns)) (p ≤ length (now counts)) ⌝ }
     ensures { λ r. ⌜ now (counts .exit) ≡ over (listTo p (squaringsIn k (now (columns .entry)))) (now (counts .entry)) ⌝ }
 {
     let mut c: usize = 0;
@@ -120,8 +118,7 @@ fn all_squarings(p: usize, k: usize, columns: &[u32], counts: &mut [u32])
 
 // The product times the power x of a column's base.
 fn join_column(column: Column, m: PartialProduct, steps: &mut [u32]) -> PartialProduct
-    requires { ⌜ Reach column ⌝ }
-    requires { ⌜ StepsRoom (column .p) (now steps) (m .n) (joined column (productIn (now steps) m) .steps) ⌝ }
+    requires { ⌜ WithRoom (Reach column) (StepsRoom (column .p) (now steps) (m .n) (joined column (productIn (now steps) m) .steps)) ⌝ }
     ensures { λ r. ⌜ Emitted (now (steps .entry)) (now (steps .exit)) (r .n) (r .value)
         (joined column (productIn (now (steps .entry)) m)) ⌝ }
 {
@@ -142,8 +139,8 @@ fn make_payslip(
     n: usize,
     steps: &mut [u32],
 ) -> PartialProduct
-    requires { ⌜ Asked yaoMost p q (now amounts) k × (i < q) × Measured p q (now amounts) k (now columns) ⌝ }
-    requires { ⌜ StepsRoom p (now steps) n (yaoPayslip p q (now amounts) k i (stepsIn (now steps) n) p .steps) ⌝ }
+    requires { ⌜ WithRoom (YaoPayslipAsked p q (now amounts) k (now columns) i)
+        (StepsRoom p (now steps) n (yaoPayslip p q (now amounts) k i (stepsIn (now steps) n) p .steps)) ⌝ }
     ensures { λ r. ⌜ Emitted (now (steps .entry)) (now (steps .exit)) (r .n) (r .value)
         (yaoPayslip p q (now (amounts .entry)) k i (stepsIn (now (steps .entry)) n) p) ⌝ }
 {
@@ -178,8 +175,8 @@ fn make_payslips(
     steps: &mut [u32],
     outputs: &mut [u32],
 )
-    requires { ⌜ Asked yaoMost p q (now amounts) k × Measured p q (now amounts) k (now columns) × (q ≤ length (now outputs)) ⌝ }
-    requires { ⌜ StepsRoom p (now steps) n (payslips (yaoSlip p q (now amounts) k) (stepsIn (now steps) n) q .steps) ⌝ }
+    requires { ⌜ WithRoom (YaoAsked p q (now amounts) k (now columns))
+        (PayslipsRoom p q (now steps) n (payslips (yaoSlip p q (now amounts) k) (stepsIn (now steps) n) q .steps) (now outputs)) ⌝ }
     ensures { λ r. ⌜ ChainStored (now (steps .entry)) (now (outputs .entry)) (now (steps .exit)) (now (outputs .exit))
         (payslips (yaoSlip p q (now (amounts .entry)) k) (stepsIn (now (steps .entry)) n) q) ⌝ }
 {
@@ -204,8 +201,7 @@ fn make_chain(
     steps: &mut [u32],
     outputs: &mut [u32],
 )
-    requires { ⌜ Asked yaoMost p q (now amounts) k × Measured p q (now amounts) k (now columns) × (now counts ≡ listTo p (squaringsIn k (now columns))) ⌝ }
-    requires { ⌜ ChainRoom q (yaoCount p q (now amounts) k) (now steps) (now outputs) ⌝ }
+    requires { ⌜ WithRoom (SquaringsCounted p q (now amounts) k (now columns) (now counts)) (ChainRoom q (yaoCount p q (now amounts) k) (now steps) (now outputs)) ⌝ }
     ensures { λ r. ⌜ ChainStored (now (steps .entry)) (now (outputs .entry)) (now (steps .exit)) (now (outputs .exit)) (yao p q (now (amounts .entry)) k) ⌝ }
 {
     let n = methods::square_columns(p, counts, steps);
@@ -222,9 +218,7 @@ pub fn emit(
     steps: &mut [u32],
     outputs: &mut [u32],
 )
-    requires { ⌜ Asked yaoMost p q (now amounts) k ⌝ }
-    requires { ⌜ Largest p q (now amounts) (now largest) ⌝ }
-    requires { ⌜ ChainRoom q (yaoCount p q (now amounts) k) (now steps) (now outputs) ⌝ }
+    requires { ⌜ WithRoom (AskedByLargest yaoMost p q (now amounts) k (now largest)) (ChainRoom q (yaoCount p q (now amounts) k) (now steps) (now outputs)) ⌝ }
     ensures { λ r. ⌜ ChainStored (now (steps .entry)) (now (outputs .entry)) (now (steps .exit)) (now (outputs .exit)) (yao p q (now (amounts .entry)) k) ⌝ }
 {
     let mut columns = [0u32; chain::MOST_COLUMNS];

@@ -44,10 +44,11 @@ emit-requires c κs =
     let n = e .before .before .before in
     let j = n .before .before .before in
     let counted = was-counted _ _ _ _ _ _ (answer-clause (j .judge-accepted .ensures)) [] [] _ (n .n .given .1) in
-    let fits = sym (was-accepted _ _ _ _ _ _ (answer-clause (j .judge-accepted .ensures)) [] [] _ (n .n .given .1)) in (
-      (fits, only-slice-clause (j .judge-accepted .ensures) fits),
-      (omega (arith, counted, e .before .if1 .left), e .if2 .left),
-    )
+    let fits = sym (was-accepted _ _ _ _ _ _ (answer-clause (j .judge-accepted .ensures)) [] [] _ (n .n .given .1)) in
+    record {
+      asked = record { accepted = fits; measured = only-slice-clause (j .judge-accepted .ensures) fits };
+      room = record { steps-fit = omega (arith, counted, e .before .if1 .left); outputs-fit = e .if2 .left };
+    }
 
 returns-3 : tie.Need-returns-3
 returns-3 c =

@@ -13,28 +13,32 @@ use Rattle.compile.proofs.emit.Tie as tie
 
 -- what the caller promises: the sheet, the method and the parameter are accepted, and there is room for the method's chain
 given : (s : tie.Start) → Accepted (s .args .p) (s .args .q) (now (s .args .amounts)) (s .args .method) (s .args .k)
-given s = accepted _ _ _ _ _ (s .pre .0 .0)
+given s = accepted _ _ _ _ _ (s .pre .asked .accepted)
 
 room : (s : tie.Start) (m : Method) → methodOf (s .args .p) (s .args .q) (now (s .args .amounts)) (s .args .method) (s .args .k) ≡ m
     → ChainRoom (s .args .q) (m .count) (now (s .args .steps)) (now (s .args .outputs))
 room s m is =
     let counted = same-count is in
-    record { short = omega (arith, given s .short); steps-fit = omega (arith, s .pre .1); outputs-fit = s .pre .1 .1 }
+    let lent = s .pre .room in
+    record { short = omega (arith, given s .short); lent = record { steps-fit = omega (arith, lent .steps-fit); outputs-fit = lent .outputs-fit } }
 
 emit-requires : tie.Need-emit-requires
 emit-requires c κs =
     let s = c .before .before .before .before .before .before .before in
-    (first-asks (given s .ranges) (omega arith), room s _ (is-straus _ _ _ _ _ (omega arith)))
+    record { asked = first-asks (given s .ranges) (omega arith); room = room s _ (is-straus _ _ _ _ _ (omega arith)) }
 
 emit-requires-2 : tie.Need-emit-requires-2
 emit-requires-2 c κs =
     let s = c .before .before .before .before .before .before .before in
-    (other-asks (given s .ranges) (λ e. omega arith), (s .pre .0 .1 .columns (λ e. omega arith), room s _ (is-yao _ _ _ _ _ (omega arith))))
+    record { asked = other-asks (given s .ranges) (s .pre .asked .measured) (λ e. omega arith); room = room s _ (is-yao _ _ _ _ _ (omega arith)) }
 
 emit-requires-3 : tie.Need-emit-requires-3
 emit-requires-3 c κs =
     let s = c .before .before .before .before .before .before .before in
-    (other-asks (given s .ranges) (λ e. omega arith), (s .pre .0 .1 .columns (λ e. omega arith), room s _ (is-partition _ _ _ _ _ (λ e. omega arith) (λ e. omega arith))))
+    record {
+      asked = other-asks (given s .ranges) (s .pre .asked .measured) (λ e. omega arith);
+      room = room s _ (is-partition _ _ _ _ _ (λ e. omega arith) (λ e. omega arith));
+    }
 
 same-length : tie.Need-same-length
 same-length c = search needs

@@ -58,7 +58,7 @@ step-count-requires : tie.Need-step-count-requires
 step-count-requires c κs =
     let measured = c .before .before .before in
     let m = measured .before .before in
-    (sym (sheet-fine (m .before .before .before)), sym (method-fine m), measured .measure .ensures)
+    record { sheet-fine = sym (sheet-fine (m .before .before .before)); method-fine = sym (method-fine m); measured = measured .measure .ensures }
 
 judge-length-requires : tie.Need-judge-length-requires
 judge-length-requires c κs = search needs

@@ -9,7 +9,7 @@ use Rattle.compile.proofs.step_count.Tie as tie
 
 -- what the caller promises
 given : (s : tie.Start) → InRange (s .args .p) (s .args .q) (now (s .args .amounts)) (s .args .method) (s .args .k)
-given s = in-range _ _ _ _ _ (s .pre .0) (s .pre .1)
+given s = in-range _ _ _ _ _ (s .pre .sheet-fine) (s .pre .method-fine)
 
 count-requires : tie.Need-count-requires
 count-requires c κs = first-asks (given (c .before .before .before)) (omega arith)
@@ -17,12 +17,12 @@ count-requires c κs = first-asks (given (c .before .before .before)) (omega ari
 count-requires-2 : tie.Need-count-requires-2
 count-requires-2 c κs =
     let s = c .before .before .before in
-    (other-asks (given s) (λ e. omega arith), s .pre .2 .columns (λ e. omega arith))
+    other-asks (given s) (s .pre .measured) (λ e. omega arith)
 
 count-requires-3 : tie.Need-count-requires-3
 count-requires-3 c κs =
     let s = c .before .before .before in
-    (other-asks (given s) (λ e. omega arith), s .pre .2 .columns (λ e. omega arith))
+    other-asks (given s) (s .pre .measured) (λ e. omega arith)
 
 returns : tie.Need-returns
 returns c = c .count .ensures ∙ sym (same-count (is-straus _ _ _ _ _ (omega arith)))

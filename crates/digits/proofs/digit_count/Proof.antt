@@ -25,7 +25,7 @@ div-result : tie.Need-div-result
 div-result c = search needs
 
 returns-2 : tie.Need-returns-2
-returns-2 c = count-word _ _ (c .before .pre .0) (omega arith)
+returns-2 c = count-word _ _ (c .before .pre .k-some) (omega arith)
 
 pub digit-count-spec : {M : Type 1} → statement M
 digit-count-spec = tie.close (tie.spec cast-bits sub-bits returns add-result sub-result div-result returns-2)

@@ -12,7 +12,7 @@ number-inputs-requires c κs =
 make-squarings-requires : tie.Need-make-squarings-requires
 make-squarings-requires c κs =
     let s = c .before .before .before .before .before .before .before .before in
-    (inputs-room (s .pre) .columns, squares-room (s .pre))
+    record { asked = inputs-room (s .pre) .columns; room = squares-room (s .pre) }
 
 slice-reshare-prefix-make-tables : tie.Need-slice-reshare-prefix-make-tables
 slice-reshare-prefix-make-tables c = search needs

@@ -25,7 +25,7 @@ square-columns-requires c κs =
     let s = counted .before .before .before .before in
     let long = counted-long (s .args .bits .now) _ _ (counted .count-squarings .ensures) in
     let same = counted-squarings (s .args .bits .now) _ _ (counted .count-squarings .ensures) in
-    (omega (arith, s .pre .0), rw same (s .pre .1))
+    record { asked = omega (arith, s .pre .asked); room = rw same (s .pre .room) }
 
 same-length : tie.Need-same-length
 same-length c = search needs

@@ -9,7 +9,7 @@ use native.Mathlib.Omega.{arith}
 use Rattle.groups.specs.Groups.{groupTables}
 use Rattle.groups.proofs.Counting.{group-inside}
 use Rattle.subsets.proofs.Places.{ends, ends-few}
-use Rattle.group_tables.proofs.Tabling.{table-numbers, table-on, table-room, table-small, tables-end}
+use Rattle.group_tables.proofs.Tabling.{table-asked, table-on, table-room, tables-end}
 use Rattle.group_tables.proofs.make_tables.Statement.{statement}
 use Rattle.group_tables.proofs.make_tables.Tie as tie
 
@@ -71,10 +71,10 @@ make-table-requires c κs =
     let start = sized .before .before .before .before in
     let s = start .before .before .before in
     let is = sized .group-size .ensures in
-    let small = table-small (s .pre) (start .loop .g) (search needs) is (start .loop .inv .2) in
-    let numbers = table-numbers (s .pre) (start .loop .g) (search needs) is (start .loop .inv .2) in
-    let room = table-room (s .pre) (start .loop .g) (search needs) is (start .loop .inv .2) in
-    ((search needs, search needs, small, numbers), room)
+    record {
+      asked = table-asked (s .pre) (start .loop .g) (search needs) is (start .loop .inv .2);
+      room = table-room (s .pre) (start .loop .g) (search needs) is (start .loop .inv .2);
+    }
 
 add-g : tie.Need-add-g Inv-loop μ-loop
 add-g c = search needs

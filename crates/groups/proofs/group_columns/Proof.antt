@@ -10,7 +10,7 @@ use Rattle.groups.proofs.group_columns.Tie as tie
 narrow : (c : tie.After-measure-digits) → Narrow (take (c .before .before .before .before .args .p) (c .measure-digits .last .1 .1 .1 .0))
 narrow c =
     let s = c .before .before .before .before in
-    measured-narrow (s .args .p) (s .args .largest .now) _ _ (c .measure-digits .ensures) (s .pre .0) (λ j. c .before .before .before .shared-slice-known .given j .fits)
+    measured-narrow (s .args .p) (s .args .largest .now) _ _ (c .measure-digits .ensures) (s .pre .columns) (λ j. c .before .before .before .shared-slice-known .given j .fits)
 
 measure-digits-requires : tie.Need-measure-digits-requires
 measure-digits-requires c κs = search needs
@@ -55,7 +55,7 @@ returns c =
     let s = told .before .before .before .before in
     let w = c .before .before .before .column-sum .ensures in
     let groups = c .before .before .group-count .ensures in
-    columns-grouped _ (s .args .largest .now) _ _ (s .pre .0) (s .pre .1) (s .pre .2) (told .measure-digits .ensures) w groups (c .column-sum2 .ensures)
+    columns-grouped _ (s .args .largest .now) _ _ (s .pre) (told .measure-digits .ensures) w groups (c .column-sum2 .ensures)
 
 pub group-columns-spec : {M : Type 1} → statement M
 group-columns-spec =

@@ -19,20 +19,20 @@ slice-aggregate-chain-count : tie.Need-slice-aggregate-chain-count
 slice-aggregate-chain-count c =
     let g = c .before .before in
     let s = g .before .before .before .before in
-    let told = sheet-grouped (s .pre .0 .sheet) (s .pre .1) (g .group-columns .ensures) in
+    let told = sheet-grouped (s .pre) (g .group-columns .ensures) in
     sym (grouped-long (told .grouped) ∙ told .same-p)
 
 chain-count-requires : tie.Need-chain-count-requires
 chain-count-requires c κs =
     let g = c .before .before in
     let s = g .before .before .before .before in
-    sheet-grouped (s .pre .0 .sheet) (s .pre .1) (g .group-columns .ensures) .grouped
+    sheet-grouped (s .pre) (g .group-columns .ensures) .grouped
 
 returns : tie.Need-returns
 returns c =
     let g = c .before .before .before in
     let s = g .before .before .before .before in
-    count-given (sheet-grouped (s .pre .0 .sheet) (s .pre .1) (g .group-columns .ensures)) (c .chain-count .ensures)
+    count-given (sheet-grouped (s .pre) (g .group-columns .ensures)) (c .chain-count .ensures)
 
 pub count-spec : {M : Type 1} → statement M
 count-spec =

@@ -19,7 +19,7 @@ slice-aggregate-make-chain : tie.Need-slice-aggregate-make-chain
 slice-aggregate-make-chain c =
     let g = c .before .before in
     let s = g .before .before .before .before .before .before in
-    let told = sheet-grouped (s .pre .0 .sheet) (s .pre .1 .0) (g .group-columns .ensures) in
+    let told = sheet-grouped (s .pre .asked) (g .group-columns .ensures) in
     sym (grouped-long (told .grouped) ∙ told .same-p)
 
 slice-aggregate-make-chain-2 : tie.Need-slice-aggregate-make-chain-2
@@ -32,8 +32,8 @@ make-chain-requires : tie.Need-make-chain-requires
 make-chain-requires c κs =
     let g = c .before .before .before .before .before .before in
     let s = g .before .before .before .before .before .before in
-    let told = sheet-grouped (s .pre .0 .sheet) (s .pre .1 .0) (g .group-columns .ensures) in
-    let room = room-given told (s .pre .1 .1) in
+    let told = sheet-grouped (s .pre .asked) (g .group-columns .ensures) in
+    let room = room-given told (s .pre .room) in
     record { grouped = told .grouped; members-room = search needs; cells-room = search needs; fits = room }
 
 same-length : tie.Need-same-length
@@ -46,7 +46,7 @@ returns : tie.Need-returns
 returns c =
     let g = c .before .before .before .before .before .before .before .before .before .before .before .before .before in
     let s = g .before .before .before .before .before .before in
-    chain-given (sheet-grouped (s .pre .0 .sheet) (s .pre .1 .0) (g .group-columns .ensures)) (c .before .before .before .before .before .before .make-chain .ensures)
+    chain-given (sheet-grouped (s .pre .asked) (g .group-columns .ensures)) (c .before .before .before .before .before .before .make-chain .ensures)
 
 pub emit-spec : {M : Type 1} → statement M
 emit-spec =

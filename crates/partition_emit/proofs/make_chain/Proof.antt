@@ -24,11 +24,9 @@ make-payslips-requires c κs =
     let grouped = c .before .before .before .before .before .before .before .before in
     let s = grouped .before .before .before .before .before .before .before .before .before in
     let are = sheet-inputs (s .pre .grouped) (grouped .make-groups .ensures) in
-    let room = slips-room (s .pre .grouped) (s .pre .fits) (grouped .make-groups .ensures) in
     record {
-      ready = record { grouped = s .pre .grouped; members-are = are; room = s .pre .cells-room };
-      outputs-fit = s .pre .fits .outputs-fit;
-      room = room;
+      asked = record { grouped = s .pre .grouped; members-are = are; room = s .pre .cells-room };
+      room = slips-room (s .pre .grouped) (s .pre .fits) (grouped .make-groups .ensures);
     }
 
 same-length : tie.Need-same-length

@@ -28,17 +28,17 @@ loop-holds c =
 mul-part-value : tie.Need-mul-part-value Inv-loop μ-loop
 mul-part-value c =
     let start = c .before .before in
-    omega (arith, start .before .before .before .before .pre .numbered .cuts .groups-few)
+    omega (arith, start .before .before .before .before .pre .asked .cuts .groups-few)
 
 shared-slice-read-part-value : tie.Need-shared-slice-read-part-value Inv-loop μ-loop
 shared-slice-read-part-value c =
     let start = c .before .before .before in
-    omega (arith, start .before .before .before .before .pre .numbered .numbers-long)
+    omega (arith, start .before .before .before .before .pre .asked .numbers-long)
 
 part-value-requires : tie.Need-part-value-requires Inv-loop μ-loop
 part-value-requires c κs =
     let start = c .before .before .before in
-    let pre = start .before .before .before .before .pre .numbered in
+    let pre = start .before .before .before .before .pre .asked in
     record { cuts = pre .cuts; long = pre .members-long; inside = search needs; part = pre .numbers-low (start .loop .g) (search needs) }
 
 times-requires : tie.Need-times-requires Inv-loop μ-loop

@@ -32,7 +32,7 @@ make-parts-requires c κs =
     let long = numbers-long (a .s) (a .amounts .now) (a .i) _ _ (numbered .number-parts .ensures) in
     let same = payslip-is (s .pre .ready) (a .i) numbers at (stepsIn (a .steps .now) (a .n)) in
     let ready = payslip-numbered (s .pre .ready) (a .i) numbers at (sym long) in
-    record { numbered = ready; room = rw same (s .pre .room) }
+    record { asked = ready; room = rw same (s .pre .room) }
 
 same-length : tie.Need-same-length
 same-length c = search needs

@@ -31,14 +31,14 @@ loop-holds c =
     let s = c .before .before .before .before .before .before in
     let a = s .args in
     let slip = payslipOf (a .s) (a .amounts .now) in
-    (paying-start (a .s .p) (a .s .q) slip (a .steps .now) (a .outputs .now) (a .n) (s .pre .room) (s .pre .outputs-fit), search needs)
+    (paying-start (a .s .p) (a .s .q) slip (a .steps .now) (a .outputs .now) (a .n) (s .pre .room), search needs)
 
 make-payslip-requires : tie.Need-make-payslip-requires Inv-loop μ-loop
 make-payslip-requires c κs =
     let start = c .before .before .before .before in
     let s = start .before .before .before .before .before .before .before in
     let a = s .args in
-    let pre = s .pre .ready in
+    let pre = s .pre .asked in
     let room : mostInputs ≤ length (start .loop .cells) = omega (arith, start .loop .inv .1, pre .room) in
     let after = paying-room (payslipOf (a .s) (a .amounts .now)) (each s) (start .loop .inv .0) (s .pre .room) (search needs) in
     record { ready = record { grouped = pre .grouped; members-are = pre .members-are; room = room }; inside = search needs; room = after }

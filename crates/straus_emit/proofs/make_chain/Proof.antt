@@ -1,23 +1,19 @@
 -- The table, then the payslips over it: room for both comes from the room for the chain, and the two together are the chain.
 use borrow.Author.Needs.{needs}
-use Rattle.straus_emit.proofs.Whole.{table-size, table-numbers, table-room, after-table, chain-made}
+use Rattle.straus_emit.proofs.Whole.{table-asked, table-room, after-table, chain-made}
 use Rattle.straus_emit.proofs.make_chain.Statement.{statement}
 use Rattle.straus_emit.proofs.make_chain.Tie as tie
 
 make-table-requires : tie.Need-make-table-requires
 make-table-requires c κs =
-    let s = c .before .before .before .before .before .pre in
-    let ask = s .0 in (
-      (search needs, search needs, table-size (ask .0) (ask .1) (ask .2), table-numbers (ask .0) (ask .1) (ask .2)),
-      table-room (ask .0) (ask .1) (ask .2) (s .1),
-    )
+    let s = c .before .before .before .before .before in
+    record { asked = table-asked (s .pre .asked); room = table-room (s .pre .asked) (s .pre .room) }
 
 make-payslips-requires : tie.Need-make-payslips-requires
 make-payslips-requires c κs =
     let made = c .before .before .before .before in
-    let s = made .before .before .before .before .before .before .pre in
-    let ask = s .0 in
-    (search needs, after-table (ask .0) (ask .1) (ask .2) (s .1) (made .make-table .ensures))
+    let s = made .before .before .before .before .before .before in
+    record { asked = s .pre .asked; room = after-table (s .pre .asked) (s .pre .room) (made .make-table .ensures) }
 
 same-length : tie.Need-same-length
 same-length c = search needs

@@ -10,16 +10,16 @@ slice-aggregate-raise-amounts c = search needs
 
 raise-amounts-requires : tie.Need-raise-amounts-requires
 raise-amounts-requires c κs =
-    let asked = c .before .before .before .before .pre .0 .0 in
-    (asked, columns-few asked)
+    let payslip = c .before .before .before .before .pre .asked .payslip in
+    record { asked = payslip; room = columns-few payslip }
 
 slice-aggregate-fill-masks : tie.Need-slice-aggregate-fill-masks
 slice-aggregate-fill-masks c = search needs
 
 fill-masks-requires : tie.Need-fill-masks-requires
 fill-masks-requires c κs =
-    let asked = c .before .before .before .before .before .before .before .pre .0 .0 in
-    (asked .vectors-low, columns-few asked)
+    let payslip = c .before .before .before .before .before .before .before .pre .asked .payslip in
+    record { asked = payslip .vectors-low; room = columns-few payslip }
 
 digit-count-requires : tie.Need-digit-count-requires
 digit-count-requires c κs = search needs
@@ -36,12 +36,14 @@ take-digits-requires c κs =
     let f = g .before .before in
     let h = f .before .before .before in
     let s = h .before .before .before .before .before in
-    let few = columns-few (s .pre .0 .0) in
+    let asked = s .pre .asked in
+    let few = columns-few (asked .payslip) in
     let raised = h .raise-amounts .ensures in
-    let masked = f .fill-masks .ensures in (
-      digits-asked (s .pre .0 .0) _ _ _ _ raised masked (s .pre .0 .1) _ (g .digit-count .ensures .places-low) (search (needs, few)) (search (needs, few)),
-      rw (payslip-is (s .pre .0 .0) _ _ _ _ raised masked (s .pre .0 .1) _ (g .digit-count .ensures .is) _) (s .pre .1),
-    )
+    let masked = f .fill-masks .ensures in
+    record {
+      asked = digits-asked asked _ _ _ _ raised masked _ (g .digit-count .ensures .places-low) (search (needs, few)) (search (needs, few));
+      room = rw (payslip-is asked _ _ _ _ raised masked _ (g .digit-count .ensures .is) _) (s .pre .room);
+    }
 
 same-length : tie.Need-same-length
 same-length c = search needs
@@ -54,7 +56,7 @@ returns c =
     let h = f .before .before .before in
     let s = h .before .before .before .before .before in
     let before = stepsIn (s .args .steps .now) (s .args .n) in
-    let is = payslip-is (s .pre .0 .0) _ _ _ _ (h .raise-amounts .ensures) (f .fill-masks .ensures) (s .pre .0 .1) _ (g .digit-count .ensures .is) before in
+    let is = payslip-is (s .pre .asked) _ _ _ _ (h .raise-amounts .ensures) (f .fill-masks .ensures) _ (g .digit-count .ensures .is) before in
     rw (← is) (t .take-digits .ensures)
 
 pub make-payslip-spec : {M : Type 1} → statement M

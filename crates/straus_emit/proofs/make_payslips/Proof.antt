@@ -22,10 +22,12 @@ loop-holds c = search (needs, paying-start)
 make-payslip-requires : tie.Need-make-payslip-requires Inv-loop μ-loop
 make-payslip-requires c κs =
     let at = c .before .before in
-    let s = at .before .before .before .before .before in (
-      (payslip-asked (s .pre .0 .0) (s .pre .0 .1) (search needs), search needs),
-      paying-room (strausPayslip _ _ _) (payslip-begins _ _ _) (at .loop .inv) (s .pre .1) (search needs),
-    )
+    let s = at .before .before .before .before .before in
+    let asked = s .pre .asked in
+    record {
+      asked = record { payslip = payslip-asked (asked .chain) (search needs); bases-are = asked .bases-are };
+      room = paying-room (strausPayslip _ _ _) (payslip-begins _ _ _) (at .loop .inv) (s .pre .room) (search needs);
+    }
 
 mul-outputs : tie.Need-mul-outputs Inv-loop μ-loop
 mul-outputs c = search needs
@@ -44,7 +46,7 @@ loop-again c =
     let made = c .before .before in
     let at = made .before .before .before in
     let s = at .before .before .before .before .before in
-    paying-on (strausPayslip _ _ _) (payslip-begins _ _ _) (at .loop .inv) (s .pre .1) (search needs) (made .make-payslip .ensures)
+    paying-on (strausPayslip _ _ _) (payslip-begins _ _ _) (at .loop .inv) (s .pre .room) (search needs) (made .make-payslip .ensures)
 
 same-length : tie.Need-same-length Inv-loop μ-loop
 same-length c = search needs

@@ -29,7 +29,7 @@ place e = e .before .before .before .before .before .before .args .digits - (e .
 entry-low : (e : tie.In-loop Inv-loop μ-loop)
     → let a = e .before .before .before .before .before .before .args in
     vectorAt (a .p) (a .cells .now) (a .masks .now) (a .k * place e) < 2 ^ (a .k * length (a .inputs .now))
-entry-low e = e .before .before .before .before .before .before .pre .0 .entries (place e)
+entry-low e = e .before .before .before .before .before .before .pre .asked .entries (place e)
 
 -- and its value the one that the product is multiplied by
 value-is : (e : tie.After-entry Inv-loop μ-loop)
@@ -51,7 +51,7 @@ mul-vector c = fits-under _ _ 32 (search digit-fits) tt
 
 vector-requires : tie.Need-vector-requires Inv-loop μ-loop
 vector-requires c κs =
-    let asked = c .before .before .before .before .before .before .pre .0 in
+    let asked = c .before .before .before .before .before .before .pre .asked in
     (search needs, search needs, search digit-fits, omega (arith, entry-low c, asked .numbers))
 
 add-entry : tie.Need-add-entry Inv-loop μ-loop
@@ -60,11 +60,11 @@ add-entry c = search needs
 cast-entry : tie.Need-cast-entry Inv-loop μ-loop
 cast-entry c =
     let s = c .before .before .before .before .before .before .before in
-    omega (arith, s .pre .0 .numbers, pow-pos (s .args .k * length (s .args .inputs .now)))
+    omega (arith, s .pre .asked .numbers, pow-pos (s .args .k * length (s .args .inputs .now)))
 
 entry-requires : tie.Need-entry-requires Inv-loop μ-loop
 entry-requires c κs =
-    let asked = c .before .before .before .before .before .before .before .pre .0 in
+    let asked = c .before .before .before .before .before .before .before .pre .asked in
     let low = entry-low (c .before) in
     (asked .k-some, asked .k-low, search needs, omega (arith, c .vector .ensures, low, asked .numbers), omega (arith, c .vector .ensures, low))
 
@@ -73,7 +73,7 @@ take-digit-requires c κs =
     let e = c .before in
     let at = e .before .before .before in
     let s = at .before .before .before .before .before in
-    digit-room (s .args .p) (s .args .k) _ (s .args .digits) (s .args .steps .now) (s .args .n) _ _ _ _ _ (e .before .before .loop-test .taken) (value-is e) (at .loop .inv .2) (s .pre .1)
+    digit-room (s .args .p) (s .args .k) _ (s .args .digits) (s .args .steps .now) (s .args .n) _ _ _ _ _ (e .before .before .loop-test .taken) (value-is e) (at .loop .inv .2) (s .pre .room)
 
 add-d : tie.Need-add-d Inv-loop μ-loop
 add-d c = search needs

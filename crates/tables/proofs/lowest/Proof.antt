@@ -10,13 +10,13 @@ cast-zeros : tie.Need-cast-zeros
 cast-zeros c = omega (arith, trailing-le 32 (c .args .t))
 
 returns : tie.Need-returns
-returns c = trailing-bit 32 _ _ (search needs) (c .before .pre .1) (c .before .fits .t .fits)
+returns c = trailing-bit 32 _ _ (search needs) (c .before .pre .t-some) (c .before .fits .t .fits)
 
 div-result : tie.Need-div-result
 div-result c = search needs
 
 returns-2 : tie.Need-returns-2
-returns-2 c = trailing-lowest 32 _ _ (c .before .pre .0) (c .before .pre .1) (c .before .fits .t .fits)
+returns-2 c = trailing-lowest 32 _ _ (c .before .pre .k-some) (c .before .pre .t-some) (c .before .fits .t .fits)
 
 pub lowest-spec : {M : Type 1} → statement M
 lowest-spec = tie.close (tie.spec cast-zeros returns div-result returns-2)

@@ -43,7 +43,7 @@ row : (c : tie.In-loop Inv-loop μ-loop)
     InRow (a .k) (length (a .inputs .now)) (a .d + 1) (c .before .loop .t)
 row c =
     let second = c .before .before in
-    let asked = second .before .before .before .before .pre .0 in
+    let asked = second .before .before .before .before .pre .asked in
     in-row _ _ _ _ (asked .k-some) (second .power2 .ensures) (second .before .power .ensures) _ _ (asked .inside) (c .before .loop .inv .0) (c .loop-test .taken)
 
 -- and room for its step
@@ -52,14 +52,14 @@ room c =
     let at = c .before in
     let second = at .before in
     let s = second .before .before .before .before in
-    omega (arith, s .pre .1, at .loop .inv .0, at .loop .inv .2, at .loop .inv .3, second .power2 .ensures, second .before .power .ensures, c .loop-test .taken)
+    omega (arith, s .pre .room, at .loop .inv .0, at .loop .inv .2, at .loop .inv .3, second .power2 .ensures, second .before .power .ensures, c .loop-test .taken)
 
 add-put-entry : tie.Need-add-put-entry Inv-loop μ-loop
 add-put-entry c = search needs
 
 put-entry-requires : tie.Need-put-entry-requires Inv-loop μ-loop
 put-entry-requires c κs =
-    let asked = c .before .before .before .before .before .before .before .pre .0 in
+    let asked = c .before .before .before .before .before .before .before .pre .asked in
     let r = row (c .before) in
     ((asked .k-some, asked .k-low, asked .at-some, omega (arith, r .inside, asked .numbers-low), r .inside, r .some, r .count), (r .other, room (c .before)))
 

@@ -32,10 +32,7 @@ loop-holds : tie.Need-loop-holds Inv-loop μ-loop
 loop-holds c = (search needs, search needs, search tabling)
 
 make-row-requires : tie.Need-make-row-requires Inv-loop μ-loop
-make-row-requires c κs = (
-  record { k-some = search needs; k-low = search needs; at-some = search needs; inside = search needs; places-low = search needs; numbers-low = search needs },
-  search tabling,
-)
+make-row-requires c κs = record { asked = search needs; room = search tabling }
 
 add-d : tie.Need-add-d Inv-loop μ-loop
 add-d c = search needs

@@ -46,7 +46,7 @@ returns c =
     let s = counted .before .before .before in
     let a = s .args in
     count-all (a .p) (a .q) (now (a .amounts)) (a .k) _ _
-    (counted .squaring-count .ensures .is ∙ squarings-sum (a .p) (a .q) (now (a .amounts)) (a .k) _ (s .pre .1)) (search sum-after-end)
+    (counted .squaring-count .ensures .is ∙ squarings-sum (a .p) (a .q) (now (a .amounts)) (a .k) _ (s .pre .measured)) (search sum-after-end)
 
 pub chain-count-spec : {M : Type 1} → statement M
 chain-count-spec =

@@ -17,8 +17,11 @@ chain-count-requires : tie.Need-chain-count-requires
 chain-count-requires c κs =
     let told = c .before .before in
     let known = told .before .before in
-    let pre = known .before .before .pre in
-    (pre .0, columns-measured _ _ _ _ _ _ _ (search needs) (λ j. known .shared-slice-known2 .given j .fits) (pre .1) (search needs) (told .measure-digits .ensures))
+    let asked = known .before .before .pre in
+    record {
+      ranges = asked .ranges;
+      measured = columns-measured _ _ _ _ _ _ _ (search needs) (λ j. known .shared-slice-known2 .given j .fits) (asked .largest) (search needs) (told .measure-digits .ensures);
+    }
 
 returns : tie.Need-returns
 returns c = search needs

@@ -12,8 +12,8 @@ measured : (c : tie.After-measure-digits) → let s = c .before .before .before 
     Measured (s .p) (s .q) (now (s .amounts)) (s .k) (c .measure-digits .last .1 .1 .1 .0)
 measured c =
     let known = c .before .before .before .before in
-    let pre = known .before .before .pre in
-    columns-measured _ _ _ _ _ _ _ (search needs) (λ j. known .shared-slice-known2 .given j .fits) (pre .1 .0) (search needs) (c .measure-digits .ensures)
+    let asked = known .before .before .pre .asked in
+    columns-measured _ _ _ _ _ _ _ (search needs) (λ j. known .shared-slice-known2 .given j .fits) (asked .largest) (search needs) (c .measure-digits .ensures)
 
 slice-aggregate-measure-digits : tie.Need-slice-aggregate-measure-digits
 slice-aggregate-measure-digits c = search needs
@@ -28,7 +28,7 @@ slice-aggregate-all-squarings-2 : tie.Need-slice-aggregate-all-squarings-2
 slice-aggregate-all-squarings-2 c = search needs
 
 all-squarings-requires : tie.Need-all-squarings-requires
-all-squarings-requires c κs = (measured (c .before .before .before) .narrow, search needs)
+all-squarings-requires c κs = record { asked = measured (c .before .before .before) .narrow; room = search needs }
 
 slice-aggregate-make-chain : tie.Need-slice-aggregate-make-chain
 slice-aggregate-make-chain c = search needs
@@ -43,10 +43,15 @@ make-chain-requires : tie.Need-make-chain-requires
 make-chain-requires c κs =
     let squared = c .before .before .before .before .before in
     let told = squared .before .before .before .before in
-    let s = told .before .before .before .before .before .before in (
-      (s .pre .0, measured told, filled-front _ _ (s .args .p) _ (squared .all-squarings .ensures)),
-      search needs,
-    )
+    let s = told .before .before .before .before .before .before in
+    record {
+      asked =
+          record {
+            chain = record { ranges = s .pre .asked .ranges; measured = measured told };
+            counts-are = filled-front _ _ (s .args .p) _ (squared .all-squarings .ensures);
+          };
+      room = s .pre .room;
+    }
 
 same-length : tie.Need-same-length
 same-length c = search needs

@@ -26,7 +26,7 @@ mul-power-at : tie.Need-mul-power-at Inv-loop μ-loop
 mul-power-at c =
     let at = c .before .before .before in
     let s = at .before .before in
-    fits-under _ _ 32 (digit-reach (s .args .column) (at .loop .i) (s .pre .0) (search needs)) tt
+    fits-under _ _ 32 (digit-reach (s .args .column) (at .loop .i) (s .pre .asked) (search needs)) tt
 
 power-at-requires : tie.Need-power-at-requires Inv-loop μ-loop
 power-at-requires c κs = search (needs, power-place)

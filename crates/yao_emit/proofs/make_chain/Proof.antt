@@ -6,16 +6,14 @@ use Rattle.yao_emit.proofs.make_chain.Tie as tie
 
 square-columns-requires : tie.Need-square-columns-requires
 square-columns-requires c κs =
-    let s = c .before .before .before .before .before .before .pre in
-    let ask = s .0 in
-    (counts-few _ _ _ _ _ (ask .1) _ (ask .2) (ask .0 .sheet .p-low), squarings-room (ask .0) (ask .1) (ask .2) (s .1))
+    let s = c .before .before .before .before .before .before in
+    record { asked = counts-few (s .pre .asked); room = squarings-room (s .pre .asked) (s .pre .room) }
 
 make-payslips-requires : tie.Need-make-payslips-requires
 make-payslips-requires c κs =
     let squared = c .before .before .before .before in
-    let s = squared .before .before .before .before .before .before .before .pre in
-    let ask = s .0 in
-    (search needs, after-squarings (ask .0) (ask .1) (ask .2) (s .1) (squared .square-columns .ensures))
+    let s = squared .before .before .before .before .before .before .before in
+    record { asked = s .pre .asked .chain; room = after-squarings (s .pre .asked) (s .pre .room) (squared .square-columns .ensures) }
 
 same-length : tie.Need-same-length
 same-length c = search needs

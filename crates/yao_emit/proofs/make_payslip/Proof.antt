@@ -47,11 +47,14 @@ join-column-requires c κs =
     let at = amounted .before .before .before in
     let start = at .before .before .before .before in
     let s = start .args in
-    let is = column-is (s .p) (s .q) (s .amounts .now) (s .k) (s .columns .now) (start .pre .0 .2) (at .loop .c) (search needs) in (
-      reaches _ (start .pre .0 .0) (column-few _ _ _ _ (start .pre .0 .2 .narrow) (search needs)) (search needs) (at .loop .inv .2),
-      column-room (s .p) (s .q) (s .amounts .now) (s .k) (s .i) (stepsIn (s .steps .now) (s .n)) (s .steps .now) _ _ _ (at .loop .c) (at .loop .first) _
-          (amounted .amount .result) (at .loop .inv .4) (at .loop .inv .1) is (amounted .amount .ensures) _ (start .pre .1) (search needs),
-    )
+    let chain = start .pre .asked .chain in
+    let is = column-is (s .p) (s .q) (s .amounts .now) (s .k) (s .columns .now) (chain .measured) (at .loop .c) (search needs) in
+    record {
+      asked = reaches _ (chain .ranges) (column-few _ _ _ _ (chain .measured .narrow) (search needs)) (search needs) (at .loop .inv .2);
+      room =
+          column-room (s .p) (s .q) (s .amounts .now) (s .k) (s .i) (stepsIn (s .steps .now) (s .n)) (s .steps .now) _ _ _ (at .loop .c) (at .loop .first) _
+          (amounted .amount .result) (at .loop .inv .4) (at .loop .inv .1) is (amounted .amount .ensures) _ (start .pre .room) (search needs);
+    }
 
 squarings-of-requires : tie.Need-squarings-of-requires Inv-loop μ-loop
 squarings-of-requires c κs = search column-few
@@ -72,7 +75,7 @@ loop-again c =
     let at = amounted .before .before .before in
     let start = at .before .before .before .before in
     let s = start .args in
-    let is = column-is (s .p) (s .q) (s .amounts .now) (s .k) (s .columns .now) (start .pre .0 .2) (at .loop .c) (search needs) in (
+    let is = column-is (s .p) (s .q) (s .amounts .now) (s .k) (s .columns .now) (start .pre .asked .chain .measured) (at .loop .c) (search needs) in (
       search needs,
       search first-on,
       search needs,

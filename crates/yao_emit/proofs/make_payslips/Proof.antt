@@ -34,7 +34,7 @@ make-payslip-requires : tie.Need-make-payslip-requires Inv-loop μ-loop
 make-payslip-requires c κs =
     let at = c .before .before in
     let s = at .before .before .before .before .before in
-    (search needs, paying-room (slip s) (begins s) (at .loop .inv) (s .pre .1) (search needs))
+    record { asked = search needs; room = paying-room (slip s) (begins s) (at .loop .inv) (s .pre .room) (search needs) }
 
 mul-outputs : tie.Need-mul-outputs Inv-loop μ-loop
 mul-outputs c = search needs
@@ -53,7 +53,7 @@ loop-again c =
     let made = c .before .before in
     let at = made .before .before .before in
     let s = at .before .before .before .before .before in
-    paying-on (slip s) (begins s) (at .loop .inv) (s .pre .1) (search needs) (made .make-payslip .ensures)
+    paying-on (slip s) (begins s) (at .loop .inv) (s .pre .room) (search needs) (made .make-payslip .ensures)
 
 same-length : tie.Need-same-length Inv-loop μ-loop
 same-length c = search needs

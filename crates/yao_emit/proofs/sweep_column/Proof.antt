@@ -28,7 +28,7 @@ loop-holds c =
     let s = c .before .before .args in (
       omega (arith, c .power .ensures, pow-pos (s .column .k)),
       search needs,
-      sweep-start (s .column .p) (s .column) _ _ _ (c .before .before .pre .1),
+      sweep-start (s .column .p) (s .column) _ _ _ (c .before .before .pre .room),
     )
 
 add-loop : tie.Need-add-loop Inv-loop μ-loop
@@ -45,12 +45,14 @@ gather-powers-requires c κs =
     let start = c .before .before in
     let told = start .before .power in
     let s = start .before .before .before .args in
-    let i = start .loop .i in (
-      start .before .before .before .pre .0,
-      b-room (s .column) (stepsIn (s .steps .now) (s .n)) (s .steps .now) _ _ _ _ i
-          (start .loop .inv .2) (told .result - (i + 1)) (ap (λ (t : ℕ). t - (i + 1)) (told .ensures)) (2 ^ s .column .k - 1) _ (start .before .before .before .pre .1)
-          (omega (arith, told .ensures)),
-    )
+    let i = start .loop .i in
+    record {
+      asked = start .before .before .before .pre .asked;
+      room =
+          b-room (s .column) (stepsIn (s .steps .now) (s .n)) (s .steps .now) _ _ _ _ i
+          (start .loop .inv .2) (told .result - (i + 1)) (ap (λ (t : ℕ). t - (i + 1)) (told .ensures)) (2 ^ s .column .k - 1) _ (start .before .before .before .pre .room)
+          (omega (arith, told .ensures));
+    }
 
 times-requires : tie.Need-times-requires Inv-loop μ-loop
 times-requires c κs =
@@ -61,7 +63,7 @@ times-requires c κs =
     let i = start .loop .i in
     a-room (s .column) (stepsIn (s .steps .now) (s .n)) (s .steps .now) _ _ _ _ i
     (start .loop .inv .2) (told .result - (i + 1)) (ap (λ (t : ℕ). t - (i + 1)) (told .ensures)) _ _ _ (gathered .gather-powers .ensures) (2 ^ s .column .k - 1) _
-    (start .before .before .before .pre .1) (omega (arith, told .ensures))
+    (start .before .before .before .pre .room) (omega (arith, told .ensures))
 
 add-i : tie.Need-add-i Inv-loop μ-loop
 add-i c = search needs

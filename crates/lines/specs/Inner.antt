@@ -22,7 +22,7 @@ pub record Low (t : Tally) : Type 0 where
   pub words-low : t .words + 1 < 2 ^ 64
 
 -- what a byte more asks: a gap is 1 or 0
-pub record CountAsked (t : Tally) (gap : ℕ) : Type 0 where
+pub record TallyAsked (t : Tally) (gap : ℕ) : Type 0 where
   pub low : Low t
   pub gap-low : gap ≤ 1
 

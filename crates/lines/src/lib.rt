@@ -3,7 +3,7 @@ ghost use mathlib.Core.Path.{_≡_};
 ghost use Prim.Native.Nat.{_+_, _≤_};
 ghost use lib.ListN.{length, drop};
 ghost use Rattle.lines.specs.Lines.{contentLength, contentOf, sameUnit, digitUnit, tallyOf, partingOf, separatorsIn, fieldsIn, headOf};
-ghost use Rattle.lines.specs.Inner.{untilNewline, Low, CountAsked, blankUnit, begun, tallied};
+ghost use Rattle.lines.specs.Inner.{untilNewline, Low, TallyAsked, blankUnit, begun, tallied};
 use text::Parting;
 
 // Where the line from a place on ends: its newline, or the text's end.
@@ -98,7 +98,7 @@ fn begins(gap: usize, b: u8) -> usize
 
 // A byte more.
 fn count(tally: Tally, gap: usize, b: u8) -> Tally
-    requires { ⌜ CountAsked tally gap ⌝ }
+    requires { ⌜ TallyAsked tally gap ⌝ }
     ensures { λ r. ⌜ r ≡ tallied tally gap b ⌝ }
 {
     Tally {

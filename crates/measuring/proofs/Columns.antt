@@ -12,7 +12,7 @@ use Rattle.digits.proofs.Count.{low-count}
 use Rattle.sheet.specs.Sheet.{amount}
 use Rattle.methods.specs.Powers.{largestIn}
 use Rattle.methods.specs.Inner.{Largest}
-use Rattle.methods.proofs.Filling.{Filled, filled-all, filled-at}
+use Rattle.methods.proofs.Filling.{FilledTo, filled-all, filled-at}
 
 -- the largest amount of column c over the first i payslips
 unfoldable pub largestTo : ℕ → List ℕ → ℕ → ℕ → ℕ
@@ -35,7 +35,7 @@ module _ (p : ℕ) (amounts : List ℕ) (c : ℕ) where
 pub ruleset finding-largest = (column-start, column-on, column-end)
 
 -- filled column by column, cells hold the largest amount of each
-pub all-largest : (p q : ℕ) (amounts old cells : List ℕ) (c : ℕ) → p ≤ c → p ≤ length old → Filled (largestIn p q amounts) old p c cells
+pub all-largest : (p q : ℕ) (amounts old cells : List ℕ) (c : ℕ) → p ≤ c → p ≤ length old → FilledTo (largestIn p q amounts) old p c cells
     → Largest p q amounts cells
 all-largest p q amounts old cells c g room d =
     record { there = omega (arith, d .long); are = filled-at (largestIn p q amounts) old p cells (filled-all (largestIn p q amounts) old p c cells g d) }

@@ -21,19 +21,19 @@ module _ (f : ℕ → ℕ) (old : List ℕ) where
       ∙ ap (λ (y : ℕ). over (listTo c f ++ y ∷ []) old) is)
 
   -- the loop's invariant: c of n cells are filled
-  pub record Filled (n c : ℕ) (cells : List ℕ) : Type 0 where
+  pub record FilledTo (n c : ℕ) (cells : List ℕ) : Type 0 where
     pub some : c ≤ n
     pub long : length cells ≡ length old
     pub are : cells ≡ over (listTo c f) old
 
-  pub filled-none : (n : ℕ) → Filled n 0 old
+  pub filled-none : (n : ℕ) → FilledTo n 0 old
   filled-none n = record { some = omega arith; long = refl; are = over-none old }
 
-  pub filled-more : (n c x : ℕ) (cells : List ℕ) → c < n → n ≤ length old → x ≡ f c → Filled n c cells → Filled n (c + 1) (set cells c x)
+  pub filled-more : (n c x : ℕ) (cells : List ℕ) → c < n → n ≤ length old → x ≡ f c → FilledTo n c cells → FilledTo n (c + 1) (set cells c x)
   filled-more n c x cells h room is d =
       record { some = omega arith; long = length-set cells c x ∙ d .long; are = fill-on n c x cells h room is (d .are) }
 
-  pub filled-all : (n c : ℕ) (cells : List ℕ) → n ≤ c → Filled n c cells → cells ≡ over (listTo n f) old
+  pub filled-all : (n c : ℕ) (cells : List ℕ) → n ≤ c → FilledTo n c cells → cells ≡ over (listTo n f) old
   filled-all n c cells g d =
       let last : c ≡ n = omega (arith, d .some) in
       d .are ∙ ap (λ (m : ℕ). over (listTo m f) old) last

@@ -6,7 +6,7 @@ use native.Mathlib.Nat.{lt-trans, le-of-lt, mod-eq-of-lt, add-mod-right}
 use native.Mathlib.Decide.{decLt}
 use native.Mathlib.Omega.{arith}
 use lib.Dec.{lit<}
-use Rattle.residue.proofs.Quotient.{Left}
+use Rattle.residue.proofs.Quotient.{LeftOver}
 
 -- a sum modulo B is the sum, or B less
 unwrap : (B r b a : ℕ) → r < B → b ≤ B → (r + b) % B ≡ a → (r + b ≡ a) ⊎ (r + b ≡ a + B)
@@ -43,7 +43,7 @@ pub record Corrected (m z r : ℕ) : Type 0 where
   pub is : r ≡ z % m
   pub low : r < 2 ^ 32
 
-module _ {m z left less : ℕ} (l : Left m z left) (m-low : m < 2 ^ 32) (less-low : less < 2 ^ 64) (wraps : (less + m) % 2 ^ 64 ≡ left) where
+module _ {m z left less : ℕ} (l : LeftOver m z left) (m-low : m < 2 ^ 32) (less-low : less < 2 ^ 64) (wraps : (less + m) % 2 ^ 64 ≡ left) where
   half : m ≤ 2 ^ 63
   half = le-of-lt (lt-trans m-low (lit< tt))
 

@@ -39,12 +39,12 @@ module _ (B m v z : ℕ) (below : v * m < B) (close : B ≤ v * m + m) (small : 
           ∙ ap₂ _+_ (mul-right-comm quotient m B) (add-mul m m B ∙ ap₂ _+_ (mul-comm m B) (mul-comm m B))
 
 -- what is left of z: less than m twice, with the residue of z
-pub record Left (m z left : ℕ) : Type 0 where
+pub record LeftOver (m z left : ℕ) : Type 0 where
   pub low : left < m + m
   pub same : left % m ≡ z % m
 
 -- some multiple of m taken off
-take-off : (m z q : ℕ) → q * m ≤ z → z < q * m + (m + m) → Left m z (z - q * m)
+take-off : (m z q : ℕ) → q * m ≤ z → z < q * m + (m + m) → LeftOver m z (z - q * m)
 take-off m z q under near = record { low = short z (q * m) (m + m) under near; same = sym (mul-add-mod-self-left m q (z - q * m)) ∙ ap (λ (n : ℕ). n % m) whole }
   where
     short : (z a b : ℕ) → a ≤ z → z < a + b → z - a < b
@@ -79,5 +79,5 @@ module _ {x y m v q : ℕ} (t : Taken x y m v q) where
   pub taken-fits : q * m < 2 ^ 64
   taken-fits = lt-of-le-of-lt taken-under small
 
-  pub what-is-left : Left m (x * y) (x * y - q * m)
+  pub what-is-left : LeftOver m (x * y) (x * y - q * m)
   what-is-left = take-off m (x * y) q taken-under (rw (t .taken) (nearly (2 ^ 64) m v (x * y) below close small))

@@ -1,10 +1,26 @@
 -- Inner vocabulary: what the functions of this crate ask and leave; nobody has to believe it to believe an entry point's promise.
+use mathlib.Core.Path.{_≡_}
 use mathlib.Core.List.{List, _++_}
 use Prim.Native.Nat.{ℕ, _+_, _*_, _^_, _≤_, _<_}
 use lib.ListN.{length}
 use Rattle.chain.specs.declared.Step.{Step}
+use Rattle.digits.specs.Digits.{digitCount}
 use Rattle.products.specs.Inner.{StepsStored}
 use Rattle.tables.specs.Table.{table}
+
+-- entry t of a table over these inputs whose first step makes value `at`, and that its number fits
+pub record EntryAsked (k : ℕ) (inputs : List ℕ) (at t : ℕ) : Type 0 where
+  pub k-some : 0 < k
+  pub k-low : k < 32
+  pub at-some : 0 < at
+  pub number-low : at + t < 2 ^ 32
+  pub inside : t < 2 ^ (k * length inputs)
+
+-- it is not zero, and d counts its digits
+pub record CountedAsked (k : ℕ) (inputs : List ℕ) (at d t : ℕ) : Type 0 where
+  pub entry : EntryAsked k inputs at t
+  pub t-some : 0 < t
+  pub digits-are : d ≡ digitCount k t
 
 -- what finding the lowest digit of t that is not 0 asks, in base 2^k
 pub record LowestAsked (k t : ℕ) : Type 0 where

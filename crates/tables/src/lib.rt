@@ -4,15 +4,14 @@ ghost use mathlib.Core.Path.{_≡_};
 ghost use mathlib.Core.List.{_++_};
 ghost use Prim.Native.Nat.{_+_, _-_, _*_, _^_, _≤_, _<_};
 ghost use lib.ListN.{length};
-ghost use Rattle.digits.specs.Digits.{digitCount};
 ghost use Rattle.products.specs.Inner.{stepsIn, WithRoom, StepsRoom, StepsStored};
 ghost use Rattle.tables.specs.Table.{isUnit, entry, lowest, tableNext, table};
-ghost use Rattle.tables.specs.Inner.{LowestAsked, RowAsked, TableAsked, Longer};
+ghost use Rattle.tables.specs.Inner.{EntryAsked, CountedAsked, LowestAsked, RowAsked, TableAsked, Longer};
 
 // The value number of entry t, which is not zero and whose d digits are counted, of a table whose first step makes value at: an input for the unit
 // with as many digits, else a step.
 fn counted_entry(k: usize, inputs: &[u32], at: u32, d: usize, t: u32) -> u32
-    requires { ⌜ (0 < k) × (k < 32) × (0 < at) × (at + t < 2 ^ 32) × (t < 2 ^ (k * length (now inputs))) × (0 < t) × (d ≡ digitCount k t) ⌝ }
+    requires { ⌜ CountedAsked k (now inputs) at d t ⌝ }
     ensures { λ r. ⌜ r ≡ entry k (now (inputs .entry)) at t ⌝ }
 {
     let unit = inputs[d - 1];
@@ -26,7 +25,7 @@ fn counted_entry(k: usize, inputs: &[u32], at: u32, d: usize, t: u32) -> u32
 
 // The value number of entry t of a table whose first step makes value at.
 pub fn entry(k: usize, inputs: &[u32], at: u32, t: u32) -> u32
-    requires { ⌜ (0 < k) × (k < 32) × (0 < at) × (at + t < 2 ^ 32) × (t < 2 ^ (k * length (now inputs))) ⌝ }
+    requires { ⌜ EntryAsked k (now inputs) at t ⌝ }
     ensures { λ r. ⌜ r ≡ entry k (now (inputs .entry)) at t ⌝ }
 {
     if t == 0 {
@@ -49,7 +48,7 @@ fn lowest(k: usize, t: u32) -> usize
 
 // The step of entry t, which has d digits and is no unit, after n steps. Its rest has as many digits.
 fn put_entry(k: usize, inputs: &[u32], at: u32, d: usize, t: u32, n: usize, steps: &mut [u32])
-    requires { ⌜ (0 < k) × (k < 32) × (0 < at) × (at + t < 2 ^ 32) × (t < 2 ^ (k * length (now inputs))) × (0 < t) × (d ≡ digitCount k t) ⌝ }
+    requires { ⌜ CountedAsked k (now inputs) at d t ⌝ }
     requires { ⌜ (isUnit k t ≡ false) × (2 * n + 2 ≤ length (now steps)) ⌝ }
     ensures { λ r. ⌜ StepsStored (now (steps .entry)) (now (steps .exit)) (n + 1) (tableNext k (now (inputs .entry)) at t (stepsIn (now (steps .entry)) n)) ⌝ }
 {

@@ -3,13 +3,13 @@ use borrow.Author.Needs.{needs}
 use Prim.Native.Nat.{_-_}
 use native.Mathlib.Omega.{arith}
 use lib.ListN.{length}
-use Rattle.methods.proofs.Filling.{Filled, filling}
+use Rattle.methods.proofs.Filling.{FilledTo, filling}
 use Rattle.groups.specs.Inner.{bitsLess}
 use Rattle.group_tables.proofs.count_squarings.Statement.{statement}
 use Rattle.group_tables.proofs.count_squarings.Tie as tie
 
 abbrev Inv-loop : tie.InvT-loop
-Inv-loop bits cells₀ col₀ cells col = Filled (bitsLess bits 1) cells₀ (length bits) col cells
+Inv-loop bits cells₀ col₀ cells col = FilledTo (bitsLess bits 1) cells₀ (length bits) col cells
 
 abbrev μ-loop : tie.MeasureT-loop
 μ-loop bits cells₀ col₀ cells col = length bits - col

@@ -2,13 +2,13 @@
 use borrow.Author.Needs.{needs}
 use Prim.Native.Nat.{_-_}
 use Rattle.methods.specs.Powers.{largestIn}
-use Rattle.methods.proofs.Filling.{Filled, filling}
+use Rattle.methods.proofs.Filling.{FilledTo, filling}
 use Rattle.measuring.proofs.Columns.{all-largest}
 use Rattle.measuring.proofs.measure_columns.Statement.{statement}
 use Rattle.measuring.proofs.measure_columns.Tie as tie
 
 abbrev Inv-loop : tie.InvT-loop
-Inv-loop p q amounts cells₀ c₀ cells c = Filled (largestIn p q amounts) cells₀ p c cells
+Inv-loop p q amounts cells₀ c₀ cells c = FilledTo (largestIn p q amounts) cells₀ p c cells
 
 abbrev μ-loop : tie.MeasureT-loop
 μ-loop p q amounts cells₀ c₀ cells c = p - c

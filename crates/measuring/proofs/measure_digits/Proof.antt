@@ -3,13 +3,13 @@ use borrow.Author.Needs.{needs, fits-under}
 use Prim.Native.Nat.{_-_}
 use native.Mathlib.Omega.{arith}
 use Rattle.methods.specs.Inner.{digitsAt}
-use Rattle.methods.proofs.Filling.{Filled, filling}
+use Rattle.methods.proofs.Filling.{FilledTo, filling}
 use Rattle.measuring.proofs.Columns.{digits-low}
 use Rattle.measuring.proofs.measure_digits.Statement.{statement}
 use Rattle.measuring.proofs.measure_digits.Tie as tie
 
 abbrev Inv-loop : tie.InvT-loop
-Inv-loop p k numbers cells₀ c₀ cells c = Filled (digitsAt k numbers) cells₀ p c cells
+Inv-loop p k numbers cells₀ c₀ cells c = FilledTo (digitsAt k numbers) cells₀ p c cells
 
 abbrev μ-loop : tie.MeasureT-loop
 μ-loop p k numbers cells₀ c₀ cells c = p - c

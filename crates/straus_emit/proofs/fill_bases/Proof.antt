@@ -1,12 +1,12 @@
 -- One base a turn: the cells hold the bases so far.
 use borrow.Author.Needs.{needs}
 use Prim.Native.Nat.{_+_, _-_}
-use Rattle.methods.proofs.Filling.{Filled, filling}
+use Rattle.methods.proofs.Filling.{FilledTo, filling}
 use Rattle.straus_emit.proofs.fill_bases.Statement.{statement}
 use Rattle.straus_emit.proofs.fill_bases.Tie as tie
 
 abbrev Inv-loop : tie.InvT-loop
-Inv-loop p cells₀ c₀ cells c = Filled (λ c. c + 1) cells₀ p c cells
+Inv-loop p cells₀ c₀ cells c = FilledTo (λ c. c + 1) cells₀ p c cells
 
 abbrev μ-loop : tie.MeasureT-loop
 μ-loop p cells₀ c₀ cells c = p - c

@@ -66,7 +66,13 @@ entry-requires : tie.Need-entry-requires Inv-loop μ-loop
 entry-requires c κs =
     let asked = c .before .before .before .before .before .before .before .pre .asked in
     let low = entry-low (c .before) in
-    (asked .k-some, asked .k-low, search needs, omega (arith, c .vector .ensures, low, asked .numbers), omega (arith, c .vector .ensures, low))
+    record {
+      k-some = asked .k-some;
+      k-low = asked .k-low;
+      at-some = search needs;
+      number-low = omega (arith, c .vector .ensures, low, asked .numbers);
+      inside = omega (arith, c .vector .ensures, low);
+    }
 
 take-digit-requires : tie.Need-take-digit-requires Inv-loop μ-loop
 take-digit-requires c κs =

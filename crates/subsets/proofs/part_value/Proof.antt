@@ -73,7 +73,7 @@ entry-requires c κs =
     let is = c .before .before .before .group-size .ensures in
     let at = number-fits (a .s) (s .pre .cuts) (a .g) _ (s .pre .inside) (c .before .table-count .ensures .low) in
     let number = entry-number (s .pre) is at in
-    (search needs, search needs, search needs, number, entry-low (s .pre) is)
+    record { k-some = search needs; k-low = search needs; at-some = search needs; number-low = number; inside = entry-low (s .pre) is }
 
 returns : tie.Need-returns
 returns c =

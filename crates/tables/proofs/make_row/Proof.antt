@@ -60,8 +60,21 @@ add-put-entry c = search needs
 put-entry-requires : tie.Need-put-entry-requires Inv-loop μ-loop
 put-entry-requires c κs =
     let asked = c .before .before .before .before .before .before .before .pre .asked in
-    let r = row (c .before) in
-    ((asked .k-some, asked .k-low, asked .at-some, omega (arith, r .inside, asked .numbers-low), r .inside, r .some, r .count), (r .other, room (c .before)))
+    let r = row (c .before) in (
+      record {
+        entry =
+            record {
+              k-some = asked .k-some;
+              k-low = asked .k-low;
+              at-some = asked .at-some;
+              number-low = omega (arith, r .inside, asked .numbers-low);
+              inside = r .inside;
+            };
+        t-some = r .some;
+        digits-are = r .count;
+      },
+      (r .other, room (c .before)),
+    )
 
 add-s : tie.Need-add-s Inv-loop μ-loop
 add-s c = omega (arith, room (c .before .before .before .before))

@@ -2,14 +2,14 @@
 use borrow.Author.Needs.{needs}
 use Prim.Native.Nat.{_-_}
 use native.Mathlib.Omega.{arith}
-use Rattle.methods.proofs.Filling.{Filled, filling}
+use Rattle.methods.proofs.Filling.{FilledTo, filling}
 use Rattle.yao.specs.Inner.{squaringsIn}
 use Rattle.yao.proofs.Measuring.{column-few}
 use Rattle.yao_emit.proofs.all_squarings.Statement.{statement}
 use Rattle.yao_emit.proofs.all_squarings.Tie as tie
 
 abbrev Inv-loop : tie.InvT-loop
-Inv-loop p k columns counts₀ c₀ counts c = Filled (squaringsIn k columns) counts₀ p c counts
+Inv-loop p k columns counts₀ c₀ counts c = FilledTo (squaringsIn k columns) counts₀ p c counts
 
 abbrev μ-loop : tie.MeasureT-loop
 μ-loop p k columns counts₀ c₀ counts c = p - c

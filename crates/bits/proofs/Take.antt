@@ -8,7 +8,7 @@ use lib.ListN.{length, getD, List·getD-eq-default}
 use lib.Dec.{lit<}
 use lib.Pow.{pow-pos, shl-exact, shr-shr}
 use Rattle.bits.specs.Bits.{value, bytesBits, fieldAt}
-use Rattle.bits.specs.Inner.{widestField, window, WordAt, FieldRoom, FieldTaken, TwoTaken}
+use Rattle.bits.specs.Inner.{widestField, window, ByteAt, WordAt, FieldRoom, FieldTaken, TwoTaken}
 use Rattle.bits.proofs.Values.{value-lt, value-append}
 use Rattle.bits.proofs.Fields.{length-bytesBits, bytesBits-append, length-window, field-window, value-bytes, field-lt, field-two}
 
@@ -26,21 +26,17 @@ word-is n l i r e =
     let long : length (bytesBits (window n l i)) ≡ n * 8 = length-bytesBits (window n l i) ∙ ap (λ (k : ℕ). k * 8) (length-window n l i) in
     record { is = e; small = rw (e, ← long) (value-lt (bytesBits (window n l i))) }
 
--- a is the byte at i
-abbrev ByteAt : List ℕ → ℕ → ℕ → Type 0
-ByteAt l i a = (a ≡ getD l i 0) × (a < 256)
-
 pub gathered : (l : List ℕ) (i a b c d : ℕ) → ByteAt l i a → ByteAt l (i + 1) b → ByteAt l (i + 2) c → ByteAt l (i + 3) d
     → WordAt 4 l i (((a * 256 + b) * 256 + c) * 256 + d)
 unfolding window
 gathered l i a b c d pa pb pc pd =
     let at : (j k x : ℕ) → j ≡ k → x ≡ getD l j 0 → x ≡ getD l k 0 = λ j k x e p. p ∙ ap (λ (m : ℕ). getD l m 0) e in
     word-is 4 l i _
-    (sym (four a b c d (pa .1) (pb .1) (pc .1) (pd .1))
-    ∙ ap₂ (λ (x : ℕ) (r : List ℕ). value (bytesBits (x ∷ r))) (pa .0)
-    (ap₂ (λ (x : ℕ) (r : List ℕ). x ∷ r) (at (i + 1) (suc i) b (omega arith) (pb .0))
-    (ap₂ (λ (x : ℕ) (r : List ℕ). x ∷ r) (at (i + 2) (suc (suc i)) c (omega arith) (pc .0))
-    (ap (λ (x : ℕ). x ∷ []) (at (i + 3) (suc (suc (suc i))) d (omega arith) (pd .0))))))
+    (sym (four a b c d (pa .small) (pb .small) (pc .small) (pd .small))
+    ∙ ap₂ (λ (x : ℕ) (r : List ℕ). value (bytesBits (x ∷ r))) (pa .is)
+    (ap₂ (λ (x : ℕ) (r : List ℕ). x ∷ r) (at (i + 1) (suc i) b (omega arith) (pb .is))
+    (ap₂ (λ (x : ℕ) (r : List ℕ). x ∷ r) (at (i + 2) (suc (suc i)) c (omega arith) (pc .is))
+    (ap (λ (x : ℕ). x ∷ []) (at (i + 3) (suc (suc (suc i))) d (omega arith) (pd .is))))))
 
 window-halves : (l : List ℕ) (i : ℕ) → window 8 l i ≡ window 4 l i ++ window 4 l (i + 4)
 unfolding window
@@ -84,7 +80,7 @@ module _ (l : List ℕ) (i x j : ℕ) (inv : Gathering l i x j) where
 
   module _ (short : length l < i + 8) (h : i + j < length l) (b : ℕ) (is : ByteAt l (i + j) b) where
     shifted : b * 2 ^ (56 - 8 * j) % 2 ^ 64 ≡ b * 2 ^ (56 - 8 * j)
-    shifted = shl-exact 8 (56 - 8 * j) 64 (is .1) (omega arith)
+    shifted = shl-exact 8 (56 - 8 * j) 64 (is .small) (omega arith)
 
     next-byte : value (bytesBits (window (8 - j) l (i + j))) ≡ b * 2 ^ (56 - 8 * j) + value (bytesBits (window (8 - (j + 1)) l (i + (j + 1))))
     unfolding window
@@ -94,8 +90,8 @@ module _ (l : List ℕ) (i x j : ℕ) (inv : Gathering l i x j) where
         let k : suc (i + j) ≡ i + (j + 1) = omega arith in
         let e : length (window n l (i + (j + 1))) * 8 ≡ 56 - 8 * j = ap (λ (z : ℕ). z * 8) (length-window n l (i + (j + 1))) ∙ omega arith in
         ap (λ (z : ℕ). value (bytesBits (window z l (i + j)))) m
-        ∙ ap₂ (λ (y z : ℕ). value (bytesBits (y ∷ window n l z))) (sym (is .0)) k
-        ∙ value-bytes b (window n l (i + (j + 1))) (is .1)
+        ∙ ap₂ (λ (y z : ℕ). value (bytesBits (y ∷ window n l z))) (sym (is .is)) k
+        ∙ value-bytes b (window n l (i + (j + 1))) (is .small)
         ∙ ap (λ (z : ℕ). b * 2 ^ z + value (bytesBits (window n l (i + (j + 1))))) e
 
     pub gather-on : Gathering l i (x + b * 2 ^ (56 - 8 * j) % 2 ^ 64) (j + 1)

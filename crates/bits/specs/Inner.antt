@@ -55,6 +55,11 @@ pub record LastBytes (file : List ℕ) (i : ℕ) : Type 0 where
   pub there : i ≤ length file
   pub few : length file < i + 8
 
+-- r is the byte at i
+pub record ByteAt (file : List ℕ) (i r : ℕ) : Type 0 where
+  pub is : r ≡ getD file i 0
+  pub small : r < 256
+
 -- r is the number of the n bytes from i on
 pub record WordAt (n : ℕ) (file : List ℕ) (i r : ℕ) : Type 0 where
   pub is : r ≡ value (bytesBits (window n file i))

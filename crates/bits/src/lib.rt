@@ -1,9 +1,9 @@
 // Bit fields, most significant bit first.
 ghost use mathlib.Core.Path.{_≡_};
 ghost use Prim.Native.Nat.{_+_, _*_, _≤_, _<_};
-ghost use lib.ListN.{length, getD};
+ghost use lib.ListN.{length};
 ghost use Rattle.bits.specs.Bits.{bits};
-ghost use Rattle.bits.specs.Inner.{LastBytes, WordAt, FieldRoom, FieldTaken, TwoTaken, FieldFill, FieldStored};
+ghost use Rattle.bits.specs.Inner.{ByteAt, LastBytes, WordAt, FieldRoom, FieldTaken, TwoTaken, FieldFill, FieldStored};
 
 // A bit position of a file.
 pub struct Cursor {
@@ -43,7 +43,7 @@ fn wide(x: u8) -> u64
 
 fn byte(file: &[u8], i: usize) -> u64
     requires { ⌜ i < length (now file) ⌝ }
-    ensures { λ r. ⌜ (r ≡ getD (now (file .entry)) i 0) × (r < 256) ⌝ }
+    ensures { λ r. ⌜ ByteAt (now (file .entry)) i r ⌝ }
 {
     wide(file[i])
 }

@@ -11,7 +11,11 @@ wide-requires : tie.Need-wide-requires
 wide-requires c κs = search needs
 
 returns : tie.Need-returns
-returns c = (c .wide .ensures, omega (arith, c .wide .ensures, c .before .shared-slice-known2 .given (c .before .before .before .args .i)))
+returns c =
+    record {
+      is = c .wide .ensures;
+      small = omega (arith, c .wide .ensures, c .before .shared-slice-known2 .given (c .before .before .before .args .i));
+    }
 
 pub byte-spec : {M : Type 1} → statement M
 byte-spec = tie.close (tie.spec shared-slice-read-wide wide-requires returns)

@@ -4,40 +4,9 @@ use Rattle.chain.specs.Inner.{stepAt}
 use Rattle.chain.proofs.step_at.Statement.{statement}
 use Rattle.chain.proofs.step_at.Tie as tie
 
-mul-t3 : tie.Need-mul-t3
-mul-t3 c = search needs
-
-mul-t4 : tie.Need-mul-t4
-mul-t4 c = search needs
-
-shared-slice-read-t6 : tie.Need-shared-slice-read-t6
-shared-slice-read-t6 c = search needs
-
-mul-t7 : tie.Need-mul-t7
-mul-t7 c = search needs
-
-add-t8 : tie.Need-add-t8
-add-t8 c = search needs
-
-mul-t9 : tie.Need-mul-t9
-mul-t9 c = search needs
-
-shared-slice-read-t11 : tie.Need-shared-slice-read-t11
-shared-slice-read-t11 c = search needs
-
-returns : tie.Need-returns
-unfolding stepAt
-returns c = search needs
-
 pub step-at-spec : {M : Type 1} → statement M
+unfolding stepAt
 step-at-spec =
     tie.close
-    (tie.spec
-    mul-t3
-    mul-t4
-    shared-slice-read-t6
-    mul-t7
-    add-t8
-    mul-t9
-    shared-slice-read-t11
-    returns)
+    (tie.spec (λ c. search needs) (λ c. search needs) (λ c. search needs) (λ c. search needs) (λ c. search needs) (λ c. search needs)
+    (λ c. search needs) (λ c. search needs))

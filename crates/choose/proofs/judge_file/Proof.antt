@@ -4,7 +4,7 @@ use mathlib.Core.Path.{sym}
 use native.Mathlib.Omega.{arith}
 use lib.Seq.{length-take-le}
 use denote.Ref.{now}
-use Rattle.answers.proofs.Clauses.{answer-clause}
+use Rattle.answers.proofs.Clauses.{answer-clause, first-slice-clause, second-slice-clause}
 use Rattle.layout.specs.Layout.{edition1}
 use Rattle.reading.proofs.Good.{Good, read-refused, read-good}
 use Rattle.choose.proofs.Files.{refusal-says, unread, other-columns, other-payslips, not-held, all-held}
@@ -31,8 +31,8 @@ read-file c =
     let s = r .before .before .before .before .before .before .before .before in
     let a = s .args in
     let e = r .read .ensures in
-    read-good edition1 (now (a .bytes)) (now (a .steps)) (now (a .outputs)) (s .pre .pairs-enough) (s .pre .outputs-enough) _ (e .0) _ _ _
-    (c .columns .given .1) _ _ (e .1 .0) (e .1 .1)
+    read-good edition1 (now (a .bytes)) (now (a .steps)) (now (a .outputs)) (s .pre .pairs-enough) (s .pre .outputs-enough) _ (answer-clause e) _ _ _
+    (c .columns .given .1) _ _ (first-slice-clause e) (second-slice-clause e)
 
 same-length : tie.Need-same-length
 same-length c = search needs

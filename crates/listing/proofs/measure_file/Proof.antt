@@ -4,7 +4,7 @@ use mathlib.Core.Path.{sym, ap}
 use native.Mathlib.Omega.{arith}
 use lib.Seq.{length-take-le}
 use denote.Ref.{now}
-use Rattle.answers.proofs.Clauses.{answer-clause}
+use Rattle.answers.proofs.Clauses.{answer-clause, first-slice-clause, second-slice-clause}
 use Rattle.chain.specs.Judgement.{verdictOf}
 use Rattle.chain.proofs.Rules.{told-refused, told-fine}
 use Rattle.layout.specs.Layout.{edition1}
@@ -35,8 +35,8 @@ read-file c =
     let s = r .before .before .before .before .before .before .before .before .before in
     let a = s .args in
     let e = r .read .ensures in
-    read-good edition1 (now (a .bytes)) (now (a .steps)) (now (a .outputs)) (omega (arith, s .pre .steps-whole)) (omega (arith, s .pre .outputs-whole)) _ (e .0) _ _ _
-    (c .p .given .1) _ _ (e .1 .0) (e .1 .1)
+    read-good edition1 (now (a .bytes)) (now (a .steps)) (now (a .outputs)) (omega (arith, s .pre .steps-whole)) (omega (arith, s .pre .outputs-whole)) _ (answer-clause e) _ _ _
+    (c .p .given .1) _ _ (first-slice-clause e) (second-slice-clause e)
 
 mul-measure : tie.Need-mul-measure
 mul-measure c = omega (arith, read-file (c .before) .taken .few)

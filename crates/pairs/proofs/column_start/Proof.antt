@@ -4,14 +4,7 @@ use Rattle.pairs.proofs.Tasks.{added-from}
 use Rattle.pairs.proofs.column_start.Statement.{statement}
 use Rattle.pairs.proofs.column_start.Tie as tie
 
-start-requires : tie.Need-start-requires
-start-requires c κs = search needs
-
-same-length : tie.Need-same-length
-same-length c = search needs
-
-returns : tie.Need-returns
-returns c = search (needs, added-from)
-
 pub column-start-spec : {M : Type 1} → statement M
-column-start-spec = tie.close (tie.spec start-requires same-length returns)
+column-start-spec =
+    tie.close
+    (tie.spec (λ c κs. search needs) (λ c. search needs) (λ c. search (needs, added-from)))

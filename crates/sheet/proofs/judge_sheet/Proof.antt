@@ -6,33 +6,9 @@ use Rattle.sheet.specs.Sheet.{sheetRule}
 use Rattle.sheet.proofs.judge_sheet.Statement.{statement}
 use Rattle.sheet.proofs.judge_sheet.Tie as tie
 
-judge-sizes-requires : tie.Need-judge-sizes-requires
-judge-sizes-requires c κs = search needs
-
-enum-known-number : tie.Need-enum-known-number
-enum-known-number c = search needs
-
-enum-told : tie.Need-enum-told
-enum-told c = search needs
-
-judge-amounts-requires : tie.Need-judge-amounts-requires
-judge-amounts-requires c κs = search (needs, columns-low, payslips-low)
-
-returns : tie.Need-returns
-unfolding sheetRule
-returns c = search judging
-
-returns-2 : tie.Need-returns-2
-unfolding sheetRule
-returns-2 c = search judging
-
 pub judge-sheet-spec : {M : Type 1} → statement M
+unfolding sheetRule
 judge-sheet-spec =
     tie.close
-    (tie.spec
-    judge-sizes-requires
-    enum-known-number
-    enum-told
-    judge-amounts-requires
-    returns
-    returns-2)
+    (tie.spec (λ c κs. search needs) (λ c. search needs) (λ c. search needs) (λ c κs. search (needs, columns-low, payslips-low)) (λ c. search judging)
+    (λ c. search judging))

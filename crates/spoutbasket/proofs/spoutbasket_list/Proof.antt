@@ -3,6 +3,7 @@ use borrow.Author.Needs.{needs}
 use mathlib.Core.Path.{ap, _∙_}
 use mathlib.Core.List.{[], _∷_}
 use Prim.Native.Nat.{ℕ}
+use Rattle.answers.proofs.Clauses.{answer-clause, only-slice-clause}
 use Rattle.spoutbasket.proofs.spoutbasket_list.Statement.{statement}
 use Rattle.spoutbasket.proofs.spoutbasket_list.Tie as tie
 
@@ -16,7 +17,7 @@ returns : tie.Need-returns
 returns c =
     let called = c .before .before .list .ensures in
     let told = c .tell-listed .ensures in
-    (told .number-is, (told .words-are ∙ ap (λ (n : ℕ). n ∷ 0 ∷ 0 ∷ 0 ∷ []) (called .0), called .1))
+    (told .number-is, (told .words-are ∙ ap (λ (n : ℕ). n ∷ 0 ∷ 0 ∷ 0 ∷ []) (answer-clause called), only-slice-clause called))
 
 pub spoutbasket-list-spec : {M : Type 1} → statement M
 spoutbasket-list-spec = tie.close (tie.spec list-requires tell-listed-requires returns)

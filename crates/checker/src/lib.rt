@@ -35,7 +35,7 @@ fn sum(p: usize, steps: &[u32], scratch: &mut [u32]) -> usize
         let x = chain::step_at(steps, s);
         let a = x.first as usize;
         let b = x.second as usize;
-        let e = columns::plus(scratch[a], scratch[b]);
+        let e = counting::plus(scratch[a], scratch[b]);
         if (chain::MOST_AMOUNT as u64) < e {
             return s + 1;
         }

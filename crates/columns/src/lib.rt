@@ -3,27 +3,11 @@ ghost use mathlib.Core.Path.{_≡_};
 ghost use Prim.Native.Nat.{_+_, _≤_, _<_};
 ghost use lib.ListN.{length, replicate};
 ghost use Rattle.chain.specs.Written.{over};
-ghost use Rattle.verify.specs.Verify.{earlier, firstOther};
+ghost use Rattle.verify.specs.Verify.{firstOther};
 ghost use Rattle.answers.specs.Answers.{verifiedOf};
 ghost use Rattle.verify.specs.Inner.{columnStart, Comparable, takenUp, foundIn, Finished};
 use answers::Verified;
 use verify::Found;
-
-// The earlier of two places, 0 being none.
-pub fn earlier(a: usize, b: usize) -> usize
-    ensures { λ r. ⌜ r ≡ earlier a b ⌝ }
-{
-    if a == 0 {
-        return b;
-    }
-    if b == 0 {
-        return a;
-    }
-    if a < b {
-        return a;
-    }
-    b
-}
 
 // The first n cells 0.
 fn clear(n: usize, scratch: &mut [u32])
@@ -35,13 +19,6 @@ fn clear(n: usize, scratch: &mut [u32])
         scratch[i] = 0;
         i += 1;
     }
-}
-
-// The sum of two exponents, which 64 bits hold.
-pub fn plus(a: u32, b: u32) -> u64
-    ensures { λ r. ⌜ r ≡ a + b ⌝ }
-{
-    (a as u64) + (b as u64)
 }
 
 // Value 0 and the bases as column c has them, over the front of the scratch.
@@ -82,14 +59,14 @@ pub fn take_up(
     requires { ⌜ Comparable p c (now outputs) (now amounts) (length (now scratch)) ⌝ }
     ensures { λ r. ⌜ r ≡ takenUp found place p c (now (amounts .entry)) (now (scratch .entry)) (now (outputs .entry)) ⌝ }
 {
-    let large = earlier(found.large, place);
+    let large = verify::earlier(found.large, place);
     if large != 0 {
         return Found {
             large,
             other: found.other,
         };
     }
-    let other = earlier(found.other, compare(p, c, outputs, amounts, scratch));
+    let other = verify::earlier(found.other, compare(p, c, outputs, amounts, scratch));
     Found { large, other }
 }
 

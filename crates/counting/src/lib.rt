@@ -1,6 +1,6 @@
 // What sums and maxima over ranges are made of.
 ghost use mathlib.Core.Path.{_≡_};
-ghost use Prim.Native.Nat.{_-_, max};
+ghost use Prim.Native.Nat.{_+_, _-_, max};
 ghost use Rattle.digits.specs.Range.{sign};
 
 // The larger of two numbers.
@@ -28,4 +28,11 @@ pub fn lessened(x: usize, less: usize) -> usize
         return 0;
     }
     x - less
+}
+
+// The sum of two numbers, which 64 bits hold.
+pub fn plus(a: u32, b: u32) -> u64
+    ensures { λ r. ⌜ r ≡ a + b ⌝ }
+{
+    (a as u64) + (b as u64)
 }

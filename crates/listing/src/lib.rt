@@ -137,7 +137,7 @@ fn measure(
     while c < p {
         let place = checker::column(p, c, steps, scratch);
         gather(c, outputs, scratch, table);
-        large = columns::earlier(large, place);
+        large = verify::earlier(large, place);
         c += 1;
     }
     if large != 0 {

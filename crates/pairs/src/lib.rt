@@ -69,7 +69,7 @@ fn advance(task: Task, i: usize, first: u32, second: u32, cells: &mut [u32]) -> 
             Task::Multiplying(p, m, inverse)
         }
         Task::Adding(p) => {
-            let e = columns::plus(cells[a], cells[b]);
+            let e = counting::plus(cells[a], cells[b]);
             if (chain::MOST_AMOUNT as u64) < e {
                 return Task::Refused(13, i + 1);
             }

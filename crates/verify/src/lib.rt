@@ -1,6 +1,7 @@
-// The check of a chain against a sheet, in what the flat form and the form over step structs share: what is found before the steps.
+// The check of a chain against a sheet, in what the flat form and the form over step structs share: what is found before the steps, and the earlier of two places.
 ghost use mathlib.Core.Path.{_≡_};
 ghost use Rattle.chain.specs.Judgement.{verdictOf};
+ghost use Rattle.verify.specs.Verify.{earlier};
 ghost use Rattle.verify.specs.Inner.{startRule};
 use chain::Judgement;
 
@@ -21,4 +22,20 @@ pub fn judge_start(p: usize, q: usize, n: usize, amounts: &[u32]) -> Judgement
         Judgement::Fine => {}
     }
     sheet::judge_amounts(p, q, amounts)
+}
+
+// The earlier of two places, 0 being none.
+pub fn earlier(a: usize, b: usize) -> usize
+    ensures { λ r. ⌜ r ≡ earlier a b ⌝ }
+{
+    if a == 0 {
+        return b;
+    }
+    if b == 0 {
+        return a;
+    }
+    if a < b {
+        return a;
+    }
+    b
 }

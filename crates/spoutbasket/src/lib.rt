@@ -268,7 +268,7 @@ pub extern "C" fn spoutbasket_numbers(
     ensures { λ r. ⌜ now (answer .exit) ≡ wordsTold (numbersOf (now (text .entry)) (length (now (numbers .entry))) .answer) ⌝ }
     ensures { λ r. ⌜ now (numbers .exit) ≡ over (numbersOf (now (text .entry)) (length (now (numbers .entry))) .numbers) (now (numbers .entry)) ⌝ }
 {
-    text::numbers(text, numbers, answer)
+    numbers::numbers(text, numbers, answer)
 }
 
 // A table of amounts, one payslip a line, read over the front of the lent ones. The words answer p and q, or where and why it was turned down.

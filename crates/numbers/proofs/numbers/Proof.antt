@@ -1,10 +1,10 @@
 -- The text after its mark is read, and the answer told.
 use borrow.Author.Needs.{needs}
 use Rattle.text.specs.Text.{numbersIn}
 use Rattle.places.proofs.Marks.{start-within}
 use Rattle.text.proofs.Outcomes.{body-told}
-use Rattle.text.proofs.numbers.Statement.{statement}
-use Rattle.text.proofs.numbers.Tie as tie
+use Rattle.numbers.proofs.numbers.Statement.{statement}
+use Rattle.numbers.proofs.numbers.Tie as tie
 
 pub numbers-spec : {M : Type 1} → statement M
 numbers-spec =

@@ -1,10 +1,10 @@
 -- Each return is one case of what was parsed.
 use borrow.Author.Needs.{needs}
 use mathlib.Core.Path.{refl}
 use Rattle.text.specs.Text.{toldNumbers}
 use Rattle.places.proofs.Cases.{case}
-use Rattle.text.proofs.tell_parsed.Statement.{statement}
-use Rattle.text.proofs.tell_parsed.Tie as tie
+use Rattle.numbers.proofs.tell_parsed.Statement.{statement}
+use Rattle.numbers.proofs.tell_parsed.Tie as tie
 
 enum-known-parsed : tie.Need-enum-known-parsed
 enum-known-parsed c = search needs

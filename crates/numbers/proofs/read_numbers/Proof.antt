@@ -1,8 +1,8 @@
 -- The text is cut off, or what was parsed is told.
 use borrow.Author.Needs.{needs}
 use Rattle.text.proofs.Outcomes.{numbers-cut, numbers-read}
-use Rattle.text.proofs.read_numbers.Statement.{statement}
-use Rattle.text.proofs.read_numbers.Tie as tie
+use Rattle.numbers.proofs.read_numbers.Statement.{statement}
+use Rattle.numbers.proofs.read_numbers.Tie as tie
 
 is-cut-requires : tie.Need-is-cut-requires
 is-cut-requires c κs = search needs

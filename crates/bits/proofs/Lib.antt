@@ -5,4 +5,3 @@ pub mod Pack
 pub mod Filed
 pub mod Take
 pub mod Put
-pub mod Reader

@@ -23,18 +23,6 @@ pub struct TwoFields {
     pub next: Cursor,
 }
 
-// A file's bytes and a bit position in them together.
-pub struct BitReader<'a> {
-    pub bytes: &'a [u8],
-    pub cursor: Cursor,
-}
-
-// A field that was read, and the reader past it.
-pub struct ReadField<'a> {
-    pub value: usize,
-    pub next: BitReader<'a>,
-}
-
 fn wide(x: u8) -> u64
     ensures { λ r. ⌜ r ≡ x ⌝ }
 {
@@ -131,23 +119,5 @@ impl Cursor {
         let head = (wide(buf[i]) >> right) << right;
         bytes::scatter_wide(buf, i, (used + 7) / 8, head, value << (64 - used));
         Cursor { at: at + width }
-    }
-}
-
-impl<'a> BitReader<'a> {
-    // The field of width bits at the reader's position, and a reader of the same bytes past it.
-    pub fn take(self, width: usize) -> ReadField<'a>
-        requires { ⌜ FieldRoom (now (self .bytes)) (self .cursor .at) width ⌝ }
-        ensures { λ r. ⌜ FieldTaken (now (self .entry .bytes)) (self .entry .cursor .at) width (r .value)
-            (r .next .cursor .at) × (r .next .bytes ≡ self .entry .bytes) ⌝ }
-    {
-        let field = self.cursor.take(self.bytes, width);
-        ReadField {
-            value: field.value,
-            next: BitReader {
-                bytes: self.bytes,
-                cursor: field.next,
-            },
-        }
     }
 }

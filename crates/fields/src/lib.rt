@@ -5,7 +5,6 @@ ghost use lib.ListN.{take};
 ghost use Rattle.bits.specs.Bits.{fields};
 ghost use Rattle.bits.specs.Inner.{FieldStored};
 ghost use Rattle.fields.specs.Inner.{FrontFill, FieldsRoom, FieldsTaken};
-use bits::BitReader;
 use bits::Cursor;
 
 fn wide(x: u32) -> u64
@@ -58,22 +57,4 @@ pub fn take_fields(file: &[u8], from: Cursor, width: usize, count: usize, out: &
         c = next;
     }
     c
-}
-
-// Reads the next count fields of a reader into the first cells of out, and hands back the reader past them.
-pub fn read_fields<'a>(
-    reader: BitReader<'a>,
-    width: usize,
-    count: usize,
-    out: &mut [u32],
-) -> BitReader<'a>
-    requires { ⌜ FieldsRoom (now (reader .bytes)) (reader .cursor .at) width count (now out) ⌝ }
-    ensures { λ r. ⌜ FieldsTaken (now (reader .entry .bytes)) (reader .entry .cursor .at) width count (now (out .entry))
-        (now (out .exit)) (r .cursor .at) × (r .bytes ≡ reader .entry .bytes) ⌝ }
-{
-    let next = take_fields(reader.bytes, reader.cursor, width, count, out);
-    BitReader {
-        bytes: reader.bytes,
-        cursor: next,
-    }
 }

@@ -11,11 +11,11 @@ ghost use Rattle.layout.specs.Inner.{SoundLayout};
 ghost use Rattle.answers.specs.Answers.{readOf};
 ghost use Rattle.reading.specs.Inner.{HeaderRoom, headerIn, headed, Proper, Contained, fileSteps, fileOutputs, bodyRule, BodyRead, FileRead, ListsTaken};
 use answers::Reading;
-use bits::BitReader;
 use bits::Cursor;
 use chain::Judgement;
 use layout::Extent;
 use layout::Layout;
+use reader::BitReader;
 
 // What a header says.
 struct Header {
@@ -171,8 +171,8 @@ fn take_lists(
         bytes: bytes,
         cursor: Cursor { at: at },
     };
-    let next = fields::read_fields(start, w, 2 * n, steps);
-    fields::read_fields(next, w, q, outputs);
+    let next = reader::read_fields(start, w, 2 * n, steps);
+    reader::read_fields(next, w, q, outputs);
 }
 
 // Reads the chain that stands in bytes by an extent. Everything is judged before anything is stored.

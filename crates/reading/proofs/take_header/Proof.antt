@@ -40,10 +40,10 @@ use denote.Exit.{yes}
 use Rattle.bits.specs.Inner.{FieldRoom}
 use Rattle.bits.specs.Bits.{fieldAt}
 use Rattle.bits.proofs.Fields.{field-lt}
-use Rattle.bits.proofs.Reader.{Take, Token, Bytes, bytesVal, next-typed, read-typed, takes}
-use Rattle.bits.proofs.BitReader.take.Symbol as take-def
-use Rattle.bits.proofs.BitReader.take.Symbol.{name as #bits·BitReader·take}
-use Rattle.bits.proofs.BitReader.take.Met as take-thm
+use Rattle.reader.proofs.Reader.{Take, Token, Bytes, bytesVal, next-typed, read-typed, takes}
+use Rattle.reader.proofs.BitReader.take.Symbol as take-def
+use Rattle.reader.proofs.BitReader.take.Symbol.{name as #reader·BitReader·take}
+use Rattle.reader.proofs.BitReader.take.Met as take-thm
 use Rattle.layout.specs.File.{editionOf, columnsOf, payslipsOf}
 use Rattle.reading.specs.Inner.{HeaderRoom, headerIn}
 use Rattle.reading.specs.declared.Header.{Header}
@@ -119,7 +119,7 @@ module _ {M : Type 1} (𝓤 : URA M) (H : Heap 𝓤) (A : Atoms 𝓤) (W : Given
       )) $
       keep ! (0 ∷ []) $ done !
 
-  module _ (C : Calls 𝓤 H) (Λ : Loops 𝓤 H) (fm : FmC 𝓤 H (W .laws) C) (known : Triple 𝓤 (C #bits·BitReader·take) (Take 𝓤 H A mem run)) where
+  module _ (C : Calls 𝓤 H) (Λ : Loops 𝓤 H) (fm : FmC 𝓤 H (W .laws) C) (known : Triple 𝓤 (C #reader·BitReader·take) (Take 𝓤 H A mem run)) where
     walk : Holds (hasTy (sliceTy (tyRef (named 0) imm (tyInt w8))) v) × WT v → bits < 2 ^ 64 → HeaderRoom (now s) bits
         → ent 𝓤 (onEntry 𝓤 H A this.signature (κ, tt) (q, tt) (s, (bits, tt)) (v ∷ [], (vint w64 bits ∷ [], tt))) (WpFn 𝓤 H C Λ code.function args Post)
     walk wt bits-fit ok =
@@ -204,7 +204,7 @@ module _ {M : Type 1} (𝓤 : URA M) (H : Heap 𝓤) (A : Atoms 𝓤) (W : Given
         by ! (exits ok))))))))))))))))))))
 
 module _ {M : Type 1} (𝓤 : URA M) (H : Heap 𝓤) (A : Atoms 𝓤) (W : Given 𝓤 H A) (mem : Memory → SProp 𝓤) (run : Routine → Fun 𝓤) (𝓣 : Tables 𝓤 H)
-    (known : Triple 𝓤 (𝓣 .C #bits·BitReader·take) (Take 𝓤 H A mem run)) where
+    (known : Triple 𝓤 (𝓣 .C #reader·BitReader·take) (Take 𝓤 H A mem run)) where
   this-walks : Walks 𝓤 H A this.ended stayed (WpFn 𝓤 H (𝓣 .C) (𝓣 .Λ) code.function) (this.clauses 𝓤 H A mem run)
   this-walks = walked 𝓤 H A this.ended stayed (this.clauses 𝓤 H A mem run) (WpFn 𝓤 H (𝓣 .C) (𝓣 .Λ) code.function)
       (λ κs. (slice-vals, (uint-vals w64, tt))) (λ κs. (shr-slice-tells (named 0) (κs .0) u8, (uint-tells w64, tt)))
@@ -212,7 +212,7 @@ module _ {M : Type 1} (𝓤 : URA M) (H : Heap 𝓤) (A : Atoms 𝓤) (W : Given
       (shr-slice-lawful 𝓤 H A W (named 0) (κs .0) u8 .typed (a .0) _ (are .0) .0) (are .1 .0 .1)))
 
 this-meets : {M : Type 1} (𝓤 : URA M) (H : Heap 𝓤) (A : Atoms 𝓤) (W : Given 𝓤 H A) (mem : Memory → SProp 𝓤) (run : Routine → Fun 𝓤) (𝓣 : Tables 𝓤 H)
-    → Triple 𝓤 (𝓣 .C #bits·BitReader·take) (Take 𝓤 H A mem run)
+    → Triple 𝓤 (𝓣 .C #reader·BitReader·take) (Take 𝓤 H A mem run)
     → Meets 𝓤 H A this.signature (WpFn 𝓤 H (𝓣 .C) (𝓣 .Λ) code.function) (this.spec 𝓤 H A mem run)
 this-meets 𝓤 H A W mem run 𝓣 known = walk-meets 𝓤 H A this.ended stayed W
     (goes-dropped 𝓤 H A W 1 (shrSliceOf (0 ∷ []) tt (plain (λ _. u8))) yes (λ κs x f. refl), (goes-dropped 𝓤 H A W 1 (plain (λ _. usize)) yes (λ κs x f. refl), tt))
@@ -224,4 +224,4 @@ take-header-spec 𝓤 H 𝓜 𝓖 𝓡 =
     entered 𝓤 H (tripleOf 𝓤 H (𝓖 .A) this.signature (this.spec 𝓤 H (𝓖 .A) (𝓜 .mem) (𝓡 .run)))
     (tables 𝓤 H 𝓜 𝓡 code.env .C) (tables 𝓤 H 𝓜 𝓡 code.env .Λ) #reading·take-header code.function (code.unfolded 𝓤 H 𝓜 𝓡)
     (this-meets 𝓤 H (𝓖 .A) (givenOf 𝓤 H 𝓜 𝓖) (𝓜 .mem) (𝓡 .run) (tablesOf 𝓤 H 𝓜 (tables 𝓤 H 𝓜 𝓡 code.env))
-    (cited 𝓤 H (Take 𝓤 H (𝓖 .A) (𝓜 .mem) (𝓡 .run)) 𝓜 𝓡 code.env #bits·BitReader·take take-def.routine code.calls-bits·BitReader·take (take-thm.met 𝓤 H 𝓜 𝓖 𝓡)))
+    (cited 𝓤 H (Take 𝓤 H (𝓖 .A) (𝓜 .mem) (𝓡 .run)) 𝓜 𝓡 code.env #reader·BitReader·take take-def.routine code.calls-reader·BitReader·take (take-thm.met 𝓤 H 𝓜 𝓖 𝓡)))

@@ -36,12 +36,12 @@ use denote.Triple.Walked.{says, needs, Stays, stay-dropped, gave-slice, walkOf, 
 use denote.Exit.{yes}
 use Rattle.chain.specs.Written.{over}
 use Rattle.bits.specs.Bits.{fieldsAt}
-use Rattle.bits.proofs.Reader.{bytesVal}
+use Rattle.reader.proofs.Reader.{bytesVal}
 use Rattle.fields.specs.Inner.{FieldsRoom}
-use Rattle.fields.proofs.Reading.{Read, cellsVal, Last, reads}
-use Rattle.fields.proofs.read_fields.Symbol as read-def
-use Rattle.fields.proofs.read_fields.Symbol.{name as #fields·read-fields}
-use Rattle.fields.proofs.read_fields.Met as read-thm
+use Rattle.reader.proofs.Reading.{Read, cellsVal, Last, reads}
+use Rattle.reader.proofs.read_fields.Symbol as read-def
+use Rattle.reader.proofs.read_fields.Symbol.{name as #reader·read-fields}
+use Rattle.reader.proofs.read_fields.Met as read-thm
 use Rattle.reading.proofs.take_lists.Key.{name as #reading·take-lists}
 use Rattle.reading.proofs.take_lists as this
 use Rattle.reading.proofs.take_lists.Statement as stated
@@ -106,7 +106,7 @@ module _ {M : Type 1} (𝓤 : URA M) (H : Heap 𝓤) (A : Atoms 𝓤) (W : Given
       nothing ! $ move ! (2 ∷ 0 ∷ []) $ fjoin ! $ move ! (1 ∷ 0 ∷ []) $ fjoin ! $ nothing ! $ fjoin ! $ nothing ! $ fjoin ! $ nothing ! $ fjoin ! $
       nothing ! $ fjoin ! $ nothing ! $ fjoin ! $ frame ! $ feqI ! (List Val) (vunit ∷ []) (vunit ∷ []) refl $ done !
 
-  module _ (C : Calls 𝓤 H) (Λ : Loops 𝓤 H) (fm : FmC 𝓤 H (W .laws) C) (known : Triple 𝓤 (C #fields·read-fields) (Read 𝓤 H A mem run)) where
+  module _ (C : Calls 𝓤 H) (Λ : Loops 𝓤 H) (fm : FmC 𝓤 H (W .laws) C) (known : Triple 𝓤 (C #reader·read-fields) (Read 𝓤 H A mem run)) where
     walk : Holds (hasTy (sliceTy (tyRef (named 0) imm (tyInt w8))) (bytesVal s)) × WT (bytesVal s) → at < 2 ^ 64 → w < 2 ^ 64 → n < 2 ^ 64
         → m < 2 ^ 64 → 2 * n < 2 ^ 64 → Room u32 (length (now x)) → Room u32 (length (now y))
         → FieldsRoom (now s) at w (2 * n) (now x) × FieldsRoom (now s) middle w m (now y)
@@ -173,7 +173,7 @@ module _ {M : Type 1} (𝓤 : URA M) (H : Heap 𝓤) (A : Atoms 𝓤) (W : Given
         keep ! (1 ∷ 4 ∷ 2 ∷ 5 ∷ 3 ∷ []) $ by ! (exits len len₂))))))))))))))))))))))
 
 module _ {M : Type 1} (𝓤 : URA M) (H : Heap 𝓤) (A : Atoms 𝓤) (W : Given 𝓤 H A) (mem : Memory → SProp 𝓤) (run : Routine → Fun 𝓤) (𝓣 : Tables 𝓤 H)
-    (known : Triple 𝓤 (𝓣 .C #fields·read-fields) (Read 𝓤 H A mem run)) where
+    (known : Triple 𝓤 (𝓣 .C #reader·read-fields) (Read 𝓤 H A mem run)) where
   this-walks : Walks 𝓤 H A this.ended stayed (WpFn 𝓤 H (𝓣 .C) (𝓣 .Λ) code.function) (this.clauses 𝓤 H A mem run)
   this-walks = walked 𝓤 H A this.ended stayed (this.clauses 𝓤 H A mem run) (WpFn 𝓤 H (𝓣 .C) (𝓣 .Λ) code.function)
       (λ κs. (slice-vals, (uint-vals w64, (uint-vals w64, (uint-vals w64, (uint-vals w64, (slice-vals, (slice-vals, tt))))))))
@@ -206,7 +206,7 @@ module _ {M : Type 1} (𝓤 : URA M) (H : Heap 𝓤) (A : Atoms 𝓤) (W : Given
       (are .1 .1 .1 .1 .1 .1 .0 .0 .1) rooms))
 
 this-meets : {M : Type 1} (𝓤 : URA M) (H : Heap 𝓤) (A : Atoms 𝓤) (W : Given 𝓤 H A) (mem : Memory → SProp 𝓤) (run : Routine → Fun 𝓤) (𝓣 : Tables 𝓤 H)
-    → Triple 𝓤 (𝓣 .C #fields·read-fields) (Read 𝓤 H A mem run)
+    → Triple 𝓤 (𝓣 .C #reader·read-fields) (Read 𝓤 H A mem run)
     → Meets 𝓤 H A this.signature (WpFn 𝓤 H (𝓣 .C) (𝓣 .Λ) code.function) (this.spec 𝓤 H A mem run)
 this-meets 𝓤 H A W mem run 𝓣 known = walk-meets 𝓤 H A this.ended stayed W (
   goes-dropped 𝓤 H A W 3 (shrSliceOf (0 ∷ []) tt (plain (λ _. u8))) yes (λ κs x f. refl),
@@ -233,4 +233,4 @@ take-lists-spec 𝓤 H 𝓜 𝓖 𝓡 =
     entered 𝓤 H (tripleOf 𝓤 H (𝓖 .A) this.signature (this.spec 𝓤 H (𝓖 .A) (𝓜 .mem) (𝓡 .run)))
     (tables 𝓤 H 𝓜 𝓡 code.env .C) (tables 𝓤 H 𝓜 𝓡 code.env .Λ) #reading·take-lists code.function (code.unfolded 𝓤 H 𝓜 𝓡)
     (this-meets 𝓤 H (𝓖 .A) (givenOf 𝓤 H 𝓜 𝓖) (𝓜 .mem) (𝓡 .run) (tablesOf 𝓤 H 𝓜 (tables 𝓤 H 𝓜 𝓡 code.env))
-    (cited 𝓤 H (Read 𝓤 H (𝓖 .A) (𝓜 .mem) (𝓡 .run)) 𝓜 𝓡 code.env #fields·read-fields read-def.routine code.calls-fields·read-fields (read-thm.met 𝓤 H 𝓜 𝓖 𝓡)))
+    (cited 𝓤 H (Read 𝓤 H (𝓖 .A) (𝓜 .mem) (𝓡 .run)) 𝓜 𝓡 code.env #reader·read-fields read-def.routine code.calls-reader·read-fields (read-thm.met 𝓤 H 𝓜 𝓖 𝓡)))

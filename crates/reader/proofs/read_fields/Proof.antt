@@ -41,20 +41,20 @@ use denote.Triple.Walked.{says, needs, Stays, stay-dropped, gave-slice, walkOf, 
 use denote.Triple.Clauses.{ensured, lasts}
 use denote.Exit.{yes}
 use Rattle.bits.specs.declared.Cursor.{Cursor}
-use Rattle.bits.proofs.Reader.{lifetime, bytesVal, Bytes, readerAt, has-cursor, reader-own, reader-bytes}
+use Rattle.reader.proofs.Reader.{lifetime, bytesVal, Bytes, readerAt, has-cursor, reader-own, reader-bytes}
 use Rattle.bits.proofs.Cursor as P
 use Rattle.bits.proofs.Cursor.Laws as P′
-use Rattle.bits.proofs.BitReader as B
-use Rattle.bits.proofs.BitReader.Laws as B′
+use Rattle.reader.proofs.BitReader as B
+use Rattle.reader.proofs.BitReader.Laws as B′
 use Rattle.fields.specs.Inner.{FieldsRoom, FieldsTaken}
 use Rattle.fields.proofs.take_fields as take
 use Rattle.fields.proofs.take_fields.Symbol as take-def
 use Rattle.fields.proofs.take_fields.Symbol.{name as #fields·take-fields}
 use Rattle.fields.proofs.take_fields.Met as take-thm
-use Rattle.fields.proofs.read_fields.Key.{name as #fields·read-fields}
-use Rattle.fields.proofs.read_fields as this
-use Rattle.fields.proofs.read_fields.Statement as stated
-use Rattle.fields.proofs.read_fields.Code as code
+use Rattle.reader.proofs.read_fields.Key.{name as #reader·read-fields}
+use Rattle.reader.proofs.read_fields as this
+use Rattle.reader.proofs.read_fields.Statement as stated
+use Rattle.reader.proofs.read_fields.Code as code
 
 -- the position of a cursor fits
 cursor-fits : (c : Cursor) (u : Val) → Is P.the-row c (u ∷ []) → c .at < 2 ^ 64
@@ -227,6 +227,6 @@ pub read-fields-spec : {M : Type 1} → stated.statement M
 unfolding code.routine tablesOf
 read-fields-spec 𝓤 H 𝓜 𝓖 𝓡 =
     entered 𝓤 H (tripleOf 𝓤 H (𝓖 .A) this.signature (this.spec 𝓤 H (𝓖 .A) (𝓜 .mem) (𝓡 .run)))
-    (tables 𝓤 H 𝓜 𝓡 code.env .C) (tables 𝓤 H 𝓜 𝓡 code.env .Λ) #fields·read-fields code.function (code.unfolded 𝓤 H 𝓜 𝓡)
+    (tables 𝓤 H 𝓜 𝓡 code.env .C) (tables 𝓤 H 𝓜 𝓡 code.env .Λ) #reader·read-fields code.function (code.unfolded 𝓤 H 𝓜 𝓡)
     (this-meets 𝓤 H (𝓖 .A) (givenOf 𝓤 H 𝓜 𝓖) (𝓜 .mem) (𝓡 .run) (tablesOf 𝓤 H 𝓜 (tables 𝓤 H 𝓜 𝓡 code.env))
     (cited 𝓤 H (Take 𝓤 H (𝓖 .A) (𝓜 .mem) (𝓡 .run)) 𝓜 𝓡 code.env #fields·take-fields take-def.routine code.calls-fields·take-fields (take-thm.met 𝓤 H 𝓜 𝓖 𝓡)))

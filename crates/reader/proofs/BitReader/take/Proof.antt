@@ -39,25 +39,25 @@ use denote.Triple.Table.{entered, cited}
 use denote.Triple.Walked.{says, needs, Stays, stay-dropped, walkOf, goes-dropped, Walks, ends-at, walked, walk-meets}
 use denote.Triple.Clauses.{ensured, lasts}
 use denote.Exit.{yes}
 use Rattle.bits.specs.Inner.{FieldRoom, FieldTaken}
 use Rattle.bits.specs.declared.Field.{Field}
-use Rattle.bits.specs.declared.ReadField.{ReadField}
-use Rattle.bits.proofs.Reader.{lifetime, Token, bytesVal, Bytes, readerAt, has-cursor, Reader, reader-own, reader-bytes}
+use Rattle.reader.specs.declared.ReadField.{ReadField}
+use Rattle.reader.proofs.Reader.{lifetime, Token, bytesVal, Bytes, readerAt, has-cursor, Reader, reader-own, reader-bytes}
 use Rattle.bits.proofs.Cursor.Laws as C′
 use Rattle.bits.proofs.Field as F
 use Rattle.bits.proofs.Field.Laws as F′
-use Rattle.bits.proofs.BitReader as B
-use Rattle.bits.proofs.BitReader.Laws as B′
-use Rattle.bits.proofs.ReadField as R
-use Rattle.bits.proofs.ReadField.Laws as R′
+use Rattle.reader.proofs.BitReader as B
+use Rattle.reader.proofs.BitReader.Laws as B′
+use Rattle.reader.proofs.ReadField as R
+use Rattle.reader.proofs.ReadField.Laws as R′
 use Rattle.bits.proofs.Cursor.take as take
 use Rattle.bits.proofs.Cursor.take.Symbol as take-def
 use Rattle.bits.proofs.Cursor.take.Symbol.{name as #bits·Cursor·take}
 use Rattle.bits.proofs.Cursor.take.Met as take-thm
-use Rattle.bits.proofs.BitReader.take.Key.{name as #bits·BitReader·take}
-use Rattle.bits.proofs.BitReader.take as this
-use Rattle.bits.proofs.BitReader.take.Statement as stated
-use Rattle.bits.proofs.BitReader.take.Code as code
+use Rattle.reader.proofs.BitReader.take.Key.{name as #reader·BitReader·take}
+use Rattle.reader.proofs.BitReader.take as this
+use Rattle.reader.proofs.BitReader.take.Statement as stated
+use Rattle.reader.proofs.BitReader.take.Code as code
 
 -- both numbers of a field fit
 value-fits : (f : Field) (u : Val) → Is F.the-row f (u ∷ []) → f .value < 2 ^ 64
@@ -186,6 +186,6 @@ pub take-spec : {M : Type 1} → stated.statement M
 unfolding code.routine tablesOf
 take-spec 𝓤 H 𝓜 𝓖 𝓡 =
     entered 𝓤 H (tripleOf 𝓤 H (𝓖 .A) this.signature (this.spec 𝓤 H (𝓖 .A) (𝓜 .mem) (𝓡 .run)))
-    (tables 𝓤 H 𝓜 𝓡 code.env .C) (tables 𝓤 H 𝓜 𝓡 code.env .Λ) #bits·BitReader·take code.function (code.unfolded 𝓤 H 𝓜 𝓡)
+    (tables 𝓤 H 𝓜 𝓡 code.env .C) (tables 𝓤 H 𝓜 𝓡 code.env .Λ) #reader·BitReader·take code.function (code.unfolded 𝓤 H 𝓜 𝓡)
     (this-meets 𝓤 H (𝓖 .A) (givenOf 𝓤 H 𝓜 𝓖) (𝓜 .mem) (𝓡 .run) (tablesOf 𝓤 H 𝓜 (tables 𝓤 H 𝓜 𝓡 code.env))
     (cited 𝓤 H (Take 𝓤 H (𝓖 .A) (𝓜 .mem) (𝓡 .run)) 𝓜 𝓡 code.env #bits·Cursor·take take-def.routine code.calls-bits·Cursor·take (take-thm.met 𝓤 H 𝓜 𝓖 𝓡)))

@@ -39,19 +39,19 @@ use denote.Triple.Entry.{Args}
 use denote.Triple.Spec.{tripleOf}
 use denote.Triple.Walked.{says}
 use denote.Triple.Clauses.{ensured, lasts}
 use Rattle.bits.specs.Bits.{fieldAt}
 use Rattle.bits.specs.Inner.{FieldRoom, FieldTaken}
-use Rattle.bits.specs.declared.BitReader.{BitReader}
-use Rattle.bits.specs.declared.ReadField.{ReadField}
+use Rattle.reader.specs.declared.BitReader.{BitReader}
+use Rattle.reader.specs.declared.ReadField.{ReadField}
 use Rattle.bits.proofs.Fields.{field-lt}
 use Rattle.bits.proofs.Cursor as C
 use Rattle.bits.proofs.Cursor.Laws as C′
-use Rattle.bits.proofs.BitReader as B
-use Rattle.bits.proofs.BitReader.Laws as B′
-use Rattle.bits.proofs.ReadField as R
-use Rattle.bits.proofs.ReadField.Laws as R′
-use Rattle.bits.proofs.BitReader.take as take
-use Rattle.bits.proofs.BitReader.take.Symbol.{name as #bits·BitReader·take}
+use Rattle.reader.proofs.BitReader as B
+use Rattle.reader.proofs.BitReader.Laws as B′
+use Rattle.reader.proofs.ReadField as R
+use Rattle.reader.proofs.ReadField.Laws as R′
+use Rattle.reader.proofs.BitReader.take as take
+use Rattle.reader.proofs.BitReader.take.Symbol.{name as #reader·BitReader·take}
 
 -- the one lifetime of a signature, and a share of its token
 abbrev pub lifetime : Lft → NamedLft
@@ -141,10 +141,10 @@ module _ {M : Type 1} (𝓤 : URA M) (H : Heap 𝓤) (A : Atoms 𝓤) (κ : Lft)
         ap₂ (λ (v : ℕ) (b : RefT (List ℕ)). result v b (r .next .cursor .at)) (taken .is) same ∙ ap (result (fieldAt (now s) at w) s) (taken .moved)
 
     module _ {K : Type 0} {W : Given 𝓤 H A} {Γ : List (Item 𝓤)} {E : Env 𝓤 H} {C : Calls 𝓤 H} {Λ : Loops 𝓤 H} {xs : List Operand} {d : Place} {rest : Body} {p : Post 𝓤 H} where
-      pub takes : K → FmC 𝓤 H (W .laws) C → Triple 𝓤 (C #bits·BitReader·take) (Take 𝓤 H A mem run) → FieldRoom (now s) at w
+      pub takes : K → FmC 𝓤 H (W .laws) C → Triple 𝓤 (C #reader·BitReader·take) (Take 𝓤 H A mem run) → FieldRoom (now s) at w
           → Opds K W (raw (Take 𝓤 H A mem run .pre to-take) ∷ ‵ (Bytes κ s) ∷ Γ) E xs (B′.lowered (readerAt s at) ∷ vint w64 w ∷ [])
           → Step K W (Token κ q ∷ ‵ (Bytes κ s) ∷ Γ) (lands C Λ E d (R′.lowered (readAt s at w)) rest p) (Token κ q ∷ ‵ (Bytes κ s) ∷ Γ)
-          (runs C Λ E (seq (call #bits·BitReader·take xs d) rest) p)
+          (runs C Λ E (seq (call #reader·BitReader·take xs d) rest) p)
       takes t fm known room os = step (λ z.
           -- [the token; what the bytes own; …]: a copy of it goes to the call
           move t (1 ∷ []) $ use1 W (‵ (Bytes κ s) ⊛ ‵ (Bytes κ s)) (shr-slice-copy 𝓤 H A W (named 0) κ u8 .twice s (bytesVal s ∷ [])) $ split t $

@@ -33,13 +33,13 @@ use denote.Triple.Walked.{says}
 use denote.Triple.Clauses.{ensured, lasts}
 use Rattle.chain.specs.Written.{over}
 use Rattle.bits.specs.Bits.{fieldsAt}
-use Rattle.bits.specs.declared.BitReader.{BitReader}
-use Rattle.bits.proofs.Reader.{lifetime, bytesVal, Bytes, readerAt, Reader, reader-own}
-use Rattle.bits.proofs.BitReader as B
-use Rattle.bits.proofs.BitReader.Laws as B′
+use Rattle.reader.specs.declared.BitReader.{BitReader}
+use Rattle.reader.proofs.Reader.{lifetime, bytesVal, Bytes, readerAt, Reader, reader-own}
+use Rattle.reader.proofs.BitReader as B
+use Rattle.reader.proofs.BitReader.Laws as B′
 use Rattle.fields.specs.Inner.{FieldsRoom, FieldsTaken}
-use Rattle.fields.proofs.read_fields as read
-use Rattle.fields.proofs.read_fields.Symbol.{name as #fields·read-fields}
+use Rattle.reader.proofs.read_fields as read
+use Rattle.reader.proofs.read_fields.Symbol.{name as #reader·read-fields}
 
 -- the contract of `read_fields`
 abbrev pub Read : {M : Type 1} (𝓤 : URA M) (H : Heap 𝓤) (A : Atoms 𝓤) (mem : Memory → SProp 𝓤) (run : Routine → Fun 𝓤) → Contract 𝓤
@@ -88,11 +88,11 @@ module _ {M : Type 1} (𝓤 : URA M) (H : Heap 𝓤) (A : Atoms 𝓤) (mem : Mem
   is-past r new (taken, same) = ap₂ readerAt same (taken .moved)
 
   module _ {K : Type 0} {W : Given 𝓤 H A} {Γ : List (Item 𝓤)} {E : Env 𝓤 H} {C : Calls 𝓤 H} {Λ : Loops 𝓤 H} {xs : List Operand} {d : Place} {rest : Body} {p : Post 𝓤 H} where
-    pub reads : K → FmC 𝓤 H (W .laws) C → Triple 𝓤 (C #fields·read-fields) (Read 𝓤 H A mem run) → w < 2 ^ 64 → n < 2 ^ 64 → FieldsRoom (now s) at w n (now x)
+    pub reads : K → FmC 𝓤 H (W .laws) C → Triple 𝓤 (C #reader·read-fields) (Read 𝓤 H A mem run) → w < 2 ^ 64 → n < 2 ^ 64 → FieldsRoom (now s) at w n (now x)
         → Opds K W (raw (Read 𝓤 H A mem run .pre to-read) ∷ ‵ (Bytes κ s) ∷ Γ) E xs (B′.lowered (readerAt s at) ∷ vint w64 w ∷ vint w64 n ∷ cellsVal x ∷ [])
         → (length list ≡ length (now x) → Seq K W (‵ (Bytes κ s) ∷ ‵ (flft κ q) ∷ ‵ (flft κ₁ q₁) ∷ ‵ (Last x list) ∷ Γ)
         (lands C Λ E d (B′.lowered (readerAt s (at + n * w))) rest p))
-        → Seq K W (‵ (Bytes κ s) ∷ ‵ (flft κ q) ∷ ‵ (flft κ₁ q₁) ∷ ‵ (Cells κ₁ x) ∷ Γ) (runs C Λ E (seq (call #fields·read-fields xs d) rest) p)
+        → Seq K W (‵ (Bytes κ s) ∷ ‵ (flft κ q) ∷ ‵ (flft κ₁ q₁) ∷ ‵ (Cells κ₁ x) ∷ Γ) (runs C Λ E (seq (call #reader·read-fields xs d) rest) p)
     reads t fm known w-fits n-fits room os z =
         -- a copy of what the bytes own goes to the call
         use1 W (‵ (Bytes κ s) ⊛ ‵ (Bytes κ s)) (shr-slice-copy 𝓤 H A W (named 0) κ u8 .twice s (bytesVal s ∷ [])) $ split t $

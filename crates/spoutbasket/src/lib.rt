@@ -71,7 +71,7 @@ pub extern "C" fn spoutbasket_read(
     ensures { λ r. ⌜ now (outputs .exit) ≡ readOutputs edition1 (now (bytes .entry)) (length (now (steps .entry)) / 2) (now (outputs .entry)) ⌝ }
 {
     let reading = reading::read(bytes, steps, outputs);
-    tell_receiver::tell_read(reading, answer)
+    tell_files::tell_read(reading, answer)
 }
 
 // The check of a chain against a sheet.
@@ -91,7 +91,7 @@ pub extern "C" fn spoutbasket_verify(
     ensures { λ r. ⌜ now (scratch .exit) ≡ verifyScratch p (pairs (now (steps .entry))) (now (outputs .entry)) (now (amounts .entry)) (now (scratch .entry)) ⌝ }
 {
     let verified = checker::verify(p, steps, outputs, amounts, scratch);
-    tell_receiver::tell_verified(verified, answer)
+    tell_chain::tell_verified(verified, answer)
 }
 
 // The check of a chain whose steps are lent as structs, each a pair of 32-bit numbers, against a sheet.
@@ -110,7 +110,7 @@ pub extern "C" fn spoutbasket_verify_pairs(
     ensures { λ r. ⌜ now (scratch .exit) ≡ verifyScratch p (now (steps .entry)) (now (outputs .entry)) (now (amounts .entry)) (now (scratch .entry)) ⌝ }
 {
     let verified = pairs::verify_pairs(p, steps, outputs, amounts, scratch);
-    tell_receiver::tell_verified(verified, answer)
+    tell_chain::tell_verified(verified, answer)
 }
 
 // The run of a chain over residues.
@@ -135,7 +135,7 @@ pub extern "C" fn spoutbasket_run(
         (length (now (values .entry))) (now (figures .entry)) ⌝ }
 {
     let ran = runner::run(p, steps, outputs, m, bases, values, figures);
-    tell_receiver::tell_ran(ran, answer)
+    tell_chain::tell_ran(ran, answer)
 }
 
 // The run of a chain whose steps are lent as structs, each a pair of 32-bit numbers, over residues.
@@ -160,7 +160,7 @@ pub extern "C" fn spoutbasket_run_pairs(
         (length (now (values .entry))) (now (figures .entry)) ⌝ }
 {
     let ran = pairs::run_pairs(p, steps, outputs, m, bases, values, figures);
-    tell_receiver::tell_ran(ran, answer)
+    tell_chain::tell_ran(ran, answer)
 }
 
 // The choice between two files: which of them is handed back. The scratch slices are left free in content.
@@ -183,7 +183,7 @@ pub extern "C" fn spoutbasket_choose(
         (length (now (numbers .entry))))) ⌝ }
 {
     let chosen = choose::decide(p, q, amounts, a, b, steps, outputs, numbers);
-    tell_receiver::tell_chosen(chosen, answer)
+    tell_files::tell_chosen(chosen, answer)
 }
 
 // The listing of a file, as text over the front of an array with room for every listing; the answer is its length.

@@ -53,10 +53,10 @@ use Rattle.pairs.proofs.run_pairs.Met as runs-thm
 use Rattle.tell.specs.Told.{numberOf, wordsOf}
 use Rattle.spoutbasket.proofs.Telling.{Words, wordsVal, LastWords, ToTell, asks-tell}
 use Rattle.tell.specs.Inner.{ToldAs}
-use Rattle.tell_receiver.proofs.tell_ran as tell
-use Rattle.tell_receiver.proofs.tell_ran.Symbol as tell-def
-use Rattle.tell_receiver.proofs.tell_ran.Symbol.{name as #tell-receiver·tell-ran}
-use Rattle.tell_receiver.proofs.tell_ran.Met as tell-thm
+use Rattle.tell_chain.proofs.tell_ran as tell
+use Rattle.tell_chain.proofs.tell_ran.Symbol as tell-def
+use Rattle.tell_chain.proofs.tell_ran.Symbol.{name as #tell-chain·tell-ran}
+use Rattle.tell_chain.proofs.tell_ran.Met as tell-thm
 use Rattle.spoutbasket.proofs.spoutbasket_run_pairs.Key.{name as #spoutbasket·spoutbasket-run-pairs}
 use Rattle.spoutbasket.proofs.spoutbasket_run_pairs as this
 use Rattle.spoutbasket.proofs.spoutbasket_run_pairs.Statement as stated
@@ -182,7 +182,7 @@ module _ {M : Type 1} (𝓤 : URA M) (H : Heap 𝓤) (A : Atoms 𝓤) (W : Given
       nothing ! $ fjoin ! $ nothing ! $ fjoin ! $ nothing ! $ fjoin ! $ done !
 
   module _ (C : Calls 𝓤 H) (Λ : Loops 𝓤 H) (fm : FmC 𝓤 H (W .laws) C) (known : Triple 𝓤 (C #pairs·run-pairs) (Run 𝓤 H A at-mem run))
-      (known₂ : Triple 𝓤 (C #tell-receiver·tell-ran) (Tell 𝓤 H A at-mem run)) where
+      (known₂ : Triple 𝓤 (C #tell-chain·tell-ran) (Tell 𝓤 H A at-mem run)) where
     walk : Room T.the-row (length (x .now)) → Room u32 (length (x₁ .now)) → Room u32 (length (x₂ .now)) → Room u32 (length (x₃ .now))
         → Room u32 (length (x₄ .now))
         → ent 𝓤 (onEntry 𝓤 H A this.signature (κ, (κ₁, (κ₂, (κ₃, (κ₄, (κ₅, tt)))))) (q, (q₁, (q₂, (q₃, (q₄, (q₅, tt)))))) a at)
@@ -250,7 +250,7 @@ module _ {M : Type 1} (𝓤 : URA M) (H : Heap 𝓤) (A : Atoms 𝓤) (W : Given
         (us .1 .0) r e e₂ e₃ told len len₂))))))))))))))))))))))))))))))
 
 module _ {M : Type 1} (𝓤 : URA M) (H : Heap 𝓤) (A : Atoms 𝓤) (W : Given 𝓤 H A) (at-mem : Memory → SProp 𝓤) (run : Routine → Fun 𝓤) (𝓣 : Tables 𝓤 H)
-    (known : Triple 𝓤 (𝓣 .C #pairs·run-pairs) (Run 𝓤 H A at-mem run)) (known₂ : Triple 𝓤 (𝓣 .C #tell-receiver·tell-ran) (Tell 𝓤 H A at-mem run)) where
+    (known : Triple 𝓤 (𝓣 .C #pairs·run-pairs) (Run 𝓤 H A at-mem run)) (known₂ : Triple 𝓤 (𝓣 .C #tell-chain·tell-ran) (Tell 𝓤 H A at-mem run)) where
   this-walks : Walks 𝓤 H A this.ended stayed (WpFn 𝓤 H (𝓣 .C) (𝓣 .Λ) code.function) (this.clauses 𝓤 H A at-mem run)
   this-walks = walked 𝓤 H A this.ended stayed (this.clauses 𝓤 H A at-mem run) (WpFn 𝓤 H (𝓣 .C) (𝓣 .Λ) code.function)
       (λ κs. (uint-vals w64, (slice-vals, (slice-vals, (uint-vals w32, (slice-vals, (slice-vals, (slice-vals, (ptr-vals, tt)))))))))
@@ -284,7 +284,7 @@ module _ {M : Type 1} (𝓤 : URA M) (H : Heap 𝓤) (A : Atoms 𝓤) (W : Given
       (are .1 .0 .0 .1) (are .1 .1 .0 .0 .1) (are .1 .1 .1 .1 .0 .0 .1) (are .1 .1 .1 .1 .1 .0 .0 .1) (are .1 .1 .1 .1 .1 .1 .0 .0 .1)))
 
 this-meets : {M : Type 1} (𝓤 : URA M) (H : Heap 𝓤) (A : Atoms 𝓤) → Given 𝓤 H A → (at-mem : Memory → SProp 𝓤) (run : Routine → Fun 𝓤) (𝓣 : Tables 𝓤 H)
-    → Triple 𝓤 (𝓣 .C #pairs·run-pairs) (Run 𝓤 H A at-mem run) → Triple 𝓤 (𝓣 .C #tell-receiver·tell-ran) (Tell 𝓤 H A at-mem run)
+    → Triple 𝓤 (𝓣 .C #pairs·run-pairs) (Run 𝓤 H A at-mem run) → Triple 𝓤 (𝓣 .C #tell-chain·tell-ran) (Tell 𝓤 H A at-mem run)
     → Meets 𝓤 H A this.signature (WpFn 𝓤 H (𝓣 .C) (𝓣 .Λ) code.function) (this.spec 𝓤 H A at-mem run)
 this-meets 𝓤 H A W at-mem run 𝓣 known known₂ = walk-meets 𝓤 H A this.ended stayed W (
   goes-dropped 𝓤 H A W 6 (plain (λ _. usize)) yes (λ κs x f. refl),
@@ -318,4 +318,4 @@ spoutbasket-run-pairs-spec 𝓤 H 𝓜 𝓖 𝓡 =
     (tables 𝓤 H 𝓜 𝓡 code.env .C) (tables 𝓤 H 𝓜 𝓡 code.env .Λ) #spoutbasket·spoutbasket-run-pairs code.function (code.unfolded 𝓤 H 𝓜 𝓡)
     (this-meets 𝓤 H (𝓖 .A) (givenOf 𝓤 H 𝓜 𝓖) (𝓜 .mem) (𝓡 .run) (tablesOf 𝓤 H 𝓜 (tables 𝓤 H 𝓜 𝓡 code.env))
     (cited 𝓤 H (Run 𝓤 H (𝓖 .A) (𝓜 .mem) (𝓡 .run)) 𝓜 𝓡 code.env #pairs·run-pairs runs-def.routine code.calls-pairs·run-pairs (runs-thm.met 𝓤 H 𝓜 𝓖 𝓡))
-    (cited 𝓤 H (Tell 𝓤 H (𝓖 .A) (𝓜 .mem) (𝓡 .run)) 𝓜 𝓡 code.env #tell-receiver·tell-ran tell-def.routine code.calls-tell-receiver·tell-ran (tell-thm.met 𝓤 H 𝓜 𝓖 𝓡)))
+    (cited 𝓤 H (Tell 𝓤 H (𝓖 .A) (𝓜 .mem) (𝓡 .run)) 𝓜 𝓡 code.env #tell-chain·tell-ran tell-def.routine code.calls-tell-chain·tell-ran (tell-thm.met 𝓤 H 𝓜 𝓖 𝓡)))

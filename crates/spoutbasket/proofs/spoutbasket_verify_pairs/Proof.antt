@@ -53,10 +53,10 @@ use Rattle.pairs.proofs.verify_pairs.Met as check-thm
 use Rattle.tell.specs.Told.{numberOf, wordsOf}
 use Rattle.spoutbasket.proofs.Telling.{Words, wordsVal, LastWords, ToTell, asks-tell}
 use Rattle.tell.specs.Inner.{ToldAs}
-use Rattle.tell_receiver.proofs.tell_verified as tell
-use Rattle.tell_receiver.proofs.tell_verified.Symbol as tell-def
-use Rattle.tell_receiver.proofs.tell_verified.Symbol.{name as #tell-receiver·tell-verified}
-use Rattle.tell_receiver.proofs.tell_verified.Met as tell-thm
+use Rattle.tell_chain.proofs.tell_verified as tell
+use Rattle.tell_chain.proofs.tell_verified.Symbol as tell-def
+use Rattle.tell_chain.proofs.tell_verified.Symbol.{name as #tell-chain·tell-verified}
+use Rattle.tell_chain.proofs.tell_verified.Met as tell-thm
 use Rattle.spoutbasket.proofs.spoutbasket_verify_pairs.Key.{name as #spoutbasket·spoutbasket-verify-pairs}
 use Rattle.spoutbasket.proofs.spoutbasket_verify_pairs as this
 use Rattle.spoutbasket.proofs.spoutbasket_verify_pairs.Statement as stated
@@ -169,7 +169,7 @@ module _ {M : Type 1} (𝓤 : URA M) (H : Heap 𝓤) (A : Atoms 𝓤) (W : Given
       fjoin ! $ done !
 
   module _ (C : Calls 𝓤 H) (Λ : Loops 𝓤 H) (fm : FmC 𝓤 H (W .laws) C) (known : Triple 𝓤 (C #pairs·verify-pairs) (Check 𝓤 H A at-mem run))
-      (known₂ : Triple 𝓤 (C #tell-receiver·tell-verified) (Tell 𝓤 H A at-mem run)) where
+      (known₂ : Triple 𝓤 (C #tell-chain·tell-verified) (Tell 𝓤 H A at-mem run)) where
     walk : Room T.the-row (length (x .now)) → Room u32 (length (x₁ .now)) → Room u32 (length (x₂ .now)) → Room u32 (length (x₃ .now))
         → ent 𝓤 (onEntry 𝓤 H A this.signature (κ, (κ₁, (κ₂, (κ₃, (κ₄, tt))))) (q, (q₁, (q₂, (q₃, (q₄, tt))))) a at) (WpFn 𝓤 H C Λ code.function args Post)
     walk g g₁ g₂ g₃ =
@@ -225,7 +225,7 @@ module _ {M : Type 1} (𝓤 : URA M) (H : Heap 𝓤) (A : Atoms 𝓤) (W : Given
         keep ! (4 ∷ 1 ∷ 5 ∷ 2 ∷ 0 ∷ []) $ by ! (exits u n (ws .1 .1 .1 .1 .0) (us .1 .0) v e e₂ told len))))))))))))))))))))))))
 
 module _ {M : Type 1} (𝓤 : URA M) (H : Heap 𝓤) (A : Atoms 𝓤) (W : Given 𝓤 H A) (at-mem : Memory → SProp 𝓤) (run : Routine → Fun 𝓤) (𝓣 : Tables 𝓤 H)
-    (known : Triple 𝓤 (𝓣 .C #pairs·verify-pairs) (Check 𝓤 H A at-mem run)) (known₂ : Triple 𝓤 (𝓣 .C #tell-receiver·tell-verified) (Tell 𝓤 H A at-mem run)) where
+    (known : Triple 𝓤 (𝓣 .C #pairs·verify-pairs) (Check 𝓤 H A at-mem run)) (known₂ : Triple 𝓤 (𝓣 .C #tell-chain·tell-verified) (Tell 𝓤 H A at-mem run)) where
   this-walks : Walks 𝓤 H A this.ended stayed (WpFn 𝓤 H (𝓣 .C) (𝓣 .Λ) code.function) (this.clauses 𝓤 H A at-mem run)
   this-walks = walked 𝓤 H A this.ended stayed (this.clauses 𝓤 H A at-mem run) (WpFn 𝓤 H (𝓣 .C) (𝓣 .Λ) code.function)
       (λ κs. (uint-vals w64, (slice-vals, (slice-vals, (slice-vals, (slice-vals, (ptr-vals, tt)))))))
@@ -249,7 +249,7 @@ module _ {M : Type 1} (𝓤 : URA M) (H : Heap 𝓤) (A : Atoms 𝓤) (W : Given
       (are .1 .0 .0 .1) (are .1 .1 .0 .0 .1) (are .1 .1 .1 .0 .0 .1) (are .1 .1 .1 .1 .0 .0 .1)))
 
 this-meets : {M : Type 1} (𝓤 : URA M) (H : Heap 𝓤) (A : Atoms 𝓤) → Given 𝓤 H A → (at-mem : Memory → SProp 𝓤) (run : Routine → Fun 𝓤) (𝓣 : Tables 𝓤 H)
-    → Triple 𝓤 (𝓣 .C #pairs·verify-pairs) (Check 𝓤 H A at-mem run) → Triple 𝓤 (𝓣 .C #tell-receiver·tell-verified) (Tell 𝓤 H A at-mem run)
+    → Triple 𝓤 (𝓣 .C #pairs·verify-pairs) (Check 𝓤 H A at-mem run) → Triple 𝓤 (𝓣 .C #tell-chain·tell-verified) (Tell 𝓤 H A at-mem run)
     → Meets 𝓤 H A this.signature (WpFn 𝓤 H (𝓣 .C) (𝓣 .Λ) code.function) (this.spec 𝓤 H A at-mem run)
 this-meets 𝓤 H A W at-mem run 𝓣 known known₂ = walk-meets 𝓤 H A this.ended stayed W (
   goes-dropped 𝓤 H A W 5 (plain (λ _. usize)) yes (λ κs x f. refl),
@@ -274,4 +274,4 @@ spoutbasket-verify-pairs-spec 𝓤 H 𝓜 𝓖 𝓡 =
     (tables 𝓤 H 𝓜 𝓡 code.env .C) (tables 𝓤 H 𝓜 𝓡 code.env .Λ) #spoutbasket·spoutbasket-verify-pairs code.function (code.unfolded 𝓤 H 𝓜 𝓡)
     (this-meets 𝓤 H (𝓖 .A) (givenOf 𝓤 H 𝓜 𝓖) (𝓜 .mem) (𝓡 .run) (tablesOf 𝓤 H 𝓜 (tables 𝓤 H 𝓜 𝓡 code.env))
     (cited 𝓤 H (Check 𝓤 H (𝓖 .A) (𝓜 .mem) (𝓡 .run)) 𝓜 𝓡 code.env #pairs·verify-pairs check-def.routine code.calls-pairs·verify-pairs (check-thm.met 𝓤 H 𝓜 𝓖 𝓡))
-    (cited 𝓤 H (Tell 𝓤 H (𝓖 .A) (𝓜 .mem) (𝓡 .run)) 𝓜 𝓡 code.env #tell-receiver·tell-verified tell-def.routine code.calls-tell-receiver·tell-verified (tell-thm.met 𝓤 H 𝓜 𝓖 𝓡)))
+    (cited 𝓤 H (Tell 𝓤 H (𝓖 .A) (𝓜 .mem) (𝓡 .run)) 𝓜 𝓡 code.env #tell-chain·tell-verified tell-def.routine code.calls-tell-chain·tell-verified (tell-thm.met 𝓤 H 𝓜 𝓖 𝓡)))

@@ -1,11 +1,9 @@
-// How what a receiver calls answers across the C interface: read, the check, the run and the chooser.
-ghost use Rattle.answers.specs.Answers.{readOf, verifiedOf, ranOf, choiceOf};
+// How what a receiver does with files answers across the C interface: read and the chooser.
+ghost use Rattle.answers.specs.Answers.{readOf, choiceOf};
 ghost use Rattle.tell.specs.Told.{choiceAnswer};
 ghost use Rattle.tell.specs.Inner.{ToldAs};
 use answers::Chosen;
-use answers::Ran;
 use answers::Reading;
-use answers::Verified;
 use tell::tell;
 
 // What a read answered.
@@ -15,26 +13,6 @@ pub fn tell_read(reading: Reading, answer: &mut [u64; 4]) -> u32
     match reading {
         Reading::Refused(number, place) => tell(number, place, 0, 0, answer),
         Reading::Chain { p, q, n } => tell(0, p, q, n, answer),
-    }
-}
-
-// What a check answered.
-pub fn tell_verified(verified: Verified, answer: &mut [u64; 4]) -> u32
-    ensures { λ r. ⌜ ToldAs (verifiedOf verified) r (now (answer .exit)) ⌝ }
-{
-    match verified {
-        Verified::Refused(number, place) => tell(number, place, 0, 0, answer),
-        Verified::Passed => tell(0, 0, 0, 0, answer),
-    }
-}
-
-// What a run answered.
-pub fn tell_ran(ran: Ran, answer: &mut [u64; 4]) -> u32
-    ensures { λ r. ⌜ ToldAs (ranOf ran) r (now (answer .exit)) ⌝ }
-{
-    match ran {
-        Ran::Refused(number, place) => tell(number, place, 0, 0, answer),
-        Ran::Multiplications(n) => tell(0, n, 0, 0, answer),
     }
 }
 

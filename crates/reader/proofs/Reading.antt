@@ -83,9 +83,12 @@ module _ {M : Type 1} (𝓤 : URA M) (H : Heap 𝓤) (A : Atoms 𝓤) (mem : Mem
   abbrev Found : BitReader → List ℕ → Type 0
   Found r new = FieldsTaken (now s) at w n (now x) new (r .cursor .at) × (r .bytes ≡ s)
 
-  -- the contract leaves one result
+  -- the contract leaves one result, and one list in the cells
   is-past : (r : BitReader) (new : List ℕ) → Found r new → r ≡ readerAt s (at + n * w)
   is-past r new (taken, same) = ap₂ readerAt same (taken .moved)
+
+  is-taken : (r : BitReader) (new : List ℕ) → Found r new → new ≡ list
+  is-taken r new (taken, same) = taken .is
 
   module _ {K : Type 0} {W : Given 𝓤 H A} {Γ : List (Item 𝓤)} {E : Env 𝓤 H} {C : Calls 𝓤 H} {Λ : Loops 𝓤 H} {xs : List Operand} {d : Place} {rest : Body} {p : Post 𝓤 H} where
     pub reads : K → FmC 𝓤 H (W .laws) C → Triple 𝓤 (C #reader·read-fields) (Read 𝓤 H A mem run) → w < 2 ^ 64 → n < 2 ^ 64 → FieldsRoom (now s) at w n (now x)
@@ -110,7 +113,7 @@ module _ {M : Type 1} (𝓤 : URA M) (H : Heap 𝓤) (A : Atoms 𝓤) (mem : Mem
         (shows 𝓤 H A (B.the-row (lifetime κ))) r (u ∷ []) (λ is. drop t $
         split t $ move t (1 ∷ []) $ split t $ move t (1 ∷ []) $ drop t $ move t (3 ∷ []) $ drop t $
         -- [κ₁'s token; κ's; the last list; the bytes'; …]
-        move t (3 ∷ 1 ∷ 0 ∷ 2 ∷ []) $ rewrite t 3 (λ (l : List ℕ). ‵ (Last x l)) (e .0 .is) refl $
+        move t (3 ∷ 1 ∷ 0 ∷ 2 ∷ []) $ rewrite t 3 (λ (l : List ℕ). ‵ (Last x l)) (is-taken r (ws .1 .1 .1 .0) e) refl $
         subst (λ (v : Val). Seq K W (‵ (Bytes κ s) ∷ ‵ (flft κ q) ∷ ‵ (flft κ₁ q₁) ∷ ‵ (Last x list) ∷ Γ) (lands C Λ E d v rest p))
         (sym (ap only (LL.tells (B.the-type (lifetime κ)) (B′.the-laws (lifetime κ)) r _ is) ∙ ap B′.lowered (is-past r (ws .1 .1 .1 .0) e)))
-        (z (sym (ap length (e .0 .is)) ∙ len))))))))
+        (z (sym (ap length (is-taken r (ws .1 .1 .1 .0) e)) ∙ len))))))))

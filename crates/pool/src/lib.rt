@@ -1,0 +1,125 @@
+// Two chains that are to be one, judged: each as it stands and both together.
+ghost use mathlib.Core.Path.{_≡_};
+ghost use Prim.Native.Nat.{_/_, _≤_};
+ghost use lib.ListN.{length};
+ghost use Rattle.chain.specs.Judgement.{verdictOf};
+ghost use Rattle.chain.specs.Chain.{pairs};
+ghost use Rattle.pool.specs.Pool.{part, columnsRule, lengthsRule, bothStepsRule, bothOutputsRule, poolableRule};
+ghost use Rattle.pool.specs.Inner.{StepsAsked, OutputsAsked};
+use chain::Judgement;
+
+// 1 for each part and for both together, then 17.
+fn judge_columns(p1: usize, q1: usize, p2: usize, q2: usize) -> Judgement
+    ensures { λ r. ⌜ verdictOf r ≡ columnsRule p1 q1 p2 q2 ⌝ }
+{
+    match shape::judge_sizes(p1, q1) {
+        Judgement::Refused(number, place) => {
+            return Judgement::Refused(number, place);
+        }
+        Judgement::Fine => {}
+    }
+    match shape::judge_sizes(p2, q2) {
+        Judgement::Refused(number, place) => {
+            return Judgement::Refused(number, place);
+        }
+        Judgement::Fine => {}
+    }
+    if chain::MOST_PAYSLIPS < q1 + q2 {
+        return Judgement::Refused(1, 0);
+    }
+    if p1 != p2 {
+        return Judgement::Refused(17, 0);
+    }
+    Judgement::Fine
+}
+
+// 4 for each part and for both together.
+fn judge_lengths(n1: usize, n2: usize) -> Judgement
+    ensures { λ r. ⌜ verdictOf r ≡ lengthsRule n1 n2 ⌝ }
+{
+    match shape::judge_length(chain::MOST_STEPS, n1) {
+        Judgement::Refused(number, place) => {
+            return Judgement::Refused(number, place);
+        }
+        Judgement::Fine => {}
+    }
+    match shape::judge_length(chain::MOST_STEPS, n2) {
+        Judgement::Refused(number, place) => {
+            return Judgement::Refused(number, place);
+        }
+        Judgement::Fine => {}
+    }
+    shape::judge_length(chain::MOST_STEPS, n1 + n2)
+}
+
+// The steps of the first part, then of the second, whose places count on.
+fn judge_steps(p1: usize, steps1: &[u32], p2: usize, steps2: &[u32]) -> Judgement
+    requires { ⌜ StepsAsked p1 (length (now steps1) / 2) p2 (length (now steps2) / 2) ⌝ }
+    ensures { λ r. ⌜ verdictOf r ≡ bothStepsRule p1 (pairs (now (steps1 .entry))) p2 (pairs (now (steps2 .entry))) ⌝ }
+{
+    match legal::judge_steps(p1, steps1) {
+        Judgement::Refused(number, place) => {
+            return Judgement::Refused(number, place);
+        }
+        Judgement::Fine => {}
+    }
+    match legal::judge_steps(p2, steps2) {
+        Judgement::Refused(number, place) => Judgement::Refused(number, steps1.len() / 2 + place),
+        Judgement::Fine => Judgement::Fine,
+    }
+}
+
+// 12 for the outputs of the first part, then of the second, whose places count on; top is the number of a part's last value.
+fn judge_outputs(top1: usize, outputs1: &[u32], top2: usize, outputs2: &[u32]) -> Judgement
+    requires { ⌜ OutputsAsked (length (now outputs1)) (length (now outputs2)) ⌝ }
+    ensures { λ r. ⌜ verdictOf r ≡ bothOutputsRule top1 (now (outputs1 .entry)) top2 (now (outputs2 .entry)) ⌝ }
+{
+    match legal::judge_outputs(top1, outputs1) {
+        Judgement::Refused(number, place) => {
+            return Judgement::Refused(number, place);
+        }
+        Judgement::Fine => {}
+    }
+    match legal::judge_outputs(top2, outputs2) {
+        Judgement::Refused(number, place) => Judgement::Refused(number, outputs1.len() + place),
+        Judgement::Fine => Judgement::Fine,
+    }
+}
+
+// All that is found against two parts before anything lent is looked at: 1, 17, 4, steps, 12.
+pub fn judge_parts(
+    p1: usize,
+    steps1: &[u32],
+    outputs1: &[u32],
+    p2: usize,
+    steps2: &[u32],
+    outputs2: &[u32],
+) -> Judgement
+    ensures { λ r. ⌜ verdictOf r ≡ poolableRule (part p1 (pairs (now (steps1 .entry))) (now (outputs1 .entry)))
+        (part p2 (pairs (now (steps2 .entry))) (now (outputs2 .entry))) ⌝ }
+{
+    match judge_columns(p1, outputs1.len(), p2, outputs2.len()) {
+        Judgement::Refused(number, place) => {
+            return Judgement::Refused(number, place);
+        }
+        Judgement::Fine => {}
+    }
+    match judge_lengths(steps1.len() / 2, steps2.len() / 2) {
+        Judgement::Refused(number, place) => {
+            return Judgement::Refused(number, place);
+        }
+        Judgement::Fine => {}
+    }
+    match judge_steps(p1, steps1, p2, steps2) {
+        Judgement::Refused(number, place) => {
+            return Judgement::Refused(number, place);
+        }
+        Judgement::Fine => {}
+    }
+    judge_outputs(
+        p1 + steps1.len() / 2,
+        outputs1,
+        p2 + steps2.len() / 2,
+        outputs2,
+    )
+}

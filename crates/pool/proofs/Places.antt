@@ -1,0 +1,44 @@
+-- The place of a refused step or output is one of the list's own, so that it can be counted on.
+use mathlib.Core.Path.{_≡_, ap}
+use mathlib.Core.Bool.{Bool, true, false}
+use mathlib.Core.List.{List, [], _∷_}
+use Prim.Native.Nat.{ℕ, suc, _+_, _/_, _≤_}
+use native.Mathlib.Omega.{arith}
+use lib.ListN.{length}
+use Rattle.chain.specs.Verdict.{Verdict, fine, refused, _then_, refuseIf}
+use Rattle.chain.specs.Chain.{pairs, stepRule, stepsRule, outputsRule}
+use Rattle.chain.specs.declared.Step.{Step}
+use Rattle.chain.proofs.Pairs.{length-pairs}
+
+-- the place that a verdict tells, 0 for none
+abbrev placeIn : Verdict → ℕ
+placeIn fine = 0
+placeIn (refused n s) = s
+
+place-then : (k : ℕ) (a b : Verdict) → placeIn a ≤ k → placeIn b ≤ k → placeIn (a then b) ≤ k
+unfolding _then_
+place-then k fine b g h = h
+place-then k (refused n s) b g h = g
+
+place-if : (k : ℕ) (t : Bool) (n s : ℕ) → s ≤ k → placeIn (refuseIf t n s) ≤ k
+unfolding refuseIf
+place-if k true n s h = h
+place-if k false n s h = omega arith
+
+place-step : (k v s : ℕ) (x : Step) → s ≤ k → placeIn (stepRule v s x) ≤ k
+unfolding stepRule
+place-step k v s x h = place-then k _ _ (place-if k _ 9 s h) (place-then k _ _ (place-if k _ 10 s h) (place-if k _ 11 s h))
+
+place-steps : (k p s : ℕ) (l : List Step) → s + length l ≤ k + 1 → placeIn (stepsRule p s l) ≤ k
+place-steps k p s [] h = omega arith
+place-steps k p s (x ∷ l) h = place-then k _ _ (place-step k (p + s) s x (omega arith)) (place-steps k p (suc s) l (omega arith))
+
+place-outputs : (k top i : ℕ) (l : List ℕ) → i + length l ≤ k + 1 → placeIn (outputsRule top i l) ≤ k
+place-outputs k top i [] h = omega arith
+place-outputs k top i (o ∷ l) h = place-then k _ _ (place-if k _ 12 i (omega arith)) (place-outputs k top (suc i) l (omega arith))
+
+pub step-place : (p n s : ℕ) (l : List ℕ) → refused n s ≡ stepsRule p 1 (pairs l) → s ≤ length l / 2
+step-place p n s l e = rw (ap placeIn e) (place-steps (length l / 2) p 1 (pairs l) (omega (arith, length-pairs l)))
+
+pub output-place : (top n s : ℕ) (l : List ℕ) → refused n s ≡ outputsRule top 1 l → s ≤ length l
+output-place top n s l e = rw (ap placeIn e) (place-outputs (length l) top 1 l (omega arith))

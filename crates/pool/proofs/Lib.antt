@@ -1,3 +1,5 @@
 pub mod Counted
 pub mod Places
 pub mod Parts
+pub mod Poolable
+pub mod Numbers

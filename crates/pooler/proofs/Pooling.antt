@@ -1,0 +1,78 @@
+-- What two parts that pool leave room for and leave behind: no number goes past 32 bits, and both lists one after the other are the pool's.
+use mathlib.Core.Path.{_≡_, sym, ap, ap₂, _∙_}
+use mathlib.Core.List.{List, _++_, map}
+use Prim.Native.Nat.{ℕ, _+_, _*_, _/_, _^_, _≤_, _<_}
+use native.Mathlib.Omega.{arith}
+use lib.ListN.{length, getD, take, length-append, length-map}
+use lib.Seq.{getD-take, take-length}
+use Rattle.chain.specs.Verdict.{fine, refused}
+use Rattle.chain.specs.Chain.{mostColumns, mostSteps, pairs, flat, stepsRule, outputsRule}
+use Rattle.chain.specs.declared.Step.{Step}
+use Rattle.chain.proofs.Rules.{stop, judging}
+use Rattle.chain.proofs.Steps.{flat-low}
+use Rattle.chain.proofs.Outputs.{outputs-low}
+use Rattle.chain.proofs.Pairs.{length-pairs, take-flat, flat-append}
+use Rattle.pool.specs.Pool.{Part, part, renumbered, renumberedStep, pooledSteps, pooledOutputs, poolableRule, poolRule}
+use Rattle.pool.proofs.Numbers.{flat-renumbered}
+use Rattle.pooler.specs.Inner.{Raisable}
+
+-- the numbers of a part's lists are far from the end of 32 bits
+module _ (p n k : ℕ) (p-low : p ≤ mostColumns) (n-low : n ≤ mostSteps) (k-low : k ≤ mostSteps) (l : List ℕ) where
+  pub steps-raisable : k ≡ length l / 2 → stepsRule p 1 (pairs l) ≡ fine → Raisable n l (2 * k)
+  steps-raisable is ok = record { there = omega arith; low = low }
+    where
+      low : (i : ℕ) → i < 2 * k → getD l i 0 + n < 2 ^ 32
+      low i h =
+          let front : take (2 * k) l ≡ flat (pairs l) = ap (λ (j : ℕ). take (2 * j) l) is ∙ take-flat l in
+          let same : getD l i 0 ≡ getD (flat (pairs l)) i 0 = sym (getD-take (2 * k) l i 0 h) ∙ ap (λ (t : List ℕ). getD t i 0) front in
+          omega (arith, same, flat-low p 1 (p + k) (pairs l) ok (omega (arith, length-pairs l)) i)
+
+  pub outputs-raisable : outputsRule (p + k) 1 l ≡ fine → Raisable n l (length l)
+  outputs-raisable ok = record { there = omega arith; low = λ i h. omega (arith, outputs-low (p + k) 1 l ok i h) }
+
+-- the pool of two flat parts
+module _ (p p′ : ℕ) (l l′ o o′ : List ℕ) where
+  abbrev a : Part
+  a = part p (pairs l) o
+
+  abbrev b : Part
+  b = part p′ (pairs l′) o′
+
+  pub pooled-count : length l / 2 + length l′ / 2 ≡ length (pooledSteps a b)
+  pooled-count =
+      omega (arith, length-pairs l, length-pairs l′, length-append (pairs l) (map (renumberedStep p′ (length (pairs l))) (pairs l′)), length-map (pairs l′) (renumberedStep p′ (length (pairs l))))
+
+  pub pooled-payslips : length o + length o′ ≡ length (pooledOutputs a b)
+  pooled-payslips =
+      omega (arith, length-append o (map (renumbered p′ (length (pairs l))) o′), length-map o′ (renumbered p′ (length (pairs l))))
+
+  pub pooled-steps : take (2 * (length l / 2)) l ++ map (renumbered p′ (length l / 2)) (take (2 * (length l′ / 2)) l′) ≡ flat (pooledSteps a b)
+  pooled-steps =
+      ap₂ (λ (s t : List ℕ). s ++ map (renumbered p′ (length l / 2)) t) (take-flat l) (take-flat l′)
+      ∙ ap (λ (n : ℕ). flat (pairs l) ++ map (renumbered p′ n) (flat (pairs l′))) (sym (length-pairs l))
+      ∙ ap (λ (t : List ℕ). flat (pairs l) ++ t) (sym (flat-renumbered p′ (length (pairs l)) (pairs l′)))
+      ∙ sym (flat-append (pairs l) (map (renumberedStep p′ (length (pairs l))) (pairs l′)))
+
+  pub pooled-outputs : take (length o) o ++ map (renumbered p′ (length l / 2)) (take (length o′) o′) ≡ pooledOutputs a b
+  pooled-outputs =
+      ap₂ (λ (s t : List ℕ). s ++ map (renumbered p′ (length l / 2)) t) (take-length o) (take-length o′)
+      ∙ ap (λ (n : ℕ). o ++ map (renumbered p′ n) o′) (sym (length-pairs l))
+
+-- the verdict, by what was found against the parts and by the room lent
+module _ (a b : Part) (room places : ℕ) where
+  pub parts-refused : (n s : ℕ) → refused n s ≡ poolableRule a b → refused n s ≡ poolRule a b room places
+  unfolding poolRule
+  parts-refused n s e = stop _ _ n s e
+
+  module _ (ok : fine ≡ poolableRule a b) where
+    pub steps-short : room < length (pooledSteps a b) → refused 5 0 ≡ poolRule a b room places
+    unfolding poolRule
+    steps-short h = search judging depth 8
+
+    pub outputs-short : places < length (pooledOutputs a b) → refused 5 0 ≡ poolRule a b room places
+    unfolding poolRule
+    outputs-short h = search judging depth 8
+
+    pub room-enough : length (pooledSteps a b) ≤ room → length (pooledOutputs a b) ≤ places → fine ≡ poolRule a b room places
+    unfolding poolRule
+    room-enough h g = search judging depth 8

@@ -1,0 +1,5 @@
+pub mod Poolable
+pub mod Renumbered
+pub mod Values
+pub mod Outputs
+pub mod Legal

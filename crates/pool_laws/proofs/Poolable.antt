@@ -1,0 +1,70 @@
+-- What it means that two parts pool: each is a legal chain, both have the same columns, and both together keep to the limits.
+use mathlib.Core.Path.{_≡_}
+use Prim.Native.Nat.{ℕ, _+_, _≤_}
+use native.Mathlib.Omega.{arith}
+use lib.ListN.{length}
+use Rattle.chain.specs.Verdict.{Verdict, fine, refused}
+use Rattle.chain.specs.Chain.{mostPayslips, mostSteps, Legal, stepsRule, outputsRule}
+use Rattle.chain.proofs.Rules.{then-fine, refuseIf-fine, not-lt, not-ne, not-fine}
+use Rattle.chain.proofs.Sizes.{Sizes, sizes-fit, length-fits}
+use Rattle.chain.proofs.Legal.{parts-legal, parts-chain}
+use Rattle.pool.specs.Pool.{Part, counted, columnsRule, lengthsRule, bothStepsRule, bothOutputsRule, poolableRule}
+
+pub record Poolable (a b : Part) : Type 0 where
+  pub columns : a .p ≡ b .p
+  pub sizes : Sizes (a .p) (length (a .outputs))
+  pub sizes′ : Sizes (b .p) (length (b .outputs))
+  pub payslips : length (a .outputs) + length (b .outputs) ≤ mostPayslips
+  pub few : length (a .steps) + length (b .steps) ≤ mostSteps
+  pub steps-fine : stepsRule (a .p) 1 (a .steps) ≡ fine
+  pub steps-fine′ : stepsRule (b .p) 1 (b .steps) ≡ fine
+  pub outputs-fine : outputsRule (a .p + length (a .steps)) 1 (a .outputs) ≡ fine
+  pub outputs-fine′ : outputsRule (b .p + length (b .steps)) 1 (b .outputs) ≡ fine
+
+counted-fine : (k : ℕ) (v : Verdict) → counted k v ≡ fine → v ≡ fine
+unfolding counted
+counted-fine k fine e = e
+counted-fine k (refused n s) e = absurd (not-fine e)
+
+pub poolable : (a b : Part) → poolableRule a b ≡ fine → Poolable a b
+unfolding poolableRule columnsRule lengthsRule bothStepsRule bothOutputsRule
+poolable a b e =
+    let h = then-fine _ _ e in
+    let k = then-fine _ _ (h .1) in
+    let l = then-fine _ _ (k .1) in
+    let sizes = then-fine _ _ (h .0) in
+    let sizes′ = then-fine _ _ (sizes .1) in
+    let columns = then-fine _ _ (sizes′ .1) in
+    let lengths = then-fine _ _ (then-fine _ _ (k .0) .1) in
+    let steps = then-fine _ _ (l .0) in
+    let outputs = then-fine _ _ (l .1) in
+    record {
+      columns = not-ne _ _ (refuseIf-fine _ 17 0 (columns .1));
+      sizes = sizes-fit _ _ (sizes .0);
+      sizes′ = sizes-fit _ _ (sizes′ .0);
+      payslips = not-lt _ _ (refuseIf-fine _ 1 0 (columns .0));
+      few = length-fits _ _ (lengths .1);
+      steps-fine = steps .0;
+      steps-fine′ = counted-fine _ _ (steps .1);
+      outputs-fine = outputs .0;
+      outputs-fine′ = counted-fine _ _ (outputs .1);
+    }
+
+module _ (a b : Part) (both : Poolable a b) where
+  pub first-legal : Legal (a .p) (a .steps) (a .outputs)
+  first-legal =
+      parts-legal _ _ _
+      (record {
+        sizes = both .sizes;
+        few = omega (arith, both .few);
+        chain = parts-chain _ _ _ (both .steps-fine) (both .outputs-fine);
+      })
+
+  pub second-legal : Legal (b .p) (b .steps) (b .outputs)
+  second-legal =
+      parts-legal _ _ _
+      (record {
+        sizes = both .sizes′;
+        few = omega (arith, both .few);
+        chain = parts-chain _ _ _ (both .steps-fine′) (both .outputs-fine′);
+      })

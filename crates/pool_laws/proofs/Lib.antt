@@ -3,3 +3,5 @@ pub mod Renumbered
 pub mod Values
 pub mod Outputs
 pub mod Legal
+pub mod Findings
+pub mod Exponents

@@ -5,3 +5,7 @@ pub mod Outputs
 pub mod Legal
 pub mod Findings
 pub mod Exponents
+pub mod Payslips
+pub mod Passes
+pub mod Figures
+pub mod Runs

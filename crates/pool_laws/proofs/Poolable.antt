@@ -1,11 +1,12 @@
 -- What it means that two parts pool: each is a legal chain, both have the same columns, and both together keep to the limits.
-use mathlib.Core.Path.{_≡_}
+use mathlib.Core.Path.{_≡_, sym}
+use mathlib.Core.Logic.{_↔_}
 use Prim.Native.Nat.{ℕ, _+_, _≤_}
 use native.Mathlib.Omega.{arith}
 use lib.ListN.{length}
-use Rattle.chain.specs.Verdict.{Verdict, fine, refused}
+use Rattle.chain.specs.Verdict.{Verdict, fine, refused, _then_}
 use Rattle.chain.specs.Chain.{mostPayslips, mostSteps, Legal, stepsRule, outputsRule}
-use Rattle.chain.proofs.Rules.{then-fine, refuseIf-fine, not-lt, not-ne, not-fine}
+use Rattle.chain.proofs.Rules.{then-fine, refuseIf-fine, not-lt, not-ne, not-fine, pass}
 use Rattle.chain.proofs.Sizes.{Sizes, sizes-fit, length-fits}
 use Rattle.chain.proofs.Legal.{parts-legal, parts-chain}
 use Rattle.pool.specs.Pool.{Part, counted, columnsRule, lengthsRule, bothStepsRule, bothOutputsRule, poolableRule}
@@ -21,10 +22,17 @@ pub record Poolable (a b : Part) : Type 0 where
   pub outputs-fine : outputsRule (a .p + length (a .steps)) 1 (a .outputs) ≡ fine
   pub outputs-fine′ : outputsRule (b .p + length (b .steps)) 1 (b .outputs) ≡ fine
 
-counted-fine : (k : ℕ) (v : Verdict) → counted k v ≡ fine → v ≡ fine
+-- nothing is found in two parts exactly if nothing is found in either
+pub both-fine : (k : ℕ) (v v′ : Verdict) → (v then counted k v′) ≡ fine ↔ ((v ≡ fine) × (v′ ≡ fine))
 unfolding counted
-counted-fine k fine e = e
-counted-fine k (refused n s) e = absurd (not-fine e)
+both-fine k v v′ = (λ e. let h = then-fine v (counted k v′) e in (h .0, uncounted v′ (h .1)), λ h. sym (pass _ _ fine (sym (h .0)) (recounted (h .1))))
+  where
+    uncounted : (v : Verdict) → counted k v ≡ fine → v ≡ fine
+    uncounted fine e = e
+    uncounted (refused n s) e = absurd (not-fine e)
+
+    recounted : v′ ≡ fine → fine ≡ counted k v′
+    recounted e = rw (e, counted)
 
 pub poolable : (a b : Part) → poolableRule a b ≡ fine → Poolable a b
 unfolding poolableRule columnsRule lengthsRule bothStepsRule bothOutputsRule
@@ -36,8 +44,8 @@ poolable a b e =
     let sizes′ = then-fine _ _ (sizes .1) in
     let columns = then-fine _ _ (sizes′ .1) in
     let lengths = then-fine _ _ (then-fine _ _ (k .0) .1) in
-    let steps = then-fine _ _ (l .0) in
-    let outputs = then-fine _ _ (l .1) in
+    let steps = both-fine _ _ _ .0 (l .0) in
+    let outputs = both-fine _ _ _ .0 (l .1) in
     record {
       columns = not-ne _ _ (refuseIf-fine _ 17 0 (columns .1));
       sizes = sizes-fit _ _ (sizes .0);
@@ -45,9 +53,9 @@ poolable a b e =
       payslips = not-lt _ _ (refuseIf-fine _ 1 0 (columns .0));
       few = length-fits _ _ (lengths .1);
       steps-fine = steps .0;
-      steps-fine′ = counted-fine _ _ (steps .1);
+      steps-fine′ = steps .1;
       outputs-fine = outputs .0;
-      outputs-fine′ = counted-fine _ _ (outputs .1);
+      outputs-fine′ = outputs .1;
     }
 
 module _ (a b : Part) (both : Poolable a b) where

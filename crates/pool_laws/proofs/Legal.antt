@@ -1,6 +1,6 @@
 -- The pool of two parts is a legal chain: each step and output of the second stays legal under its new numbers.
-use mathlib.Core.Path.{_≡_, refl, sym, ap, _∙_}
-use mathlib.Core.List.{List, [], _∷_, _++_, map}
+use mathlib.Core.Path.{_≡_, refl, sym, _∙_}
+use mathlib.Core.List.{List, [], _∷_, map}
 use Prim.Native.Nat.{ℕ, suc, _+_}
 use native.Mathlib.Omega.{arith}
 use lib.ListN.{length, length-append, length-map}
@@ -13,7 +13,7 @@ use Rattle.chain.proofs.Outputs.{outputs-low, low-outputs}
 use Rattle.chain.proofs.Legal.{parts-legal, parts-chain}
 use Rattle.pool.specs.Pool.{Part, renumberedStep, poolableRule, pooledSteps, pooledOutputs}
 use Rattle.pool_laws.proofs.Poolable.{poolable}
-use Rattle.pool_laws.proofs.Renumbered.{renumbered-legal}
+use Rattle.pool_laws.proofs.Renumbered.{joinedSteps, renumbered-legal}
 use Rattle.pool_laws.proofs.Outputs.{outputs-pooled}
 
 steps-renumbered : (p n s : ℕ) (steps : List Step) → stepsRule p s steps ≡ fine → stepsRule p (s + n) (map (renumberedStep p n) steps) ≡ fine
@@ -25,8 +25,8 @@ steps-renumbered p n s (x ∷ r) ok =
     let legal = legal-step (p + s + n) (s + n) _ (renumbered-legal p n (p + s) x (step-legal (p + s) s x (h .0))) in
     sym (pass _ _ fine (rw made (sym legal)) (rw next (sym (steps-renumbered p n (suc s) r (h .1)))))
 
-pub steps-pooled : (p : ℕ) (steps steps′ : List Step) → stepsRule p 1 steps ≡ fine → stepsRule p 1 steps′ ≡ fine
-    → stepsRule p 1 (steps ++ map (renumberedStep p (length steps)) steps′) ≡ fine
+steps-pooled : (p : ℕ) (steps steps′ : List Step) → stepsRule p 1 steps ≡ fine → stepsRule p 1 steps′ ≡ fine
+    → stepsRule p 1 (joinedSteps p steps steps′) ≡ fine
 steps-pooled p steps steps′ ok ok′ =
     steps-append p 1 steps _ ∙ sym (pass _ _ fine (sym ok) (sym (steps-renumbered p (length steps) 1 steps′ ok′)))
 

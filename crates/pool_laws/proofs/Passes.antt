@@ -2,7 +2,7 @@
 use mathlib.Core.Path.{_≡_, sym, _∙_}
 use mathlib.Core.Logic.{_↔_}
 use mathlib.Core.List.{List, _++_}
-use Prim.Native.Nat.{ℕ, _+_, _*_}
+use Prim.Native.Nat.{ℕ, _*_}
 use native.Mathlib.Nat.{le-refl, mul-add}
 use native.Mathlib.Omega.{arith}
 use lib.ListN.{length, length-append, length-map}
@@ -13,7 +13,7 @@ use Rattle.verify.specs.Verify.{exponentsRule, payslipsRule, verifyRule}
 use Rattle.verify.proofs.Fitting.{fits}
 use Rattle.pool.specs.Pool.{Part, pooledOutputs, poolableRule}
 use Rattle.pool_laws.specs.Pooled.{pooled, Passes}
-use Rattle.pool_laws.proofs.Poolable.{poolable, both-fine, first-legal, second-legal}
+use Rattle.pool_laws.proofs.Poolable.{poolable, both-fine}
 use Rattle.pool_laws.proofs.Legal.{pool-legal}
 use Rattle.pool_laws.proofs.Exponents.{pool-exponents}
 use Rattle.pool_laws.proofs.Payslips.{pool-payslips}
@@ -41,9 +41,8 @@ pool-passes a b amounts amounts′ e fit fit′ =
     let exponents = pool-exponents a b e in
     let payslips = pool-payslips a b amounts amounts′ e fit in
     let whole = passes-rules (pooled a b) (amounts ++ amounts′) (pool-legal a b e) (amounts-pooled a b amounts amounts′ (both .columns) fit fit′) in
-    let first = passes-rules a amounts (first-legal a b both) fit in
-    let second = passes-rules b amounts′ (second-legal a b both) fit′ in
-    (
+    let first = passes-rules a amounts (both .legal) fit in
+    let second = passes-rules b amounts′ (both .legal′) fit′ in (
       λ passes.
           let low = both-fine _ _ _ .0 (sym exponents ∙ whole .0 passes .0) in
           let made = both-fine _ _ _ .0 (sym payslips ∙ whole .0 passes .1) in

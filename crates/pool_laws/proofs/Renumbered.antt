@@ -1,12 +1,21 @@
 -- The numbers of the second part's values in the pool: those up to p stay, those above are higher by n, and their order stays.
 use mathlib.Core.Path.{_≡_}
+use mathlib.Core.List.{List, _++_, map}
 use Prim.Native.Nat.{ℕ, _+_, _≤_, _<_}
 use native.Mathlib.Decide.{decLt}
 use native.Mathlib.Omega.{arith}
+use lib.ListN.{length}
 use Rattle.chain.specs.declared.Step.{Step}
 use Rattle.chain.proofs.Rules.{lt-yes, lt-no}
 use Rattle.chain.proofs.Steps.{LegalStep}
 use Rattle.pool.specs.Pool.{renumbered, renumberedStep}
+
+-- the pool's steps and outputs, for parts that have the same p
+abbrev pub joinedSteps : ℕ → List Step → List Step → List Step
+joinedSteps p steps steps′ = steps ++ map (renumberedStep p (length steps)) steps′
+
+abbrev pub joinedOutputs : ℕ → ℕ → List ℕ → List ℕ → List ℕ
+joinedOutputs p n outputs outputs′ = outputs ++ map (renumbered p n) outputs′
 
 module _ (p n : ℕ) where
   pub renumbered-start : (v : ℕ) → v ≤ p → renumbered p n v ≡ v
@@ -25,7 +34,7 @@ module _ (p n : ℕ) where
       by-size (yes lt) = (omega (arith, renumbered-step v lt), omega (arith, renumbered-step v lt))
       by-size (no ge) = (omega (arith, renumbered-start v (omega arith)), omega (arith, renumbered-start v (omega arith)))
 
-  pub renumbered-order : (u v : ℕ) → u ≤ v → renumbered p n u ≤ renumbered p n v
+  renumbered-order : (u v : ℕ) → u ≤ v → renumbered p n u ≤ renumbered p n v
   renumbered-order u v h = by-size (decLt p v)
     where
       by-size : Dec (p < v) → renumbered p n u ≤ renumbered p n v

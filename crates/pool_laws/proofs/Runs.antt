@@ -1,8 +1,8 @@
 -- The run accepts a legal chain by its modulus and bases alone, and so it accepts the pool exactly if it accepts the parts; the pool's run gives their figures.
-use mathlib.Core.Path.{_≡_, ap, subst, sym, _∙_}
+use mathlib.Core.Path.{_≡_, ap, sym}
 use mathlib.Core.Logic.{_↔_}
 use mathlib.Core.List.{List, _++_}
-use Prim.Native.Nat.{ℕ, _+_, _<_}
+use Prim.Native.Nat.{ℕ, _<_}
 use native.Mathlib.Nat.{le-refl}
 use native.Mathlib.Omega.{arith}
 use lib.ListN.{length, getD}
@@ -13,10 +13,10 @@ use Rattle.chain.proofs.Rules.{renewed}
 use Rattle.chain.proofs.Legal.{legal-parts, chain-parts}
 use Rattle.chain.proofs.Outputs.{outputs-low}
 use Rattle.run.specs.Run.{runRule, runFigures}
-use Rattle.run.proofs.Runnable.{Runnable, runnable, runs-fine}
+use Rattle.run.proofs.Runnable.{runnable, runs-fine}
 use Rattle.pool.specs.Pool.{Part, pooledSteps, pooledOutputs, poolableRule}
 use Rattle.pool_laws.specs.Pooled.{pooled, Runs, figuresOf}
-use Rattle.pool_laws.proofs.Poolable.{poolable, first-legal, second-legal}
+use Rattle.pool_laws.proofs.Poolable.{poolable}
 use Rattle.pool_laws.proofs.Legal.{pool-legal}
 use Rattle.pool_laws.proofs.Figures.{pool-figures}
 
@@ -52,9 +52,8 @@ pub pool-runs : (a b : Part) (m : ℕ) (bases : List ℕ) → poolableRule a b �
 pool-runs a b m bases e =
     let both = poolable a b e in
     let whole = runs-bases (pooled a b) m bases (pool-legal a b e) in
-    let first = runs-bases a m bases (first-legal a b both) in
-    let second = runs-bases b m bases (second-legal a b both) in
-    (
+    let first = runs-bases a m bases (both .legal) in
+    let second = runs-bases b m bases (both .legal′) in (
       λ runs. (first .1 (whole .0 runs), second .1 (rw (both .columns) at (whole .0 runs))),
       λ runs. whole .1 (first .0 (runs .0)),
     )

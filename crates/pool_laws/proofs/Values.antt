@@ -13,7 +13,7 @@ use Rattle.chain.proofs.Rules.{then-fine}
 use Rattle.chain.proofs.Steps.{LegalStep, step-legal}
 use Rattle.chain.proofs.Values.{values-append, length-values, values-before}
 use Rattle.pool.specs.Pool.{renumbered, renumberedStep}
-use Rattle.pool_laws.proofs.Renumbered.{renumbered-start, renumbered-step, renumbered-between}
+use Rattle.pool_laws.proofs.Renumbered.{joinedSteps, renumbered-start, renumbered-step, renumbered-between}
 
 module _ (f : ℕ → ℕ → ℕ) (p n : ℕ) where
   -- the values `pool` have those of `own` at their numbers in the pool
@@ -53,7 +53,7 @@ module _ (f : ℕ → ℕ → ℕ) (p n : ℕ) where
 -- value v of the second part, from any values `start` of value 0 and the bases
 pub pooled-value : (f : ℕ → ℕ → ℕ) (p : ℕ) (start : List ℕ) (steps steps′ : List Step) → length start ≡ p + 1 → stepsRule p 1 steps′ ≡ fine
     → (v : ℕ) → v < length start + length steps′
-    → getD (values f start (steps ++ map (renumberedStep p (length steps)) steps′)) (renumbered p (length steps) v) 0 ≡ getD (values f start steps′) v 0
+    → getD (values f start (joinedSteps p steps steps′)) (renumbered p (length steps) v) 0 ≡ getD (values f start steps′) v 0
 pooled-value f p start steps steps′ long ok v h =
     ap (λ (l : List ℕ). getD l (renumbered p (length steps) v) 0) (values-append f start steps (map (renumberedStep p (length steps)) steps′))
     ∙ agree-on f p (length steps) steps′ 0 (values f start steps) start (length-values f start steps) long ok

@@ -11,8 +11,9 @@ use Rattle.chain.proofs.Exponents.{start-length, exponent-keep}
 use Rattle.verify.specs.Verify.{exponentsRule}
 use Rattle.verify.proofs.Refused.{TooLarge, refused-13}
 use Rattle.pool.specs.Pool.{Part, renumbered, counted, pooledSteps, poolableRule}
-use Rattle.pool_laws.proofs.Poolable.{poolable}
-use Rattle.pool_laws.proofs.Renumbered.{joinedSteps, renumbered-step}
+use Rattle.pool.proofs.Poolable.{poolable}
+use Rattle.pool.proofs.Numbers.{renumbered-step}
+use Rattle.pool_laws.proofs.Renumbered.{joinedSteps}
 use Rattle.pool_laws.proofs.Values.{pooled-value}
 use Rattle.pool_laws.proofs.Findings.{finding, told-finding, both-parts, in-same}
 

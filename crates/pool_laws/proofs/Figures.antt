@@ -12,8 +12,8 @@ use Rattle.chain.proofs.Picked.{pick-same}
 use Rattle.residue.specs.Residue.{timesMod}
 use Rattle.run.specs.Run.{residues}
 use Rattle.pool.specs.Pool.{Part, renumbered, poolableRule, pooledSteps}
+use Rattle.pool.proofs.Poolable.{Poolable, poolable}
 use Rattle.pool_laws.specs.Pooled.{pooled, figuresOf}
-use Rattle.pool_laws.proofs.Poolable.{Poolable, poolable}
 use Rattle.pool_laws.proofs.Values.{pooled-value}
 
 pick-append : (vs l l′ : List ℕ) → pick vs (l ++ l′) ≡ pick vs l ++ pick vs l′

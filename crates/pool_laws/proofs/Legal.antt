@@ -12,7 +12,7 @@ use Rattle.chain.proofs.Steps.{step-legal, legal-step, steps-append}
 use Rattle.chain.proofs.Outputs.{outputs-low, low-outputs}
 use Rattle.chain.proofs.Legal.{parts-legal, parts-chain}
 use Rattle.pool.specs.Pool.{Part, renumberedStep, poolableRule, pooledSteps, pooledOutputs}
-use Rattle.pool_laws.proofs.Poolable.{poolable}
+use Rattle.pool.proofs.Poolable.{poolable}
 use Rattle.pool_laws.proofs.Renumbered.{joinedSteps, renumbered-legal}
 use Rattle.pool_laws.proofs.Outputs.{outputs-pooled}
 

@@ -1,4 +1,3 @@
-pub mod Poolable
 pub mod Renumbered
 pub mod Values
 pub mod Outputs

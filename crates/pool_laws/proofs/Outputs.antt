@@ -7,7 +7,8 @@ use native.Mathlib.Omega.{arith}
 use lib.ListN.{length, getD, length-append, length-map, List·getD-append, List·getD-map}
 use lib.Seq.{getD-append-add}
 use Rattle.pool.specs.Pool.{renumbered}
-use Rattle.pool_laws.proofs.Renumbered.{joinedOutputs, renumbered-start, renumbered-between}
+use Rattle.pool.proofs.Numbers.{renumbered-start}
+use Rattle.pool_laws.proofs.Renumbered.{joinedOutputs, renumbered-between}
 
 module _ (p n : ℕ) (outputs outputs′ : List ℕ) where
   pub output-second : (i : ℕ) → getD (joinedOutputs p n outputs outputs′) (length outputs + i) 0 ≡ renumbered p n (getD outputs′ i 0)

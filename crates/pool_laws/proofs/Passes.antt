@@ -12,8 +12,8 @@ use Rattle.chain.proofs.Rules.{then-fine, pass}
 use Rattle.verify.specs.Verify.{exponentsRule, payslipsRule, verifyRule}
 use Rattle.verify.proofs.Fitting.{fits}
 use Rattle.pool.specs.Pool.{Part, pooledOutputs, poolableRule}
+use Rattle.pool.proofs.Poolable.{poolable, both-fine}
 use Rattle.pool_laws.specs.Pooled.{pooled, Passes}
-use Rattle.pool_laws.proofs.Poolable.{poolable, both-fine}
 use Rattle.pool_laws.proofs.Legal.{pool-legal}
 use Rattle.pool_laws.proofs.Exponents.{pool-exponents}
 use Rattle.pool_laws.proofs.Payslips.{pool-payslips}

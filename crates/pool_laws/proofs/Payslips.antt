@@ -17,7 +17,7 @@ use Rattle.sheet.proofs.Amounts.{amount-there}
 use Rattle.verify.specs.Verify.{payslipsRule}
 use Rattle.verify.proofs.Refused.{Differs, refused-14}
 use Rattle.pool.specs.Pool.{Part, counted, pooledSteps, pooledOutputs, poolableRule}
-use Rattle.pool_laws.proofs.Poolable.{poolable}
+use Rattle.pool.proofs.Poolable.{poolable}
 use Rattle.pool_laws.proofs.Renumbered.{joinedSteps, joinedOutputs}
 use Rattle.pool_laws.proofs.Outputs.{output-second}
 use Rattle.pool_laws.proofs.Findings.{finding, told-finding, both-parts, in-same}

@@ -1,4 +1,4 @@
--- The numbers of the second part's values in the pool: those up to p stay, those above are higher by n, and their order stays.
+-- Renumbering moves no value down and none up by more than n, and keeps their order: so a legal step stays legal.
 use mathlib.Core.Path.{_≡_}
 use mathlib.Core.List.{List, _++_, map}
 use Prim.Native.Nat.{ℕ, _+_, _≤_, _<_}
@@ -6,9 +6,9 @@ use native.Mathlib.Decide.{decLt}
 use native.Mathlib.Omega.{arith}
 use lib.ListN.{length}
 use Rattle.chain.specs.declared.Step.{Step}
-use Rattle.chain.proofs.Rules.{lt-yes, lt-no}
 use Rattle.chain.proofs.Steps.{LegalStep}
 use Rattle.pool.specs.Pool.{renumbered, renumberedStep}
+use Rattle.pool.proofs.Numbers.{renumbered-start, renumbered-step}
 
 -- the pool's steps and outputs, for parts that have the same p
 abbrev pub joinedSteps : ℕ → List Step → List Step → List Step
@@ -18,28 +18,20 @@ abbrev pub joinedOutputs : ℕ → ℕ → List ℕ → List ℕ → List ℕ
 joinedOutputs p n outputs outputs′ = outputs ++ map (renumbered p n) outputs′
 
 module _ (p n : ℕ) where
-  pub renumbered-start : (v : ℕ) → v ≤ p → renumbered p n v ≡ v
-  unfolding renumbered
-  renumbered-start v h = rw (lt-no p v h)
-
-  pub renumbered-step : (v : ℕ) → p < v → renumbered p n v ≡ v + n
-  unfolding renumbered
-  renumbered-step v h = rw (lt-yes p v h)
-
   -- no number falls, and none rises by more than n
   pub renumbered-between : (v : ℕ) → (v ≤ renumbered p n v) × (renumbered p n v ≤ v + n)
   renumbered-between v = by-size (decLt p v)
     where
       by-size : Dec (p < v) → (v ≤ renumbered p n v) × (renumbered p n v ≤ v + n)
-      by-size (yes lt) = (omega (arith, renumbered-step v lt), omega (arith, renumbered-step v lt))
-      by-size (no ge) = (omega (arith, renumbered-start v (omega arith)), omega (arith, renumbered-start v (omega arith)))
+      by-size (yes lt) = (omega (arith, renumbered-step p n v lt), omega (arith, renumbered-step p n v lt))
+      by-size (no ge) = (omega (arith, renumbered-start p n v (omega arith)), omega (arith, renumbered-start p n v (omega arith)))
 
   renumbered-order : (u v : ℕ) → u ≤ v → renumbered p n u ≤ renumbered p n v
   renumbered-order u v h = by-size (decLt p v)
     where
       by-size : Dec (p < v) → renumbered p n u ≤ renumbered p n v
-      by-size (yes lt) = omega (arith, renumbered-step v lt, renumbered-between u .1)
-      by-size (no ge) = omega (arith, renumbered-start v (omega arith), renumbered-start u (omega arith))
+      by-size (yes lt) = omega (arith, renumbered-step p n v lt, renumbered-between u .1)
+      by-size (no ge) = omega (arith, renumbered-start p n v (omega arith), renumbered-start p n u (omega arith))
 
   pub renumbered-legal : (v : ℕ) (x : Step) → LegalStep v x → LegalStep (v + n) (renumberedStep p n x)
   renumbered-legal v x l =

@@ -15,8 +15,8 @@ use Rattle.chain.proofs.Outputs.{outputs-low}
 use Rattle.run.specs.Run.{runRule, runFigures}
 use Rattle.run.proofs.Runnable.{runnable, runs-fine}
 use Rattle.pool.specs.Pool.{Part, pooledSteps, pooledOutputs, poolableRule}
+use Rattle.pool.proofs.Poolable.{poolable}
 use Rattle.pool_laws.specs.Pooled.{pooled, Runs, figuresOf}
-use Rattle.pool_laws.proofs.Poolable.{poolable}
 use Rattle.pool_laws.proofs.Legal.{pool-legal}
 use Rattle.pool_laws.proofs.Figures.{pool-figures}
 

@@ -13,7 +13,8 @@ use Rattle.chain.proofs.Rules.{then-fine}
 use Rattle.chain.proofs.Steps.{LegalStep, step-legal}
 use Rattle.chain.proofs.Values.{values-append, length-values, values-before}
 use Rattle.pool.specs.Pool.{renumbered, renumberedStep}
-use Rattle.pool_laws.proofs.Renumbered.{joinedSteps, renumbered-start, renumbered-step, renumbered-between}
+use Rattle.pool.proofs.Numbers.{renumbered-start, renumbered-step}
+use Rattle.pool_laws.proofs.Renumbered.{joinedSteps, renumbered-between}
 
 module _ (f : ℕ → ℕ → ℕ) (p n : ℕ) where
   -- the values `pool` have those of `own` at their numbers in the pool

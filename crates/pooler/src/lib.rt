@@ -91,7 +91,14 @@ pub fn pool(
                 n: n1 as u32,
             };
             put(to, steps1, 2 * n1, steps2, 2 * n2, steps);
-            put(to, outputs1, outputs1.len(), outputs2, outputs2.len(), outputs);
+            put(
+                to,
+                outputs1,
+                outputs1.len(),
+                outputs2,
+                outputs2.len(),
+                outputs,
+            );
             Pooled::Steps(n1 + n2)
         }
     }

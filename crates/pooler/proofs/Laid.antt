@@ -22,9 +22,9 @@ module _ (p n : ℕ) where
   number-laid (suc i) (suc count) (x ∷ l) h k = number-laid i count l (omega arith) (omega arith)
 
   -- `m` is the slice after the first list, `w` after the second
-  pub both-laid : (a b count : ℕ) (first second old m w : List ℕ) → a ≤ length first → m ≡ laid 0 (map (renumbered p 0) (take a first)) old
+  pub both-laid : (a b : ℕ) (first second old m w : List ℕ) → a ≤ length first → m ≡ laid 0 (map (renumbered p 0) (take a first)) old
       → w ≡ laid a (map (renumbered p n) (take b second)) m → w ≡ over (take a first ++ map (renumbered p n) (take b second)) old
-  both-laid a b count first second old m w h e f =
+  both-laid a b first second old m w h e f =
       f
       ∙ ap (laid a (map (renumbered p n) (take b second))) (e ∙ ap (λ (l : List ℕ). laid 0 l old) (renumbered-none p (take a first)))
       ∙ laid-laid 0 a (take a first) (map (renumbered p n) (take b second)) old (omega (arith, length-take-le a first h)) zero-le

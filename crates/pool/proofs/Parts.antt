@@ -3,37 +3,30 @@ use mathlib.Core.Path.{_≡_}
 use Prim.Native.Nat.{ℕ, _+_, _≤_}
 use Rattle.chain.specs.Verdict.{fine}
 use Rattle.chain.specs.Chain.{mostPayslips, mostSteps}
-use Rattle.chain.proofs.Rules.{then-fine, refuseIf-fine, not-lt, not-ne}
+use Rattle.chain.proofs.Rules.{then-fine, refuseIf-fine, not-lt}
 use Rattle.chain.proofs.Sizes.{Sizes, sizes-fit, length-fits}
-use Rattle.pool.specs.Pool.{columnsRule, lengthsRule}
+use Rattle.pool.specs.Pool.{bothSizesRule, bothLengthsRule}
 
-pub record ColumnsFit (p q p′ q′ : ℕ) : Type 0 where
+pub record BothSizes (p q p′ q′ : ℕ) : Type 0 where
   pub first : Sizes p q
   pub second : Sizes p′ q′
   pub together : q + q′ ≤ mostPayslips
-  pub same : p ≡ p′
 
-pub columns-fit : (p q p′ q′ : ℕ) → columnsRule p q p′ q′ ≡ fine → ColumnsFit p q p′ q′
-unfolding columnsRule
-columns-fit p q p′ q′ e =
+pub both-sizes-fit : (p q p′ q′ : ℕ) → bothSizesRule p q p′ q′ ≡ fine → BothSizes p q p′ q′
+unfolding bothSizesRule
+both-sizes-fit p q p′ q′ e =
     let a = then-fine _ _ e in
     let b = then-fine _ _ (a .1) in
-    let c = then-fine _ _ (b .1) in
-    record {
-      first = sizes-fit p q (a .0);
-      second = sizes-fit p′ q′ (b .0);
-      together = not-lt _ _ (refuseIf-fine _ 1 0 (c .0));
-      same = not-ne _ _ (refuseIf-fine _ 17 0 (c .1));
-    }
+    record { first = sizes-fit p q (a .0); second = sizes-fit p′ q′ (b .0); together = not-lt _ _ (refuseIf-fine _ 1 0 (b .1)) }
 
-pub record LengthsFit (n n′ : ℕ) : Type 0 where
+pub record BothLengths (n n′ : ℕ) : Type 0 where
   pub first : n ≤ mostSteps
   pub second : n′ ≤ mostSteps
   pub together : n + n′ ≤ mostSteps
 
-pub lengths-fit : (n n′ : ℕ) → lengthsRule n n′ ≡ fine → LengthsFit n n′
-unfolding lengthsRule
-lengths-fit n n′ e =
+pub both-lengths-fit : (n n′ : ℕ) → bothLengthsRule n n′ ≡ fine → BothLengths n n′
+unfolding bothLengthsRule
+both-lengths-fit n n′ e =
     let a = then-fine _ _ e in
     let b = then-fine _ _ (a .1) in
     record { first = length-fits mostSteps n (a .0); second = length-fits mostSteps n′ (b .0); together = length-fits mostSteps (n + n′) (b .1) }

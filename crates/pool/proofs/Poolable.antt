@@ -5,12 +5,12 @@ use Prim.Native.Nat.{ℕ, _+_, _≤_}
 use lib.ListN.{length}
 use Rattle.chain.specs.Verdict.{Verdict, fine, _then_}
 use Rattle.chain.specs.Chain.{mostPayslips, mostSteps, Legal, stepsRule, outputsRule}
-use Rattle.chain.proofs.Rules.{then-fine, pass}
+use Rattle.chain.proofs.Rules.{then-fine, refuseIf-fine, not-ne, pass}
 use Rattle.chain.proofs.Sizes.{Sizes}
 use Rattle.chain.proofs.Legal.{parts-legal, parts-chain}
 use Rattle.pool.specs.Pool.{Part, counted, bothStepsRule, bothOutputsRule, poolableRule}
 use Rattle.pool.proofs.Counted.{counted-passed, counted-fine}
-use Rattle.pool.proofs.Parts.{columns-fit, lengths-fit}
+use Rattle.pool.proofs.Parts.{both-sizes-fit, both-lengths-fit}
 
 pub record Poolable (a b : Part) : Type 0 where
   pub columns : a .p ≡ b .p
@@ -40,22 +40,23 @@ pub poolable : (a b : Part) → poolableRule a b ≡ fine → Poolable a b
 unfolding poolableRule bothStepsRule bothOutputsRule
 poolable a b e =
     let h = then-fine _ _ e in
-    let k = then-fine _ _ (h .1) in
+    let i = then-fine _ _ (h .1) in
+    let k = then-fine _ _ (i .1) in
     let l = then-fine _ _ (k .1) in
-    let columns = columns-fit _ _ _ _ (h .0) in
-    let lengths = lengths-fit _ _ (k .0) in
+    let sizes = both-sizes-fit _ _ _ _ (h .0) in
+    let lengths = both-lengths-fit _ _ (k .0) in
     let steps = both-fine _ _ _ .0 (l .0) in
     let outputs = both-fine _ _ _ .0 (l .1) in
     record {
-      columns = columns .same;
-      sizes = columns .first;
-      sizes′ = columns .second;
-      payslips = columns .together;
+      columns = not-ne _ _ (refuseIf-fine _ 17 0 (i .0));
+      sizes = sizes .first;
+      sizes′ = sizes .second;
+      payslips = sizes .together;
       few = lengths .together;
       steps-fine = steps .0;
       steps-fine′ = steps .1;
       outputs-fine = outputs .0;
       outputs-fine′ = outputs .1;
-      legal = legal-part a (columns .first) (lengths .first) (steps .0) (outputs .0);
-      legal′ = legal-part b (columns .second) (lengths .second) (steps .1) (outputs .1);
+      legal = legal-part a (sizes .first) (lengths .first) (steps .0) (outputs .0);
+      legal′ = legal-part b (sizes .second) (lengths .second) (steps .1) (outputs .1);
     }

@@ -38,13 +38,13 @@ unfoldable pub counted : ℕ → Verdict → Verdict
 counted k fine = fine
 counted k (refused n s) = refused n (k + s)
 
--- Req 01: 1 for the first part, for the second, then for more payslips together than a chain may have; 17 for column counts that differ
-unfoldable pub columnsRule : ℕ → ℕ → ℕ → ℕ → Verdict
-columnsRule p q p′ q′ = sizesRule p q then sizesRule p′ q′ then refuseIf (mostPayslips <? q + q′) 1 0 then refuseIf (p ≠? p′) 17 0
+-- Req 01: 1 for the first part, for the second, then for more payslips together than a chain may have
+unfoldable pub bothSizesRule : ℕ → ℕ → ℕ → ℕ → Verdict
+bothSizesRule p q p′ q′ = sizesRule p q then sizesRule p′ q′ then refuseIf (mostPayslips <? q + q′) 1 0
 
 -- Req 01: 4 for the first part, for the second, then for both together
-unfoldable pub lengthsRule : ℕ → ℕ → Verdict
-lengthsRule n n′ = lengthRule mostSteps n then lengthRule mostSteps n′ then lengthRule mostSteps (n + n′)
+unfoldable pub bothLengthsRule : ℕ → ℕ → Verdict
+bothLengthsRule n n′ = lengthRule mostSteps n then lengthRule mostSteps n′ then lengthRule mostSteps (n + n′)
 
 -- Req 01: the steps of the first part, then of the second, each by its own numbers
 unfoldable pub bothStepsRule : ℕ → List Step → ℕ → List Step → Verdict
@@ -54,11 +54,11 @@ bothStepsRule p steps p′ steps′ = stepsRule p 1 steps then counted (length s
 unfoldable pub bothOutputsRule : ℕ → List ℕ → ℕ → List ℕ → Verdict
 bothOutputsRule top outputs top′ outputs′ = outputsRule top 1 outputs then counted (length outputs) (outputsRule top′ 1 outputs′)
 
--- Req 01: two parts pool, if 1, 17, 4, the steps' refusals and 12 do not apply
+-- Req 01: two parts pool, if 1, 17, 4, the steps' refusals and 12 do not apply; 17 is for column counts that differ
 unfoldable pub poolableRule : Part → Part → Verdict
 poolableRule a b =
-    columnsRule (a .p) (length (a .outputs)) (b .p) (length (b .outputs))
-    then lengthsRule (length (a .steps)) (length (b .steps))
+    bothSizesRule (a .p) (length (a .outputs)) (b .p) (length (b .outputs))
+    then refuseIf (a .p ≠? b .p) 17 0 then bothLengthsRule (length (a .steps)) (length (b .steps))
     then bothStepsRule (a .p) (a .steps) (b .p) (b .steps)
     then bothOutputsRule (a .p + length (a .steps)) (a .outputs) (b .p + length (b .steps)) (b .outputs)
 

@@ -4,13 +4,13 @@ ghost use Prim.Native.Nat.{_/_, _≤_};
 ghost use lib.ListN.{length};
 ghost use Rattle.chain.specs.Judgement.{verdictOf};
 ghost use Rattle.chain.specs.Chain.{pairs};
-ghost use Rattle.pool.specs.Pool.{part, columnsRule, lengthsRule, bothStepsRule, bothOutputsRule, poolableRule};
+ghost use Rattle.pool.specs.Pool.{part, bothSizesRule, bothLengthsRule, bothStepsRule, bothOutputsRule, poolableRule};
 ghost use Rattle.pool.specs.Inner.{StepsAsked, OutputsAsked};
 use chain::Judgement;
 
-// 1 for each part and for both together, then 17.
-fn judge_columns(p1: usize, q1: usize, p2: usize, q2: usize) -> Judgement
-    ensures { λ r. ⌜ verdictOf r ≡ columnsRule p1 q1 p2 q2 ⌝ }
+// 1 for each part and for both together.
+fn judge_sizes(p1: usize, q1: usize, p2: usize, q2: usize) -> Judgement
+    ensures { λ r. ⌜ verdictOf r ≡ bothSizesRule p1 q1 p2 q2 ⌝ }
 {
     match shape::judge_sizes(p1, q1) {
         Judgement::Refused(number, place) => {
@@ -27,15 +27,12 @@ fn judge_columns(p1: usize, q1: usize, p2: usize, q2: usize) -> Judgement
     if chain::MOST_PAYSLIPS < q1 + q2 {
         return Judgement::Refused(1, 0);
     }
-    if p1 != p2 {
-        return Judgement::Refused(17, 0);
-    }
     Judgement::Fine
 }
 
 // 4 for each part and for both together.
 fn judge_lengths(n1: usize, n2: usize) -> Judgement
-    ensures { λ r. ⌜ verdictOf r ≡ lengthsRule n1 n2 ⌝ }
+    ensures { λ r. ⌜ verdictOf r ≡ bothLengthsRule n1 n2 ⌝ }
 {
     match shape::judge_length(chain::MOST_STEPS, n1) {
         Judgement::Refused(number, place) => {
@@ -98,11 +95,14 @@ pub fn judge_parts(
     ensures { λ r. ⌜ verdictOf r ≡ poolableRule (part p1 (pairs (now (steps1 .entry))) (now (outputs1 .entry)))
         (part p2 (pairs (now (steps2 .entry))) (now (outputs2 .entry))) ⌝ }
 {
-    match judge_columns(p1, outputs1.len(), p2, outputs2.len()) {
+    match judge_sizes(p1, outputs1.len(), p2, outputs2.len()) {
         Judgement::Refused(number, place) => {
             return Judgement::Refused(number, place);
         }
         Judgement::Fine => {}
+    }
+    if p1 != p2 {
+        return Judgement::Refused(17, 0);
     }
     match judge_lengths(steps1.len() / 2, steps2.len() / 2) {
         Judgement::Refused(number, place) => {

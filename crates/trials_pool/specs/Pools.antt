@@ -12,8 +12,8 @@ use Rattle.pool.specs.Pool.{
   pooledSteps,
   pooledOutputs,
   counted,
-  columnsRule,
-  lengthsRule,
+  bothSizesRule,
+  bothLengthsRule,
   bothStepsRule,
   bothOutputsRule,
   poolableRule,
@@ -27,7 +27,7 @@ use Rattle.trials.specs.Trials.{nines, stepsA, doublings}
 
 -- a table that unfolds this unfolds all that a pool is read by
 unfoldable pub poolDefinitions : Unit {0}
-unfolding definitions renumbered counted columnsRule lengthsRule bothStepsRule bothOutputsRule poolableRule poolRule poolAnswer poolSteps poolOutputs
+unfolding definitions renumbered counted bothSizesRule bothLengthsRule bothStepsRule bothOutputsRule poolableRule poolRule poolAnswer poolSteps poolOutputs
 poolDefinitions = tt
 
 -- two parts pooled into so many pairs and outputs

@@ -4,7 +4,7 @@ use mathlib.Core.Path.{sym}
 use native.Mathlib.Omega.{arith}
 use Rattle.chain.proofs.Rules.{judging, told-fine}
 use Rattle.chain.proofs.Sizes.{length-fits}
-use Rattle.pool.specs.Pool.{lengthsRule}
+use Rattle.pool.specs.Pool.{bothLengthsRule}
 use Rattle.pool.proofs.judge_lengths.Statement.{statement}
 use Rattle.pool.proofs.judge_lengths.Tie as tie
 
@@ -17,7 +17,7 @@ add-judge-length c =
     record { fits = omega (arith, first, second) }
 
 pub judge-lengths-spec : {M : Type 1} → statement M
-unfolding lengthsRule
+unfolding bothLengthsRule
 judge-lengths-spec =
     tie.close
     (tie.spec (λ c κs. search needs) (λ c. search needs) (λ c. search judging depth 8) (λ c. search needs) (λ c κs. search needs) (λ c. search needs)

@@ -1,7 +1,7 @@
 //! Two chains as one by the command, and the check of the pool against both sheets.
 use spoutbasket_tests::command::{spoutbasket, Folder};
 use spoutbasket_tests::compiler::methods;
-use spoutbasket_tests::random::{sheet, Random};
+use spoutbasket_tests::random::{bases, modulus, sheet, Random};
 use spoutbasket_tests::reference::{self, LONGEST_FILE, MOST_PAYSLIPS, MOST_STEPS};
 use spoutbasket_tests::texts::phrase;
 
@@ -103,6 +103,20 @@ fn from_two_sheets_to_one_list_of_figures() {
         let object = spoutbasket(&[&check[..], &files, &["--json"]].concat(), b"").done();
         let numbers = format!("\"columns\":{p},\"payslips\":{both},\"steps\":{n}");
         assert_eq!(object, format!("{{\"passed\":true,{numbers}}}\n"));
+
+        // the figures of the first and then of the second
+        let m = modulus(&mut r);
+        let bases = bases(&mut r, p, m);
+        let mut keys = vec![m.to_string()];
+        keys.extend(bases.iter().map(u32::to_string));
+        let keys = folder.file("keys", keys.join(" ") + "\n");
+        let run = spoutbasket(&["run", "--keys", &keys, &pool], b"").done();
+        let all = amounts.concat();
+        let figures = all
+            .chunks(p)
+            .map(|payslip| reference::figure(m, &bases, payslip));
+        let lines: String = figures.map(|figure| format!("{figure}\n")).collect();
+        assert_eq!(run, format!("{lines}{n} multiplications\n"));
 
         // another amount in one of the sheets
         let part = round % 2;

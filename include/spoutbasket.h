@@ -150,10 +150,10 @@ uint32_t spoutbasket_run_pairs(size_t p, const spoutbasket_step *steps, size_t s
                                uint32_t modulus, const uint32_t *bases, size_t bases_len,
                                uint32_t *values, size_t values_len, uint32_t *figures, size_t figures_len, uint64_t answer[4]);
 
-/* Pools two chains, the parts, over the same columns: the first's steps and then the second's, the first's outputs and then the second's. In what comes
- * from the second part each value number above p is higher by the steps of the first; value 0 and the bases have the numbers that they had. The pool
- * passes the check against the amounts of two sheets of the parts' sizes, the first's before the second's, exactly if each part passes against its own.
- * Each part is judged by its own numbers, and a place counts through the pool: a step of the second part on from the first's steps, its payslip on from
+/* Pools two chains over the same columns, the parts, into one: the steps of the first and then of the second, and their outputs likewise. A number of the
+ * second part that is above p becomes larger by the first's steps; 0 to p, value 0 and the bases, are common to both. Of two sheets, each with the sizes
+ * of its part, let the second's amounts follow on the first's: the pool passes the check against all of them if, and only if, both parts pass against
+ * theirs. Each part is judged by its own numbers. A place counts through the pool: a step of the second part on from the first's steps, a payslip on from
  * the first's payslips. Needs 2n cells of steps and q outputs, n and q being those of both parts together; 2 * SPOUTBASKET_MOST_STEPS cells and
  * SPOUTBASKET_MOST_PAYSLIPS outputs are always enough. Answers n. */
 uint32_t spoutbasket_pool(size_t p1, const uint32_t *steps1, size_t steps1_len, const uint32_t *outputs1, size_t outputs1_len,

@@ -185,7 +185,7 @@ impl Chain {
     /// # fn main() -> Result<(), spoutbasket::Refusal> {
     /// let (first, second) = (Sheet::new(2, 1, [3, 2])?, Sheet::new(2, 2, [0, 0, 2, 1])?);
     /// let pool = first.compile(Method::Straus(1))?.pool(&second.compile(Method::Yao(1))?)?;
-    /// // value 3 of the second chain is value 6 of the pool; value 0 and the bases keep their numbers
+    /// // value 3 of the second chain is value 6 of the pool; 0 to 2 are common to both
     /// assert_eq!(pool.steps, [[2, 1], [3, 3], [4, 1], [1, 1], [6, 2]]);
     /// assert_eq!(pool.outputs, [5, 0, 7]);
     /// pool.check(&first.above(&second)?)?;

@@ -1,5 +1,5 @@
 -- A verdict on the second part told on: its number stays, its place goes on from the first part's.
-use mathlib.Core.Path.{_≡_, refl}
+use mathlib.Core.Path.{_≡_, refl, ap, _∙_}
 use Prim.Native.Nat.{ℕ, _+_}
 use Rattle.chain.specs.Verdict.{Verdict, fine, refused}
 use Rattle.chain.proofs.Rules.{not-fine}
@@ -19,4 +19,6 @@ unfolding counted
 counted-fine k fine e = refl
 counted-fine k (refused n s) e = absurd (not-fine e)
 
-pub ruleset counting-on = (counted-refused, counted-passed)
+-- `v` is what was told of the second part, `u` what is told on
+pub counted-on : (k : ℕ) (v w u : Verdict) → v ≡ w → u ≡ counted k v → u ≡ counted k w
+counted-on k v w u e f = f ∙ ap (counted k) e

@@ -3,3 +3,4 @@ pub mod Places
 pub mod Parts
 pub mod Poolable
 pub mod Numbers
+pub mod Left

@@ -1,19 +1,15 @@
 -- The place of a refused step or output is one of the list's own, so that it can be counted on.
-use mathlib.Core.Path.{_≡_, ap}
+use mathlib.Core.Path.{_≡_}
 use mathlib.Core.Bool.{Bool, true, false}
 use mathlib.Core.List.{List, [], _∷_}
 use Prim.Native.Nat.{ℕ, suc, _+_, _/_, _≤_}
 use native.Mathlib.Omega.{arith}
 use lib.ListN.{length}
 use Rattle.chain.specs.Verdict.{Verdict, fine, refused, _then_, refuseIf}
-use Rattle.chain.specs.Chain.{pairs, stepRule, stepsRule, outputsRule}
+use Rattle.chain.specs.Chain.{mostPayslips, mostSteps, pairs, stepRule, stepsRule, outputsRule}
 use Rattle.chain.specs.declared.Step.{Step}
 use Rattle.chain.proofs.Pairs.{length-pairs}
-
--- the place that a verdict tells, 0 for none
-abbrev placeIn : Verdict → ℕ
-placeIn fine = 0
-placeIn (refused n s) = s
+use Rattle.pool.specs.Inner.{placeIn}
 
 place-then : (k : ℕ) (a b : Verdict) → placeIn a ≤ k → placeIn b ≤ k → placeIn (a then b) ≤ k
 unfolding _then_
@@ -37,8 +33,9 @@ place-outputs : (k top i : ℕ) (l : List ℕ) → i + length l ≤ k + 1 → pl
 place-outputs k top i [] h = omega arith
 place-outputs k top i (o ∷ l) h = place-then k _ _ (place-if k _ 12 i (omega arith)) (place-outputs k top (suc i) l (omega arith))
 
-pub step-place : (p n s : ℕ) (l : List ℕ) → refused n s ≡ stepsRule p 1 (pairs l) → s ≤ length l / 2
-step-place p n s l e = rw (ap placeIn e) (place-steps (length l / 2) p 1 (pairs l) (omega (arith, length-pairs l)))
+-- `v` is the verdict that was told
+pub steps-place-low : (p : ℕ) (l : List ℕ) (v : Verdict) → v ≡ stepsRule p 1 (pairs l) → length l / 2 ≤ mostSteps → placeIn v ≤ mostSteps
+steps-place-low p l v e h = rw e (place-steps mostSteps p 1 (pairs l) (omega (arith, length-pairs l)))
 
-pub output-place : (top n s : ℕ) (l : List ℕ) → refused n s ≡ outputsRule top 1 l → s ≤ length l
-output-place top n s l e = rw (ap placeIn e) (place-outputs (length l) top 1 l (omega arith))
+pub outputs-place-low : (top : ℕ) (l : List ℕ) (v : Verdict) → v ≡ outputsRule top 1 l → length l ≤ mostPayslips → placeIn v ≤ mostSteps
+outputs-place-low top l v e h = rw e (place-outputs mostSteps top 1 l (omega arith))

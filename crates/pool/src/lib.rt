@@ -4,8 +4,8 @@ ghost use Prim.Native.Nat.{_/_, _≤_};
 ghost use lib.ListN.{length};
 ghost use Rattle.chain.specs.Judgement.{verdictOf};
 ghost use Rattle.chain.specs.Chain.{pairs};
-ghost use Rattle.pool.specs.Pool.{part, bothSizesRule, bothLengthsRule, bothStepsRule, bothOutputsRule, poolableRule};
-ghost use Rattle.pool.specs.Inner.{StepsAsked, OutputsAsked};
+ghost use Rattle.pool.specs.Pool.{part, counted, bothSizesRule, bothLengthsRule, bothStepsRule, bothOutputsRule, poolableRule};
+ghost use Rattle.pool.specs.Inner.{CountAsked, StepsAsked, OutputsAsked};
 use chain::Judgement;
 
 // 1 for each part and for both together.
@@ -49,6 +49,17 @@ fn judge_lengths(n1: usize, n2: usize) -> Judgement
     shape::judge_length(chain::MOST_STEPS, n1 + n2)
 }
 
+// What is found in the second part, its place counted on from the first part's.
+fn count_on(before: usize, found: Judgement) -> Judgement
+    requires { ⌜ CountAsked before (verdictOf found) ⌝ }
+    ensures { λ r. ⌜ verdictOf r ≡ counted before (verdictOf found) ⌝ }
+{
+    match found {
+        Judgement::Refused(number, place) => Judgement::Refused(number, before + place),
+        Judgement::Fine => Judgement::Fine,
+    }
+}
+
 // The steps of the first part, then of the second, whose places count on.
 fn judge_steps(p1: usize, steps1: &[u32], p2: usize, steps2: &[u32]) -> Judgement
     requires { ⌜ StepsAsked p1 (length (now steps1) / 2) p2 (length (now steps2) / 2) ⌝ }
@@ -60,10 +71,7 @@ fn judge_steps(p1: usize, steps1: &[u32], p2: usize, steps2: &[u32]) -> Judgemen
         }
         Judgement::Fine => {}
     }
-    match legal::judge_steps(p2, steps2) {
-        Judgement::Refused(number, place) => Judgement::Refused(number, steps1.len() / 2 + place),
-        Judgement::Fine => Judgement::Fine,
-    }
+    count_on(steps1.len() / 2, legal::judge_steps(p2, steps2))
 }
 
 // 12 for the outputs of the first part, then of the second, whose places count on; top is the number of a part's last value.
@@ -77,10 +85,7 @@ fn judge_outputs(top1: usize, outputs1: &[u32], top2: usize, outputs2: &[u32]) -
         }
         Judgement::Fine => {}
     }
-    match legal::judge_outputs(top2, outputs2) {
-        Judgement::Refused(number, place) => Judgement::Refused(number, outputs1.len() + place),
-        Judgement::Fine => Judgement::Fine,
-    }
+    count_on(outputs1.len(), legal::judge_outputs(top2, outputs2))
 }
 
 // All that is found against two parts before anything lent is looked at: 1, 17, 4, steps, 12.

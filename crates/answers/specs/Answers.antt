@@ -44,7 +44,7 @@ abbrev pub ranOf : Ran → Answer
 ranOf (ran.Multiplications n) = done (n ∷ [])
 ranOf (ran.Refused number place) = refusal number place
 
--- Req 01, pool: n
+-- pool: n
 abbrev pub pooledOf : Pooled → Answer
 pooledOf (pooled.Steps n) = done (n ∷ [])
 pooledOf (pooled.Refused number place) = refusal number place

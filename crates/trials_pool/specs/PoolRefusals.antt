@@ -1,4 +1,4 @@
--- Refusals of a pool (Req 01): each in the first part, in the second and, where it is one, of both together, with its place and the slices as they were;
+-- Refusals of a pool (Spec 10.2, 10.3): each in the first part, in the second and, where it is one, of both together, with its place and the slices as they were;
 -- then inputs with two faults at once, one for each two neighbours in the order.
 use mathlib.Core.List.{List, [], _∷_, _++_}
 use Prim.Native.Nat.{ℕ, _<_}

@@ -1,4 +1,4 @@
--- Pools of case A with itself and with others: the answer and both slices, the check against both sheets, and the figures (Req 01).
+-- Pools of case A with itself and with others: the answer and both slices, the check against both sheets, and the figures (Spec 7.4).
 use mathlib.Core.List.{List, [], _∷_, _++_}
 use Prim.Native.Nat.{ℕ, _+_, _<_}
 use lib.ListN.{length, getD, replicate}

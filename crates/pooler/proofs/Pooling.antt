@@ -31,33 +31,29 @@ module _ (p n k : ℕ) (p-low : p ≤ mostColumns) (n-low : n ≤ mostSteps) (k-
   pub outputs-raisable : outputsRule (p + k) 1 l ≡ fine → Raisable n l (length l)
   outputs-raisable ok = record { there = omega arith; low = λ i h. omega (arith, outputs-low (p + k) 1 l ok i h) }
 
--- the pool of two flat parts
-module _ (p p′ : ℕ) (l l′ o o′ : List ℕ) where
-  abbrev a : Part
-  a = part p (pairs l) o
+-- the pool of two flat parts: its sizes, and its lists as they are put
+pub record FlatPool (p p′ : ℕ) (l l′ o o′ : List ℕ) : Type 0 where
+  pub count : length l / 2 + length l′ / 2 ≡ length (pooledSteps (part p (pairs l) o) (part p′ (pairs l′) o′))
+  pub payslips : length o + length o′ ≡ length (pooledOutputs (part p (pairs l) o) (part p′ (pairs l′) o′))
+  pub steps : take (2 * (length l / 2)) l ++ map (renumbered p′ (length l / 2)) (take (2 * (length l′ / 2)) l′)
+      ≡ flat (pooledSteps (part p (pairs l) o) (part p′ (pairs l′) o′))
+  pub outputs : take (length o) o ++ map (renumbered p′ (length l / 2)) (take (length o′) o′) ≡ pooledOutputs (part p (pairs l) o) (part p′ (pairs l′) o′)
 
-  abbrev b : Part
-  b = part p′ (pairs l′) o′
-
-  pub pooled-count : length l / 2 + length l′ / 2 ≡ length (pooledSteps a b)
-  pooled-count =
-      omega (arith, length-pairs l, length-pairs l′, length-append (pairs l) (map (renumberedStep p′ (length (pairs l))) (pairs l′)), length-map (pairs l′) (renumberedStep p′ (length (pairs l))))
-
-  pub pooled-payslips : length o + length o′ ≡ length (pooledOutputs a b)
-  pooled-payslips =
-      omega (arith, length-append o (map (renumbered p′ (length (pairs l))) o′), length-map o′ (renumbered p′ (length (pairs l))))
-
-  pub pooled-steps : take (2 * (length l / 2)) l ++ map (renumbered p′ (length l / 2)) (take (2 * (length l′ / 2)) l′) ≡ flat (pooledSteps a b)
-  pooled-steps =
-      ap₂ (λ (s t : List ℕ). s ++ map (renumbered p′ (length l / 2)) t) (take-flat l) (take-flat l′)
-      ∙ ap (λ (n : ℕ). flat (pairs l) ++ map (renumbered p′ n) (flat (pairs l′))) (sym (length-pairs l))
-      ∙ ap (λ (t : List ℕ). flat (pairs l) ++ t) (sym (flat-renumbered p′ (length (pairs l)) (pairs l′)))
-      ∙ sym (flat-append (pairs l) (map (renumberedStep p′ (length (pairs l))) (pairs l′)))
-
-  pub pooled-outputs : take (length o) o ++ map (renumbered p′ (length l / 2)) (take (length o′) o′) ≡ pooledOutputs a b
-  pooled-outputs =
-      ap₂ (λ (s t : List ℕ). s ++ map (renumbered p′ (length l / 2)) t) (take-length o) (take-length o′)
-      ∙ ap (λ (n : ℕ). o ++ map (renumbered p′ n) o′) (sym (length-pairs l))
+pub flat-pool : (p p′ : ℕ) (l l′ o o′ : List ℕ) → FlatPool p p′ l l′ o o′
+flat-pool p p′ l l′ o o′ =
+    let n = length (pairs l) in
+    record {
+      count = omega (arith, length-pairs l, length-pairs l′, length-append (pairs l) (map (renumberedStep p′ n) (pairs l′)), length-map (pairs l′) (renumberedStep p′ n));
+      payslips = omega (arith, length-append o (map (renumbered p′ n) o′), length-map o′ (renumbered p′ n));
+      steps =
+          ap₂ (λ (s t : List ℕ). s ++ map (renumbered p′ (length l / 2)) t) (take-flat l) (take-flat l′)
+          ∙ ap (λ (k : ℕ). flat (pairs l) ++ map (renumbered p′ k) (flat (pairs l′))) (sym (length-pairs l))
+          ∙ ap (λ (t : List ℕ). flat (pairs l) ++ t) (sym (flat-renumbered p′ n (pairs l′)))
+          ∙ sym (flat-append (pairs l) (map (renumberedStep p′ n) (pairs l′)));
+      outputs =
+          ap₂ (λ (s t : List ℕ). s ++ map (renumbered p′ (length l / 2)) t) (take-length o) (take-length o′)
+          ∙ ap (λ (k : ℕ). o ++ map (renumbered p′ k) o′) (sym (length-pairs l));
+    }
 
 -- the verdict, by what was found against the parts and by the room lent
 module _ (a b : Part) (room places : ℕ) where

@@ -12,9 +12,9 @@ use answers::Pooled;
 use chain::Judgement;
 
 // How a part's value numbers become the pool's: those above p go up by n.
-pub struct Numbering {
-    pub p: u32,
-    pub n: u32,
+struct Numbering {
+    p: u32,
+    n: u32,
 }
 
 // A value number of a part as the pool has it.

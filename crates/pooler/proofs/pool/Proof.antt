@@ -12,7 +12,7 @@ use Rattle.chain.proofs.Rules.{told-fine, told-refused}
 use Rattle.chain.proofs.Pairs.{length-pairs}
 use Rattle.pool.specs.Pool.{Part, part, poolableRule}
 use Rattle.pool.proofs.Poolable.{Poolable, poolable}
-use Rattle.pooler.proofs.Pooling.{steps-raisable, outputs-raisable, pooled-count, pooled-payslips, pooled-steps, pooled-outputs, parts-refused, steps-short, outputs-short, room-enough, refused-leaves, pooled-leaves}
+use Rattle.pooler.proofs.Pooling.{steps-raisable, outputs-raisable, FlatPool, flat-pool, parts-refused, steps-short, outputs-short, room-enough, refused-leaves, pooled-leaves}
 use Rattle.pooler.proofs.pool.Statement.{statement}
 use Rattle.pooler.proofs.pool.Tie as tie
 
@@ -29,6 +29,11 @@ found-fine e = told-fine _ _ (e .before .before .judge-parts .ensures) (e .enum-
 both : (e : tie.After-enum-told) → Poolable (first e) (second e)
 both e = poolable _ _ (sym (found-fine e))
 
+pool-of : (e : tie.After-enum-told)
+    → let s = e .before .before .before .before .before .before .before .before .before .args in
+    FlatPool (s .p1) (s .p2) (s .steps1 .now) (s .steps2 .now) (s .outputs1 .now) (s .outputs2 .now)
+pool-of e = flat-pool _ _ _ _ _ _
+
 -- together they are few
 few : (e : tie.After-enum-told)
     → let s = e .before .before .before .before .before .before .before .before .before .args in
@@ -43,9 +48,7 @@ add-if1 c = record { fits = omega (arith, few c) }
 returns : tie.Need-returns
 returns c =
     let e = c .before in
-    let s = e .before .before .before .before .before .before .before .before .before .args in
-    let count = pooled-count (s .p1) (s .p2) (s .steps1 .now) (s .steps2 .now) (s .outputs1 .now) (s .outputs2 .now) in
-    refused-leaves _ _ (s .steps .now) (s .outputs .now) 5 0 (steps-short _ _ _ _ (found-fine e) (omega (arith, count, c .if1 .taken)))
+    refused-leaves _ _ _ _ 5 0 (steps-short _ _ _ _ (found-fine e) (omega (arith, pool-of e .count, c .if1 .taken)))
 
 add-if2 : tie.Need-add-if2
 add-if2 c = record { fits = omega (arith, both (c .before) .payslips) }
@@ -53,9 +56,7 @@ add-if2 c = record { fits = omega (arith, both (c .before) .payslips) }
 returns-2 : tie.Need-returns-2
 returns-2 c =
     let e = c .before .before in
-    let s = e .before .before .before .before .before .before .before .before .before .args in
-    let count = pooled-payslips (s .p1) (s .p2) (s .steps1 .now) (s .steps2 .now) (s .outputs1 .now) (s .outputs2 .now) in
-    refused-leaves _ _ (s .steps .now) (s .outputs .now) 5 0 (outputs-short _ _ _ _ (found-fine e) (omega (arith, count, c .if2 .taken)))
+    refused-leaves _ _ _ _ 5 0 (outputs-short _ _ _ _ (found-fine e) (omega (arith, pool-of e .payslips, c .if2 .taken)))
 
 cast-t21 : tie.Need-cast-t21
 cast-t21 c = record { fits = omega (arith, both (c .before .before) .sizes′) }
@@ -103,8 +104,7 @@ add-t17 c = record { fits = omega (arith, few (c .before .before .before .before
 returns-3 : tie.Need-returns-3
 returns-3 c =
     let judged = c .before .before .before in
-    let s = judged .before .before .before .before .before .before .before .args in
-    refused-leaves _ _ (s .steps .now) (s .outputs .now) _ _
+    refused-leaves _ _ _ _ _ _
     (parts-refused _ _ _ _ _ _ (told-refused _ _ _ _ (judged .judge-parts .ensures) (c .before .number .given .1)))
 
 returns-4 : tie.Need-returns-4
@@ -114,14 +114,11 @@ returns-4 c =
     let room = put-steps .before .before in
     let e = room .before .before in
     let s = e .before .before .before .before .before .before .before .before .before .args in
-    let count = pooled-count (s .p1) (s .p2) (s .steps1 .now) (s .steps2 .now) (s .outputs1 .now) (s .outputs2 .now) in
-    let payslips = pooled-payslips (s .p1) (s .p2) (s .steps1 .now) (s .steps2 .now) (s .outputs1 .now) (s .outputs2 .now) in
+    let pool = pool-of e in
     pooled-leaves _ _ (s .steps .now) (s .outputs .now) _ _ _
-    (room-enough _ _ _ _ (found-fine e) (omega (arith, count, room .before .if1 .left)) (omega (arith, payslips, room .if2 .left))) count
-    (put-steps .put .ensures
-    ∙ ap (λ (l : List ℕ). over l (s .steps .now)) (pooled-steps (s .p1) (s .p2) (s .steps1 .now) (s .steps2 .now) (s .outputs1 .now) (s .outputs2 .now)))
-    (put-outputs .put2 .ensures
-    ∙ ap (λ (l : List ℕ). over l (s .outputs .now)) (pooled-outputs (s .p1) (s .p2) (s .steps1 .now) (s .steps2 .now) (s .outputs1 .now) (s .outputs2 .now)))
+    (room-enough _ _ _ _ (found-fine e) (omega (arith, pool .count, room .before .if1 .left)) (omega (arith, pool .payslips, room .if2 .left))) (pool .count)
+    (put-steps .put .ensures ∙ ap (λ (l : List ℕ). over l (s .steps .now)) (pool .steps))
+    (put-outputs .put2 .ensures ∙ ap (λ (l : List ℕ). over l (s .outputs .now)) (pool .outputs))
 
 pub pool-spec : {M : Type 1} → statement M
 pool-spec =

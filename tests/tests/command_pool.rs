@@ -276,6 +276,18 @@ fn sheets_that_do_not_go_together() {
             (1, format!("{{\"refused\":{{{number}}}}}\n"))
         );
     }
+    // a chain in a sheet's place, as where `choose` was meant
+    for sheets in [[&two, &pool], [&pool, &two]] {
+        for table in [&["check"][..], &["check", "--table"]] {
+            let arguments = [table, &sheets.map(|sheet| &sheet[..]), &[&pool[..]]].concat();
+            let line = spoutbasket(&arguments, b"").ended(1);
+            assert!(
+                line.starts_with(&format!("{pool}: refused "))
+                    && line.ends_with("the file is a chain, a sheet is wanted"),
+                "{line}"
+            );
+        }
+    }
     // a fault in one of the sheets is told of that sheet
     for (arguments, name) in [
         (["check", "-", &two, &pool], "standard input"),

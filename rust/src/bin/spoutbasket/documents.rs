@@ -16,9 +16,12 @@ pub fn sheet(source: &Source, table: bool) -> Result<Sheet, Failure> {
     let like_a_table = |byte: &u8| matches!(byte, b',' | b';') || byte.is_ascii_alphabetic();
     Ok(read(&text).map_err(|error| {
         let refused = no_sheet(source, &text, error);
-        match !table && text.iter().any(like_a_table) {
-            true => refused.and("for a table, one payslip a line, give --table"),
-            false => refused,
+        if Chain::from_file(&text).is_ok() {
+            refused.and("the file is a chain, a sheet is wanted")
+        } else if !table && text.iter().any(like_a_table) {
+            refused.and("for a table, one payslip a line, give --table")
+        } else {
+            refused
         }
     })?)
 }

@@ -25,9 +25,9 @@ extern "C" {
 
 /* The version of this header and of the library. */
 #define SPOUTBASKET_VERSION_MAJOR 0
-#define SPOUTBASKET_VERSION_MINOR 3
+#define SPOUTBASKET_VERSION_MINOR 4
 #define SPOUTBASKET_VERSION_PATCH 0
-#define SPOUTBASKET_VERSION "0.3.0"
+#define SPOUTBASKET_VERSION "0.4.0"
 
 /* The bytes of stack that are enough for a call, whatever it is given. */
 #define SPOUTBASKET_STACK (64 * 1024)
@@ -95,7 +95,8 @@ enum spoutbasket_refusal {
     SPOUTBASKET_REFUSED_EXPONENT = 13,      /* exponent too large */
     SPOUTBASKET_REFUSED_PAYSLIP = 14,       /* an output's exponents are not its payslip */
     SPOUTBASKET_REFUSED_MODULUS = 15,       /* modulus 0 */
-    SPOUTBASKET_REFUSED_BASES = 16          /* bases not p, or one not below the modulus */
+    SPOUTBASKET_REFUSED_BASES = 16,         /* bases not p, or one not below the modulus */
+    SPOUTBASKET_REFUSED_COLUMNS = 17        /* column counts differ */
 };
 
 /* The faults of a text, by number, each with its words. A text may also be refused 1 and 5. */
@@ -148,6 +149,16 @@ uint32_t spoutbasket_verify_pairs(size_t p, const spoutbasket_step *steps, size_
 uint32_t spoutbasket_run_pairs(size_t p, const spoutbasket_step *steps, size_t steps_len, const uint32_t *outputs, size_t outputs_len,
                                uint32_t modulus, const uint32_t *bases, size_t bases_len,
                                uint32_t *values, size_t values_len, uint32_t *figures, size_t figures_len, uint64_t answer[4]);
+
+/* Pools two chains over the same columns, the parts, into one: the steps of the first and then of the second, and their outputs likewise. A number of the
+ * second part that is above p becomes larger by the first's steps; 0 to p, value 0 and the bases, are common to both. Of two sheets, each with the sizes
+ * of its part, let the second's amounts follow on the first's: the pool passes the check against all of them if, and only if, both parts pass against
+ * theirs. Each part is judged by its own numbers. A place counts through the pool: a step of the second part on from the first's steps, a payslip on from
+ * the first's payslips. Needs 2n cells of steps and q outputs, n and q being those of both parts together; 2 * SPOUTBASKET_MOST_STEPS cells and
+ * SPOUTBASKET_MOST_PAYSLIPS outputs are always enough. Answers n. */
+uint32_t spoutbasket_pool(size_t p1, const uint32_t *steps1, size_t steps1_len, const uint32_t *outputs1, size_t outputs1_len,
+                          size_t p2, const uint32_t *steps2, size_t steps2_len, const uint32_t *outputs2, size_t outputs2_len,
+                          uint32_t *steps, size_t steps_len, uint32_t *outputs, size_t outputs_len, uint64_t answer[4]);
 
 /* Chooses between two files for a sheet: of two that make it the one with fewer steps, or the first. Needs as scratch
  * 2 * SPOUTBASKET_MOST_STEPS_EDITION_1 cells of steps, SPOUTBASKET_MOST_PAYSLIPS outputs and SPOUTBASKET_MOST_VALUES_EDITION_1 numbers; what they hold

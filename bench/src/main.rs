@@ -171,5 +171,28 @@ fn main() {
     );
     assert_eq!((&steps, &outputs), (&other_steps, &other_outputs));
     assert_eq!(steps, scattered.steps);
+    pool();
     sheet::measure();
+}
+
+/// The pool of two chains that have half of the most steps and payslips each.
+fn pool() {
+    let mut r = Random(14);
+    let (n, q) = (MOST_STEPS / 2, MOST_PAYSLIPS / 2);
+    let a = legal_chain(&mut r, MOST_COLUMNS, q, n, true);
+    let b = legal_chain(&mut r, MOST_COLUMNS, q, n, true);
+    let (mut steps, mut other_steps) = (vec![0; 2 * MOST_STEPS], vec![0; 2 * MOST_STEPS]);
+    let (mut outputs, mut other_outputs) = (vec![0; MOST_PAYSLIPS], vec![0; MOST_PAYSLIPS]);
+    report(
+        &format!("pool of two chains of {n} steps"),
+        medians(
+            1001,
+            || assert!(ffi::pool(black_box(a.part()), b.part(), &mut steps, &mut outputs).is_ok()),
+            || {
+                let (steps, outputs) = (&mut other_steps, &mut other_outputs);
+                assert!(plain::pool(black_box(a.part()), b.part(), steps, outputs).is_ok())
+            },
+        ),
+    );
+    assert_eq!((steps, outputs), (other_steps, other_outputs));
 }

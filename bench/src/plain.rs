@@ -1,6 +1,7 @@
 //! The same jobs in plain Rust, written for speed: what the library is measured against.
 
 use spoutbasket::{MOST_COLUMNS, MOST_PAYSLIPS, MOST_STEPS};
+use spoutbasket_tests::reference::Part;
 
 /// The check of a legal chain that fits: column by column over the scratch, like the library.
 pub fn verify(
@@ -82,6 +83,45 @@ pub fn run(
     Ok(n)
 }
 
+/// The pool of two chains, each p, steps and outputs, judged before anything is stored.
+pub fn pool(
+    first: Part,
+    second: Part,
+    steps: &mut [u32],
+    outputs: &mut [u32],
+) -> Result<usize, (u32, usize)> {
+    let ((p, steps1, outputs1), (p2, steps2, outputs2)) = (first, second);
+    let (n1, q1) = (steps1.len() / 2, outputs1.len());
+    let (n, q) = (n1 + steps2.len() / 2, q1 + outputs2.len());
+    sizes(p, q1)?;
+    sizes(p2, outputs2.len())?;
+    sizes(p, q)?;
+    if p2 != p {
+        return Err((17, 0));
+    }
+    if n > MOST_STEPS {
+        return Err((4, 0));
+    }
+    judge_steps(p, steps1)?;
+    judge_steps(p, steps2).map_err(|(number, s)| (number, n1 + s))?;
+    judge_outputs(p + n1, outputs1)?;
+    judge_outputs(p + n - n1, outputs2).map_err(|(number, i)| (number, q1 + i))?;
+    if steps.len() / 2 < n || outputs.len() < q {
+        return Err((5, 0));
+    }
+    // value 0 and the bases are both parts'
+    let raised = |v: u32| if v as usize > p { v + n1 as u32 } else { v };
+    steps[..2 * n1].copy_from_slice(&steps1[..2 * n1]);
+    for (x, &v) in steps[2 * n1..2 * n].iter_mut().zip(steps2) {
+        *x = raised(v);
+    }
+    outputs[..q1].copy_from_slice(outputs1);
+    for (x, &v) in outputs[q1..q].iter_mut().zip(outputs2) {
+        *x = raised(v);
+    }
+    Ok(n)
+}
+
 /// The step after s others: 9, 10, 11.
 #[inline]
 fn step(p: usize, s: usize, a: usize, b: usize) -> Result<(), (u32, usize)> {
@@ -100,17 +140,32 @@ fn step(p: usize, s: usize, a: usize, b: usize) -> Result<(), (u32, usize)> {
 
 /// Legality: 1, 4, steps, 12.
 fn judge(p: usize, steps: &[u32], outputs: &[u32]) -> Result<(), (u32, usize)> {
-    let (n, q) = (steps.len() / 2, outputs.len());
-    if p == 0 || p > MOST_COLUMNS || q == 0 || q > MOST_PAYSLIPS {
-        return Err((1, 0));
-    }
+    let n = steps.len() / 2;
+    sizes(p, outputs.len())?;
     if n > MOST_STEPS {
         return Err((4, 0));
     }
+    judge_steps(p, steps)?;
+    judge_outputs(p + n, outputs)
+}
+
+fn sizes(p: usize, q: usize) -> Result<(), (u32, usize)> {
+    if p == 0 || p > MOST_COLUMNS || q == 0 || q > MOST_PAYSLIPS {
+        return Err((1, 0));
+    }
+    Ok(())
+}
+
+fn judge_steps(p: usize, steps: &[u32]) -> Result<(), (u32, usize)> {
     for (s, pair) in steps.chunks_exact(2).enumerate() {
         step(p, s, pair[0] as usize, pair[1] as usize)?;
     }
-    match outputs.iter().position(|&o| o as usize > p + n) {
+    Ok(())
+}
+
+/// 12 for an output above the last value.
+fn judge_outputs(last: usize, outputs: &[u32]) -> Result<(), (u32, usize)> {
+    match outputs.iter().position(|&o| o as usize > last) {
         Some(i) => Err((12, i + 1)),
         None => Ok(()),
     }

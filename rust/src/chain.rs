@@ -171,6 +171,50 @@ impl Chain {
         })
     }
 
+    /// The pool with a second chain over the same columns: the steps and payslips of this one, then those of the second. It makes the two sheets one
+    /// [above](Sheet::above) the other, exactly if each chain makes its own; its figures are those of both.
+    ///
+    /// # Errors
+    ///
+    /// 1, 4 and 9 to 12 where one of the two is not legal, 1 for more than 64 payslips together, 17 for column counts that differ, 4 for more than 16,000
+    /// steps together. A place counts through the pool.
+    ///
+    /// ```
+    /// use spoutbasket::{Method, Sheet};
+    ///
+    /// # fn main() -> Result<(), spoutbasket::Refusal> {
+    /// let (first, second) = (Sheet::new(2, 1, [3, 2])?, Sheet::new(2, 2, [0, 0, 2, 1])?);
+    /// let pool = first.compile(Method::Straus(1))?.pool(&second.compile(Method::Yao(1))?)?;
+    /// // value 3 of the second chain is value 6 of the pool; 0 to 2 are common to both
+    /// assert_eq!(pool.steps, [[2, 1], [3, 3], [4, 1], [1, 1], [6, 2]]);
+    /// assert_eq!(pool.outputs, [5, 0, 7]);
+    /// pool.check(&first.above(&second)?)?;
+    /// assert_eq!(pool.run(1_000, &[3, 5])?.figures, [675, 1, 45]);
+    ///
+    /// let narrow = Sheet::new(1, 1, [3])?.compile(Method::Yao(1))?;
+    /// assert_eq!(pool.pool(&narrow).unwrap_err().number(), 17);
+    /// # Ok(())
+    /// # }
+    /// ```
+    pub fn pool(&self, second: &Chain) -> Result<Chain, Refusal> {
+        let mut lent = Lent::new(MOST_PAYSLIPS);
+        let [n, ..] = answer(|words| {
+            slices::pool(
+                self.columns,
+                self.steps.as_flattened(),
+                &self.outputs,
+                second.columns,
+                second.steps.as_flattened(),
+                &second.outputs,
+                lent.steps.as_flattened_mut(),
+                &mut lent.outputs,
+                words,
+            )
+        })?;
+        let payslips = self.outputs.len() + second.outputs.len();
+        Ok(lent.chain(self.columns, payslips, n))
+    }
+
     /// The number of values. A chain with more than the most is refused before its values are looked for.
     fn values(&self) -> usize {
         self.columns.saturating_add(self.n() + 1).min(MOST_VALUES)

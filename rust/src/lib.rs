@@ -1,6 +1,7 @@
 //! Payslip sheets compiled into multiplication chains, their files, their check and their control figures: a safe wrapper over the proved library.
 //!
 //! A [`Sheet`] becomes a [`Chain`] by a [`Method`]; a chain has one file, is checked against a sheet and is run over a receiver's bases and modulus.
+//! Two chains over the same columns [pool](Chain::pool) into one.
 //! What a call turns down it tells as a [`Refusal`], by reason and place; a text that cannot be read, as a [`TextFault`].
 //!
 //! ```

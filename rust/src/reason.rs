@@ -93,6 +93,8 @@ reasons! {
         Modulus = 15,
         /// 16: the bases are not one for each column, or one is not below the modulus.
         Bases = 16,
+        /// 17: two chains to be pooled, or two sheets to stand one above the other, have not as many columns.
+        Columns = 17,
     }
 }
 

@@ -3,8 +3,8 @@ use std::{fmt, io};
 
 /// Input turned down, by reason and place.
 ///
-/// A place is a step (for 9, 10, 11 and 13) or a payslip (for 12 and 14), counted from 1, and 0 where there is none. `Debug` says what `Display` says,
-/// so that a `main` that returns a refusal prints it in words.
+/// A place is a step (for 9, 10, 11 and 13) or a payslip (for 12 and 14), counted from 1, of a pool through both parts, and 0 where there is none.
+/// `Debug` says what `Display` says, so that a `main` that returns a refusal prints it in words.
 ///
 /// ```
 /// use spoutbasket::{Chain, Reason, Refusal};

@@ -153,6 +153,42 @@ impl Sheet {
         self.amounts.chunks_exact(self.columns)
     }
 
+    /// This sheet above another over the same columns: its payslips, then those of the other. It is the sheet of their chains' [pool](Chain::pool).
+    ///
+    /// # Errors
+    ///
+    /// 1 for more than 64 payslips together, 17 for column counts that differ.
+    ///
+    /// ```
+    /// use spoutbasket::{Reason, Sheet};
+    ///
+    /// # fn main() -> Result<(), spoutbasket::Refusal> {
+    /// let (first, second) = (Sheet::new(2, 1, [3, 2])?, Sheet::new(2, 2, [0, 0, 2, 1])?);
+    /// assert_eq!(first.above(&second)?, Sheet::from_rows([[3, 2], [0, 0], [2, 1]])?);
+    /// let wide = Sheet::new(3, 1, [3, 2, 0])?;
+    /// assert_eq!(first.above(&wide).unwrap_err().reason, Reason::Columns);
+    /// # Ok(())
+    /// # }
+    /// ```
+    pub fn above(&self, below: &Sheet) -> Result<Sheet, Refusal> {
+        // chains of these sizes without a step are refused a pool just for their sizes
+        self.stepless().pool(&below.stepless())?;
+        Sheet::new(
+            self.columns,
+            self.payslips + below.payslips,
+            [&self.amounts[..], &below.amounts].concat(),
+        )
+    }
+
+    /// A chain of the sheet's sizes that makes nothing.
+    fn stepless(&self) -> Chain {
+        Chain {
+            columns: self.columns,
+            steps: vec![],
+            outputs: vec![0; self.payslips],
+        }
+    }
+
     /// The chain that a method makes of the sheet.
     ///
     /// # Errors

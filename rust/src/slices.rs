@@ -132,6 +132,19 @@ functions! {
         answer: &mut [u64; 4],
     );
 
+    /// Pools two chains over the same columns; answers the n of the pool.
+    fn pool(
+        p1: usize,
+        steps1: &[u32],
+        outputs1: &[u32],
+        p2: usize,
+        steps2: &[u32],
+        outputs2: &[u32],
+        steps: &mut [u32],
+        outputs: &mut [u32],
+        answer: &mut [u64; 4],
+    );
+
     /// Chooses between two files for a sheet, with scratch for 16,000 steps, 64 outputs and 16,017 numbers; answers 1 or 2.
     fn choose(
         p: usize,

@@ -149,6 +149,49 @@ fn moduli_and_bases() {
     refused(16, 0, case_a(5).run(7, &[3, 5, 2]));
 }
 
+/// 1, 17 and 4 of two parts and of both together, and what each part is refused for by itself, with its place in the pool.
+#[test]
+fn pools() -> Result<(), Refusal> {
+    let (narrow, wide) = (chain(1, &[[1, 1]], &[2]), chain(2, &[], &[0]));
+    refused(17, 0, narrow.pool(&wide));
+    refused(17, 0, wide.pool(&narrow));
+    let payslips = |q| chain(1, &[[1, 1]], &vec![2; q]);
+    assert_eq!(payslips(63).pool(&narrow)?.outputs.len(), MOST_PAYSLIPS);
+    refused(1, 0, payslips(MOST_PAYSLIPS).pool(&narrow));
+    refused(1, 0, payslips(32).pool(&payslips(33)));
+    refused(1, 0, payslips(65).pool(&narrow));
+    refused(1, 0, narrow.pool(&payslips(0)));
+    refused(1, 0, payslips(65).pool(&wide));
+    let long = |n| chain(1, &vec![[1, 1]; n], &[1]);
+    assert_eq!(long(MOST_STEPS - 1).pool(&narrow)?.n(), MOST_STEPS);
+    refused(4, 0, long(MOST_STEPS).pool(&narrow));
+    refused(4, 0, narrow.pool(&long(MOST_STEPS + 1)));
+    refused(17, 0, long(MOST_STEPS + 1).pool(&wide));
+    for (number, place, steps, output) in [
+        (9, 1, vec![[1, 0]], 0),
+        (10, 2, vec![[1, 1], [3, 1]], 0),
+        (11, 2, vec![[1, 1], [1, 2]], 0),
+        (12, 1, vec![[1, 1]], 3),
+    ] {
+        let unfit = chain(1, &steps, &[output]);
+        refused(number, place, unfit.pool(&narrow));
+        // after one step and one payslip
+        refused(number, place + 1, narrow.pool(&unfit));
+    }
+    Ok(())
+}
+
+/// 1 and 17 of two sheets, 1 first.
+#[test]
+fn sheets_above_each_other() -> Result<(), Refusal> {
+    let sheet = |p, q| Sheet::new(p, q, vec![7; p * q]);
+    assert_eq!(sheet(3, 24)?.above(&sheet(3, 40)?)?, sheet(3, 64)?);
+    refused(1, 0, sheet(3, 24)?.above(&sheet(3, 41)?));
+    refused(1, 0, sheet(3, 64)?.above(&sheet(2, 1)?));
+    refused(17, 0, sheet(3, 2)?.above(&sheet(2, 3)?));
+    Ok(())
+}
+
 /// Every reason stands at its number, and no number is lost.
 #[test]
 fn numbers() {
@@ -170,12 +213,13 @@ fn numbers() {
         Payslip,
         Modulus,
         Bases,
+        Columns,
     ];
     for (number, reason) in (1..).zip(reasons) {
         assert_eq!((Reason::from(number), reason.number()), (reason, number));
     }
     assert!(reasons.windows(2).all(|pair| pair[0] < pair[1]));
-    for number in [0, 17, 101, u32::MAX] {
+    for number in [0, 18, 101, u32::MAX] {
         assert_eq!(Reason::from(number), Other(number));
         assert_eq!(Reason::from(number).number(), number);
     }
@@ -206,8 +250,9 @@ fn in_words() {
         words(14, 1),
         "refused 14 at payslip 1: an output's exponents are not its payslip"
     );
-    assert_eq!(words(17, 0), "refused 17: no such refusal");
-    assert_eq!(words(17, 3), "refused 17 at place 3: no such refusal");
+    assert_eq!(words(17, 0), "refused 17: column counts differ");
+    assert_eq!(words(18, 0), "refused 18: no such refusal");
+    assert_eq!(words(18, 3), "refused 18 at place 3: no such refusal");
     assert_eq!(words(u32::MAX, 0), "refused 4294967295: no such refusal");
     let error: Box<dyn std::error::Error> = Box::new(Refusal::from(Reason::Modulus));
     assert_eq!(error.to_string(), "refused 15: modulus 0");

@@ -1,6 +1,6 @@
 //! The library's functions on slices, with the answer in the reference's terms.
 
-use crate::reference::{Answer, Job, Lent};
+use crate::reference::{Answer, Job, Lent, Part};
 use spoutbasket::{slices, LONGEST_LISTING};
 
 // The answer behind the number that a call returns and the four words that it writes, of which the first `values` are the call's.
@@ -83,6 +83,19 @@ pub fn read_words(bytes: &[u8], steps: &mut [u32], outputs: &mut [u32]) -> (u32,
 
 pub fn read(bytes: &[u8], steps: &mut [u32], outputs: &mut [u32]) -> Answer {
     answer(3, |words| slices::read(bytes, steps, outputs, words))
+}
+
+pub fn pool(
+    (p1, steps1, outputs1): Part,
+    (p2, steps2, outputs2): Part,
+    steps: &mut [u32],
+    outputs: &mut [u32],
+) -> Answer {
+    answer(1, |words| {
+        slices::pool(
+            p1, steps1, outputs1, p2, steps2, outputs2, steps, outputs, words,
+        )
+    })
 }
 
 /// The scratch that the chooser is lent.

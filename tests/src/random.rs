@@ -1,7 +1,7 @@
 //! Random numbers from a fixed seed, random chains, sheets, moduli and bases.
 
 use crate::compiler::{methods, Job};
-use crate::reference::{MOST_COLUMNS, MOST_PAYSLIPS};
+use crate::reference::{exponents, pairs, Part, MOST_AMOUNT, MOST_COLUMNS, MOST_PAYSLIPS};
 
 /// splitmix64.
 pub struct Random(pub u64);
@@ -44,6 +44,23 @@ pub struct Chain {
     pub p: usize,
     pub steps: Vec<u32>,
     pub outputs: Vec<u32>,
+}
+
+impl Chain {
+    /// The chain as a part of a pool.
+    pub fn part(&self) -> Part<'_> {
+        (self.p, &self.steps, &self.outputs)
+    }
+
+    /// The amounts of the sheet that a legal chain makes, if they are not too large.
+    pub fn amounts(&self) -> Option<Vec<u32>> {
+        let all = exponents(self.p, &pairs(&self.steps));
+        if all.iter().flatten().any(|&e| e > MOST_AMOUNT) {
+            return None;
+        }
+        let made = self.outputs.iter().flat_map(|&o| &all[o as usize]);
+        Some(made.map(|&e| e as u32).collect())
+    }
 }
 
 /// A legal chain. Where `slow`, the second operand is mostly a base, so that exponents stay small; else mostly the last value is squared.

@@ -36,6 +36,11 @@ pub(crate) fn length(limit: usize, n: usize) -> Result<(), (u32, u64)> {
 
 /// The steps in order, each 9, 10, 11, then the outputs, 12.
 pub fn chain(p: usize, steps: &[(u32, u32)], outputs: &[u32]) -> Result<(), (u32, u64)> {
+    steps_in_order(p, steps)?;
+    outputs_in_order(p + steps.len(), outputs)
+}
+
+fn steps_in_order(p: usize, steps: &[(u32, u32)]) -> Result<(), (u32, u64)> {
     for (i, &(first, second)) in steps.iter().enumerate() {
         let s = i as u64 + 1;
         let v = p as u64 + s;
@@ -49,8 +54,12 @@ pub fn chain(p: usize, steps: &[(u32, u32)], outputs: &[u32]) -> Result<(), (u32
             return Err((11, s));
         }
     }
+    Ok(())
+}
+
+fn outputs_in_order(last: usize, outputs: &[u32]) -> Result<(), (u32, u64)> {
     for (i, &o) in outputs.iter().enumerate() {
-        if o as usize > p + steps.len() {
+        if o as usize > last {
             return Err((12, i as u64 + 1));
         }
     }
@@ -343,6 +352,50 @@ pub fn choose(
         (Err(_), Ok(_)) => Ok(vec![2]),
         (Err(refusal), Err(_)) => Err(refusal),
     }
+}
+
+/// A chain as it is lent: p, the flat steps and the outputs.
+pub type Part<'a> = (usize, &'a [u32], &'a [u32]);
+
+/// Two chains as one.
+pub fn pool(first: Part, second: Part, steps: &mut [u32], outputs: &mut [u32]) -> Answer {
+    let ((p1, steps1, outputs1), (p2, steps2, outputs2)) = (first, second);
+    let (steps1, steps2) = (pairs(steps1), pairs(steps2));
+    let (n1, q1) = (steps1.len(), outputs1.len());
+    sizes(p1, q1)?;
+    sizes(p2, outputs2.len())?;
+    if q1 + outputs2.len() > MOST_PAYSLIPS {
+        return Err((1, 0));
+    }
+    if p1 != p2 {
+        return Err((17, 0));
+    }
+    for n in [n1, steps2.len(), n1 + steps2.len()] {
+        length(MOST_STEPS, n)?;
+    }
+    // a place in the second part comes after all of the first
+    let after = |count: usize| move |(number, place)| (number, count as u64 + place);
+    steps_in_order(p1, &steps1)?;
+    steps_in_order(p2, &steps2).map_err(after(n1))?;
+    outputs_in_order(p1 + n1, outputs1)?;
+    outputs_in_order(p2 + steps2.len(), outputs2).map_err(after(q1))?;
+    // what the second part's steps make comes after what the first's make; all else is shared
+    let raised = |v: u32| v + if v as usize > p1 { n1 as u32 } else { 0 };
+    let mut all_steps: Vec<u32> = vec![];
+    for (first, second) in steps1 {
+        all_steps.extend([first, second]);
+    }
+    for (first, second) in steps2 {
+        all_steps.extend([raised(first), raised(second)]);
+    }
+    let mut all_outputs = outputs1.to_vec();
+    all_outputs.extend(outputs2.iter().map(|&o| raised(o)));
+    if steps.len() / 2 < all_steps.len() / 2 || outputs.len() < all_outputs.len() {
+        return Err((5, 0));
+    }
+    steps[..all_steps.len()].copy_from_slice(&all_steps);
+    outputs[..all_outputs.len()].copy_from_slice(&all_outputs);
+    Ok(vec![all_steps.len() as u64 / 2])
 }
 
 /// What the listing program writes.

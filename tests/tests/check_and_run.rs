@@ -64,20 +64,6 @@ fn same_run(
     (got, our_figures)
 }
 
-/// The sheet that a legal chain makes, if its amounts fit.
-fn sheet_of(c: &Chain) -> Option<Vec<u32>> {
-    let all = reference::exponents(c.p, &reference::pairs(&c.steps));
-    if all.iter().flatten().any(|&e| e > reference::MOST_AMOUNT) {
-        return None;
-    }
-    Some(
-        c.outputs
-            .iter()
-            .flat_map(|&o| all[o as usize].iter().map(|&e| e as u32))
-            .collect(),
-    )
-}
-
 #[test]
 fn random_legal_chains() {
     let mut r = Random(1);
@@ -93,7 +79,7 @@ fn random_legal_chains() {
         };
         let c = legal_chain(&mut r, p, q, n, true);
         let needed = p + n + 1;
-        let amounts = sheet_of(&c).unwrap_or_else(|| vec![5; p * q]);
+        let amounts = c.amounts().unwrap_or_else(|| vec![5; p * q]);
         let scratch = r.words(needed + round % 3);
         if same_check(&c, &amounts, &scratch).is_ok() {
             passed += 1;
@@ -103,7 +89,7 @@ fn random_legal_chains() {
         let (values, places) = (r.words(needed + round % 4), r.words(q + round % 2));
         let (answer, figures) = same_run(&c, m, &bases, &values, &places);
         assert_eq!(answer, Ok(vec![n as u64]));
-        if let Some(sheet) = sheet_of(&c) {
+        if let Some(sheet) = c.amounts() {
             for i in 0..q {
                 assert_eq!(
                     figures[i],
@@ -128,7 +114,7 @@ fn damaged_chains_and_short_slices() {
         let (p, q) = (r.within(1, MOST_COLUMNS), r.within(1, 12));
         let slow = r.one_in(2);
         let mut c = legal_chain(&mut r, p, q, n, slow);
-        let mut amounts = sheet_of(&c).unwrap_or_else(|| vec![1; p * q]);
+        let mut amounts = c.amounts().unwrap_or_else(|| vec![1; p * q]);
         let mut m = modulus(&mut r);
         let mut bases = bases(&mut r, p, m);
         let needed = p + n + 1;

@@ -6,7 +6,9 @@ use spoutbasket_tests::reference::{self, figure, Job, LONGEST_FILE, MOST_PAYSLIP
 use spoutbasket_tests::reference::{EDITION_STEPS, EDITION_VALUES};
 use spoutbasket_tests::texts::phrase;
 
-const COMMANDS: [&str; 6] = ["compile", "check", "choose", "list", "run", "figures"];
+const COMMANDS: [&str; 7] = [
+    "compile", "check", "choose", "pool", "list", "run", "figures",
+];
 
 fn method_name(job: &Job) -> String {
     let name = ["straus", "yao", "partition"][job.method - 1];
@@ -184,6 +186,8 @@ fn any_bytes() {
     let mut r = Random(7);
     let folder = Folder::new("bytes");
     let sheet = folder.file("sheet", WEEK);
+    let chain = folder.path("chain");
+    spoutbasket(&["compile", &sheet, "-o", &chain], b"").done();
     let mut ends = [0; 2];
     for _ in 0..60 {
         let length = r.pick(&[0, 3, 4, 7, 20, 300]);
@@ -200,7 +204,11 @@ fn any_bytes() {
             vec!["compile", "--table", "-"],
             vec!["check", &sheet, "-"],
             vec!["check", "--table", "-", &other],
+            vec!["check", &sheet, "-", &other],
+            vec!["check", "--table", "-", &other, &other],
             vec!["choose", "-", &other, &other],
+            vec!["pool", "-", &chain],
+            vec!["pool", &chain, "-"],
             vec!["list", "-"],
             vec!["run", "--keys", "-", &other],
             vec!["figures", "--keys", "-", &sheet],
@@ -443,7 +451,11 @@ fn wrong_uses() {
     let folder = Folder::new("usage");
     let sheet = &folder.file("sheet", "1 1\n1\n");
     let chain = &folder.path("chain");
-    spoutbasket(&["compile", sheet, "-o", chain], b"").done();
+    let other = &folder.path("other");
+    for chain in [chain, other] {
+        spoutbasket(&["compile", sheet, "-o", chain], b"").done();
+    }
+    let parts = std::fs::read(chain).unwrap();
     let keys = &folder.file("keys", "10 3\n");
     for (arguments, why) in [
         (vec![], "a command is wanted"),
@@ -460,11 +472,19 @@ fn wrong_uses() {
         (vec!["list", chain, chain], "list: more than 1 file"),
         (vec!["check", sheet], "check: 2 files wanted"),
         (
-            vec!["check", sheet, chain, chain],
-            "check: more than 2 files",
+            vec!["check", sheet, sheet, chain, chain],
+            "check: more than 3 files",
         ),
         (
             vec!["check", "-", "-"],
+            "check: standard input for two files",
+        ),
+        (
+            vec!["check", "-", "-", chain],
+            "check: standard input for two files",
+        ),
+        (
+            vec!["check", sheet, "-", "-"],
             "check: standard input for two files",
         ),
         (vec!["choose", sheet, chain], "choose: 3 files wanted"),
@@ -475,6 +495,21 @@ fn wrong_uses() {
         (
             vec!["choose", sheet, chain, chain, "-o", sheet],
             "choose: -o names the sheet itself",
+        ),
+        (vec!["pool", chain], "pool: 2 files wanted"),
+        (vec!["pool", chain, chain, chain], "pool: more than 2 files"),
+        (vec!["pool", "-", "-"], "pool: standard input for two files"),
+        (
+            vec!["pool", "--table", chain, chain],
+            "pool: unknown option --table",
+        ),
+        (
+            vec!["pool", chain, other, "-o", chain],
+            "pool: -o names a part itself",
+        ),
+        (
+            vec!["pool", chain, other, "-o", other],
+            "pool: -o names a part itself",
         ),
         (vec!["run", chain], "run: --keys FILE wanted"),
         (vec!["run", "--keys"], "run: --keys needs a value"),
@@ -552,4 +587,7 @@ fn wrong_uses() {
         assert!(!line.contains("52431") && !line.contains("17"), "{line}");
     }
     assert_eq!(std::fs::read(sheet).unwrap(), b"1 1\n1\n");
+    for chain in [chain, other] {
+        assert_eq!(std::fs::read(chain).unwrap(), parts);
+    }
 }

@@ -10,9 +10,10 @@ use std::time::Duration;
 const FULL: &str = "No space left on device (os error 28)";
 
 /// The commands that write to standard output.
-const WRITING: [&str; 10] = [
+const WRITING: [&str; 11] = [
     "compile week.txt",
     "choose week.txt week.chain week.chain",
+    "pool week.chain week.chain",
     "check week.txt week.chain",
     "check --json week.txt week.chain",
     "list week.chain",
@@ -159,8 +160,13 @@ fn input_that_cannot_be_read() {
             "compile --table NAME -o new.chain",
             "check NAME week.chain",
             "check week.txt NAME",
+            "check NAME week.txt week.chain",
+            "check week.txt NAME week.chain",
+            "check week.txt week.txt NAME",
             "choose week.txt NAME week.chain",
             "choose week.txt week.chain NAME",
+            "pool NAME week.chain -o new.chain",
+            "pool week.chain NAME -o new.chain",
             "list NAME",
             "run --keys bank.keys NAME",
             "run --keys NAME week.chain",
@@ -205,7 +211,10 @@ fn input_that_cannot_be_read() {
 fn output_that_cannot_be_written() {
     let folder = Folder::week("unwritten");
     folder
-        .script("mkdir folder; echo old > old.chain; ln week.txt same.txt")
+        .script(
+            "mkdir folder; echo old > old.chain; ln week.txt same.txt
+            ln week.chain same.chain; cp week.chain other.chain",
+        )
         .done();
     let names = folder.names();
     for (target, status, why) in [
@@ -223,7 +232,11 @@ fn output_that_cannot_be_written() {
         ),
         ("new.chain/", 3, "new.chain/: Not a directory (os error 20)"),
     ] {
-        for command in ["compile week.txt", "choose week.txt week.chain week.chain"] {
+        for command in [
+            "compile week.txt",
+            "choose week.txt week.chain week.chain",
+            "pool week.chain week.chain",
+        ] {
             let ended = folder.script(&format!("spoutbasket {command} -o {target}"));
             assert_eq!(ended.ended(status), why, "{command}");
         }
@@ -236,10 +249,20 @@ fn output_that_cannot_be_written() {
         let ended = folder.script(&format!("spoutbasket {command}"));
         assert!(ended.ended(2).contains("-o names the sheet itself"));
     }
+    for command in [
+        "pool week.chain other.chain -o same.chain",
+        "pool other.chain week.chain -o same.chain",
+        "pool - other.chain -o same.chain < week.chain",
+    ] {
+        let ended = folder.script(&format!("spoutbasket {command}"));
+        assert!(ended.ended(2).contains("-o names a part itself"));
+    }
     // refused input leaves an old file as it was
     let ended = folder.script("echo 1 1 x | spoutbasket compile -o old.chain");
     assert_eq!(ended.status, 1);
     let ended = folder.script("spoutbasket choose week.txt old.chain old.chain -o old.chain");
+    assert_eq!(ended.status, 1);
+    let ended = folder.script("spoutbasket pool week.chain week.txt -o old.chain");
     assert_eq!(ended.status, 1);
     assert_eq!(folder.script("cat old.chain").done(), "old\n");
     assert_eq!(folder.names(), names);
@@ -405,7 +428,11 @@ fn a_terminal() {
             String::from_utf8_lossy(&said.said).into_owned(),
         )
     };
-    for command in ["compile week.txt", "choose week.txt week.chain week.chain"] {
+    for command in [
+        "compile week.txt",
+        "choose week.txt week.chain week.chain",
+        "pool week.chain week.chain",
+    ] {
         let (status, said) = on_terminal(command);
         assert_eq!(status, 2);
         assert!(

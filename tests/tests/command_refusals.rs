@@ -216,6 +216,7 @@ fn chain_files() {
     let case_a = [0x11, 0x00, 0x00, 0x34, 0x5b, 0x86, 0x80];
     let mut filled = case_a;
     filled[6] |= 1;
+    let good = folder.file("good", file(1, 1, 1, &[1, 1, 2]));
     let long = "over 56116 bytes, the longest file";
     for (bytes, refused, found) in [
         (vec![], "6", "0 bytes"),
@@ -243,6 +244,10 @@ fn chain_files() {
             vec!["list", &chain],
             vec!["run", "--keys", &keys, &chain],
             vec!["choose", &sheet, &chain, &chain],
+            vec!["check", &sheet, &sheet, &chain],
+            vec!["pool", &chain, &good],
+            vec!["pool", &good, &chain],
+            vec!["pool", &chain, &chain],
         ] {
             let line = spoutbasket(&arguments, b"").ended(1);
             assert_eq!(line, expected, "{arguments:?}");

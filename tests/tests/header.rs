@@ -41,7 +41,7 @@ fn phrases() -> BTreeMap<u32, &'static str> {
         .filter(known)
         .map(|number| (number, Reason::from(number).phrase()))
         .collect();
-    assert!(phrases.keys().copied().eq((1..=16).chain(101..=107)));
+    assert!(phrases.keys().copied().eq((1..=17).chain(101..=107)));
     phrases
 }
 

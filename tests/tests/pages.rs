@@ -45,7 +45,9 @@ fn manual_page() -> String {
 #[test]
 fn every_synopsis_in_the_manual_page() {
     let page = manual_page();
-    for name in ["compile", "check", "choose", "list", "run", "figures"] {
+    for name in [
+        "compile", "check", "choose", "pool", "list", "run", "figures",
+    ] {
         let help = spoutbasket(&["help", name], b"").done();
         let usage = help.lines().next().unwrap();
         let usage = usage.strip_prefix("Usage: ").unwrap();
@@ -53,22 +55,55 @@ fn every_synopsis_in_the_manual_page() {
     }
 }
 
+/// Does what a session shows, and sees that each command says what is shown; how many there are.
+fn play(folder: &Folder, session: &str) -> usize {
+    let parts = session.split("$ ").filter(|part| !part.is_empty());
+    parts
+        .map(|part| {
+            let (command, expected) = part.split_once('\n').unwrap();
+            assert_eq!(folder.script(command).done(), expected, "{command}");
+        })
+        .count()
+}
+
 #[test]
 fn the_example_of_the_manual() {
     let folder = week("example");
     let manual = page("docs/MANUAL.md");
     let session = shown(&manual, "## From a sheet to its figures");
-    let mut commands = 0;
-    for part in session.split("$ ").filter(|part| !part.is_empty()) {
-        let (command, expected) = part.split_once('\n').unwrap();
-        assert_eq!(folder.script(command).done(), expected, "{command}");
-        commands += 1;
-    }
-    assert_eq!(commands, 6);
+    assert_eq!(play(&folder, &session), 6);
     let same = "spoutbasket compile week.txt | cmp - best.chain";
     assert_eq!(folder.script(same).done(), "");
     let same = "spoutbasket check --table week.csv best.chain";
     folder.script(same).done();
+}
+
+/// Two sheets and the pool of their chains, and what is said where they do not go together.
+#[test]
+fn the_pool_of_the_manual() {
+    let folder = week("manual-pool");
+    let manual = page("docs/MANUAL.md");
+    let (_, section) = manual.split_once("## Two pay groups").unwrap();
+    folder.file("hourly.txt", shown(section, "The hourly paid are"));
+    let session = shown(section, "Each sheet has its own chain");
+    assert_eq!(play(&folder, &session), 5);
+    let refused = folder.script(
+        "printf '3 2\\n2 0 1\\n0 5 0\\n' > hourly.txt
+        spoutbasket check week.txt hourly.txt pool.chain",
+    );
+    assert_eq!(refused.told, shown(section, "In a check against two"));
+    let refused = folder.script(
+        "printf '2 1\\n2 0\\n' | spoutbasket compile -o narrow.chain
+        spoutbasket pool week.chain narrow.chain",
+    );
+    assert_eq!(refused.told, shown(section, "with both names"));
+    // the manual page's example is the manual's
+    let page = manual_page();
+    let lines = session.lines().filter(|line| line.contains(" pool.chain"));
+    for line in lines.filter(|line| !line.contains(" run ")) {
+        let command = line.strip_prefix("$ ").unwrap();
+        assert!(page.lines().any(|line| line == command), "{command}");
+    }
 }
 
 /// Every object and every message that the manual shows, and the messages of the manual page.

@@ -111,6 +111,24 @@ fn file_of_trial_a() {
     assert_eq!(listing(&[]), "refused 6\n");
 }
 
+/// The pool of trials A and B, and of B and A; a place in the second part, and columns that differ.
+#[test]
+fn pools_of_trials_a_and_b() {
+    let a: Part = (2, &[2, 1, 3, 3, 4, 1], &[5]);
+    let b: Part = (2, &[1, 1, 2, 2, 3, 1, 5, 4], &[6]);
+    let (mut steps, mut outputs) = ([9; 15], [9; 3]);
+    assert_eq!(pool(a, b, &mut steps, &mut outputs), Ok(vec![7]));
+    assert_eq!(steps, [2, 1, 3, 3, 4, 1, 1, 1, 2, 2, 6, 1, 8, 7, 9]);
+    assert_eq!(outputs, [5, 9, 9]);
+    assert_eq!(pool(b, a, &mut steps, &mut outputs), Ok(vec![7]));
+    assert_eq!(steps, [1, 1, 2, 2, 3, 1, 5, 4, 2, 1, 7, 7, 8, 1, 9]);
+    assert_eq!(outputs, [6, 9, 9]);
+    let unfit: Part = (2, &[2, 1, 3, 0], &[5]);
+    assert_eq!(pool(b, unfit, &mut steps, &mut outputs), Err((9, 6)));
+    let narrow: Part = (1, &[], &[0]);
+    assert_eq!(pool(a, narrow, &mut steps, &mut outputs), Err((17, 0)));
+}
+
 /// Counts and ceilings worked out by hand from the document's formulas.
 #[test]
 fn counts_and_ceilings() {

@@ -1,7 +1,7 @@
 //! Each function, on the largest input, on a thread with just the stack that the header says is enough. One that needed more would end the process.
 use spoutbasket::{slices, LONGEST_FILE, LONGEST_LISTING, LONGEST_PHRASE};
 use spoutbasket_tests::header;
-use spoutbasket_tests::random::job_counting;
+use spoutbasket_tests::random::{job_counting, legal_chain, Random};
 use spoutbasket_tests::reference::{Job, MOST_COLUMNS, MOST_PAYSLIPS, MOST_STEPS, MOST_VALUES};
 
 const MODULUS: u32 = 4_294_967_291;
@@ -143,6 +143,32 @@ fn chains() {
             words,
         )
     });
+}
+
+/// The largest pool, of two parts that are equal in size, and of two of which one has all the steps.
+#[test]
+fn pools() {
+    let mut r = Random(56);
+    for n in [MOST_STEPS / 2, MOST_STEPS] {
+        let q = MOST_PAYSLIPS / 2;
+        let a = legal_chain(&mut r, MOST_COLUMNS, q, n, true);
+        let b = legal_chain(&mut r, MOST_COLUMNS, q, MOST_STEPS - n, true);
+        let (mut steps, mut outputs) = (vec![0; 2 * MOST_STEPS], vec![0; MOST_PAYSLIPS]);
+        let answer = on_stack("STACK", |words| {
+            slices::pool(
+                a.p,
+                &a.steps,
+                &a.outputs,
+                b.p,
+                &b.steps,
+                &b.outputs,
+                &mut steps,
+                &mut outputs,
+                words,
+            )
+        });
+        assert_eq!(answer, [MOST_STEPS as u64, 0, 0, 0]);
+    }
 }
 
 #[test]

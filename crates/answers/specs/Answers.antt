@@ -12,6 +12,8 @@ use Rattle.answers.specs.declared.Verified.{Verified}
 use Rattle.answers.specs.declared.Verified.the-variants as verified
 use Rattle.answers.specs.declared.Ran.{Ran}
 use Rattle.answers.specs.declared.Ran.the-variants as ran
+use Rattle.answers.specs.declared.Pooled.{Pooled}
+use Rattle.answers.specs.declared.Pooled.the-variants as pooled
 use Rattle.answers.specs.declared.Chosen.{Chosen}
 use Rattle.answers.specs.declared.Chosen.the-variants as chosen
 use Rattle.answers.specs.declared.Figured.{Figured}
@@ -41,6 +43,11 @@ verifiedOf (verified.Refused number place) = refusal number place
 abbrev pub ranOf : Ran → Answer
 ranOf (ran.Multiplications n) = done (n ∷ [])
 ranOf (ran.Refused number place) = refusal number place
+
+-- pool: n
+abbrev pub pooledOf : Pooled → Answer
+pooledOf (pooled.Steps n) = done (n ∷ [])
+pooledOf (pooled.Refused number place) = refusal number place
 
 -- Spec 8: which file the chooser hands back, or the refusal
 pub data Choice : Type 0 where

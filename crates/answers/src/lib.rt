@@ -30,6 +30,12 @@ pub enum Ran {
     Refused(u32, usize),
 }
 
+// The pool: its steps.
+pub enum Pooled {
+    Steps(usize),
+    Refused(u32, usize),
+}
+
 // The chooser: the file chosen.
 pub enum Chosen {
     First,

@@ -1,26 +1,19 @@
 -- Each operand of a legal step and each output is at most p + n, by the rule that accepted it, so that it fits W bits.
 use mathlib.Core.Path.{_≡_}
-use mathlib.Core.List.{List, [], _∷_}
-use Prim.Native.Nat.{ℕ, zero, suc, _+_, _^_, _≤_, _<_, zero-le}
+use mathlib.Core.List.{List}
+use Prim.Native.Nat.{ℕ, _+_, _^_, _≤_, _<_}
 use native.Mathlib.Nat.{lt-of-not-le}
 use native.Mathlib.Decide.{decLe}
 use native.Mathlib.Omega.{arith}
 use lib.ListN.{length, getD, List·getD-eq-default}
 use Rattle.chain.specs.Verdict.{fine}
-use Rattle.chain.specs.Chain.{flat, stepsRule, chainRule}
+use Rattle.chain.specs.Chain.{flat, chainRule}
 use Rattle.chain.specs.declared.Step.{Step}
 use Rattle.chain.proofs.Rules.{then-fine}
-use Rattle.chain.proofs.Steps.{step-legal}
+use Rattle.chain.proofs.Steps.{flat-low}
 use Rattle.chain.proofs.Outputs.{outputs-low}
 use Rattle.layout.specs.File.{width}
 use Rattle.layout.proofs.Lengths.{width-holds}
-
--- each operand is at most the number of the last value
-flat-low : (p s top : ℕ) (steps : List Step) → stepsRule p s steps ≡ fine → p + s + length steps ≤ suc top → (k : ℕ) → getD (flat steps) k 0 ≤ top
-flat-low p s top [] ok h k = zero-le
-flat-low p s top (x ∷ r) ok h zero = omega (arith, step-legal (p + s) s x (then-fine _ _ ok .0) .first-low)
-flat-low p s top (x ∷ r) ok h (suc zero) = omega (arith, step-legal (p + s) s x (then-fine _ _ ok .0) .second-low)
-flat-low p s top (x ∷ r) ok h (suc (suc k)) = flat-low p (suc s) top r (then-fine _ _ ok .1) (omega arith) k
 
 module _ (p : ℕ) (steps : List Step) (outputs : List ℕ) (ok : chainRule p steps outputs ≡ fine) where
   pub operands-small : (k : ℕ) → getD (flat steps) k 0 < 2 ^ width p (length steps)

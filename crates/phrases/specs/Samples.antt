@@ -11,10 +11,11 @@ pub record Samples : Type 0 where
   pub seventh : phrase 7 ≡ 101 ∷ 100 ∷ 105 ∷ 116 ∷ 105 ∷ 111 ∷ 110 ∷ []
   pub sign : phrase 106 ≡ 115 ∷ 105 ∷ 103 ∷ 110 ∷ []
   -- the last of each run is there, the numbers around the runs have none
-  pub last : length (phrase 16) ≡ 41
+  pub sixteenth : length (phrase 16) ≡ 41
+  pub last : length (phrase 17) ≡ 20
   pub lastFault : length (phrase 107) ≡ 32
   pub zero : phrase 0 ≡ noPhrase
-  pub past : phrase 17 ≡ noPhrase
+  pub past : phrase 18 ≡ noPhrase
   pub below : phrase 100 ≡ noPhrase
   pub above : phrase 108 ≡ noPhrase
   -- a text that just holds a phrase, and one that is a byte too short
@@ -31,6 +32,7 @@ samples-hold =
     record {
       seventh = refl;
       sign = refl;
+      sixteenth = refl;
       last = refl;
       lastFault = refl;
       zero = refl;

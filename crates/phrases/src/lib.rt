@@ -7,7 +7,7 @@ ghost use Rattle.phrases.specs.Phrases.{phraseNumber, phraseWords, phras
 ghost use Rattle.phrases.specs.Inner.{allPhrases, startOf, placeOf};
 
 // How many phrases the specification's refusals have, with one for a number that is none; the first number of a text's faults, and how many these are.
-const PHRASES: usize = 17;
+const PHRASES: usize = 18;
 
 const FIRST_FAULT: usize = 101;
 
@@ -33,13 +33,14 @@ const STARTS: [usize; PHRASES + FAULTS + 1] = [
     349,
     358,
     399,
-    430,
-    456,
-    493,
-    541,
-    571,
-    575,
-    607,
+    419,
+    450,
+    476,
+    513,
+    561,
+    591,
+    595,
+    627,
 ];
 
 // Where phrase n begins.
@@ -89,7 +90,7 @@ pub fn phrase(number: u32, text: &mut [u8], answer: &mut [u64; 4]) -> u32
         return 5;
     }
     put_part(
-        b"no such refusalp or q out of rangeamounts are not p times qmethod or parametermore than 16,000 stepsa lent slice too shortfile under 4 bytes, or not its stated lengtheditiona filling bit setoperand 0operand not below its own valuefirst operand smaller than secondoutput above the last valueexponent too largean output's exponents are not its payslipmodulus 0bases not p, or one not below the modulusneither a digit nor a separatornumber above 4,294,967,295cut off: the last line has no newlinea line with more or fewer amounts than the firstdecimal point or grouping marksignno amount between two separators",
+        b"no such refusalp or q out of rangeamounts are not p times qmethod or parametermore than 16,000 stepsa lent slice too shortfile under 4 bytes, or not its stated lengtheditiona filling bit setoperand 0operand not below its own valuefirst operand smaller than secondoutput above the last valueexponent too largean output's exponents are not its payslipmodulus 0bases not p, or one not below the moduluscolumn counts differneither a digit nor a separatornumber above 4,294,967,295cut off: the last line has no newlinea line with more or fewer amounts than the firstdecimal point or grouping marksignno amount between two separators",
         from,
         end,
         text,

@@ -11,6 +11,7 @@ ghost use Rattle.layout.specs.Layout.{edition1};
 ghost use Rattle.layout.specs.File.{writeAnswer, writeBytes, readAnswer, readSteps, readOutputs};
 ghost use Rattle.verify.specs.Verify.{verifyAnswer, verifyScratch};
 ghost use Rattle.run.specs.Run.{runAnswer, runValues, runFigures};
+ghost use Rattle.pool.specs.Pool.{part, poolAnswer, poolSteps, poolOutputs};
 ghost use Rattle.choose.specs.Choose.{choice};
 ghost use Rattle.listing.specs.Listing.{listing};
 ghost use Rattle.path.specs.Path.{lent, pathAnswer, pathLeaves};
@@ -161,6 +162,32 @@ pub extern "C" fn spoutbasket_run_pairs(
 {
     let ran = pairs::run_pairs(p, steps, outputs, m, bases, values, figures);
     tell_chain::tell_ran(ran, answer)
+}
+
+// Two chains over the same columns pooled into one.
+#[no_mangle]
+pub extern "C" fn spoutbasket_pool(
+    p1: usize,
+    steps1: &[u32],
+    outputs1: &[u32],
+    p2: usize,
+    steps2: &[u32],
+    outputs2: &[u32],
+    steps: &mut [u32],
+    outputs: &mut [u32],
+    answer: &mut [u64; 4],
+) -> u32
+    ensures { λ r. ⌜ r ≡ numberOf (poolAnswer (part p1 (pairs (now (steps1 .entry))) (now (outputs1 .entry)))
+        (part p2 (pairs (now (steps2 .entry))) (now (outputs2 .entry))) (length (now (steps .entry)) / 2) (length (now (outputs .entry)))) ⌝ }
+    ensures { λ r. ⌜ now (answer .exit) ≡ wordsOf (poolAnswer (part p1 (pairs (now (steps1 .entry))) (now (outputs1 .entry)))
+        (part p2 (pairs (now (steps2 .entry))) (now (outputs2 .entry))) (length (now (steps .entry)) / 2) (length (now (outputs .entry)))) ⌝ }
+    ensures { λ r. ⌜ now (steps .exit) ≡ poolSteps (part p1 (pairs (now (steps1 .entry))) (now (outputs1 .entry)))
+        (part p2 (pairs (now (steps2 .entry))) (now (outputs2 .entry))) (length (now (outputs .entry))) (now (steps .entry)) ⌝ }
+    ensures { λ r. ⌜ now (outputs .exit) ≡ poolOutputs (part p1 (pairs (now (steps1 .entry))) (now (outputs1 .entry)))
+        (part p2 (pairs (now (steps2 .entry))) (now (outputs2 .entry))) (length (now (steps .entry)) / 2) (now (outputs .entry)) ⌝ }
+{
+    let pooled = pooler::pool(p1, steps1, outputs1, p2, steps2, outputs2, steps, outputs);
+    tell_chain::tell_pooled(pooled, answer)
 }
 
 // The choice between two files: which of them is handed back. The scratch slices are left free in content.

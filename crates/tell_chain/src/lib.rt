@@ -1,6 +1,7 @@
-// How what a receiver does with a chain answers across the C interface: the check and the run.
-ghost use Rattle.answers.specs.Answers.{verifiedOf, ranOf};
+// How what is done with chains answers across the C interface: the check, the run and the pool.
+ghost use Rattle.answers.specs.Answers.{verifiedOf, ranOf, pooledOf};
 ghost use Rattle.tell.specs.Inner.{ToldAs};
+use answers::Pooled;
 use answers::Ran;
 use answers::Verified;
 use tell::tell;
@@ -22,5 +23,15 @@ pub fn tell_ran(ran: Ran, answer: &mut [u64; 4]) -> u32
     match ran {
         Ran::Refused(number, place) => tell(number, place, 0, 0, answer),
         Ran::Multiplications(n) => tell(0, n, 0, 0, answer),
+    }
+}
+
+// What a pool answered.
+pub fn tell_pooled(pooled: Pooled, answer: &mut [u64; 4]) -> u32
+    ensures { λ r. ⌜ ToldAs (pooledOf pooled) r (now (answer .exit)) ⌝ }
+{
+    match pooled {
+        Pooled::Refused(number, place) => tell(number, place, 0, 0, answer),
+        Pooled::Steps(n) => tell(0, n, 0, 0, answer),
     }
 }

@@ -9,7 +9,7 @@ use lib.Seq.{length-take-le, take-length}
 use Rattle.chain.specs.Written.{over}
 use Rattle.chain.specs.Chain.{pairs, flat}
 use Rattle.chain.proofs.Rules.{then-fine, refuseIf-fine, not-lt}
-use Rattle.chain.proofs.Pairs.{length-pairs}
+use Rattle.chain.proofs.Pairs.{length-pairs, take-flat}
 use Rattle.bits.specs.Bits.{bits, fields, bytesBits, pack, bytesFor}
 use Rattle.bits.specs.Inner.{filed, FieldStored}
 use Rattle.bits.proofs.Values.{length-bits}
@@ -43,14 +43,6 @@ module _ (L : Layout) (p q n : ℕ) (old m₁ m₂ m₃ m₄ : List ℕ) (a₁ a
         is = put-next b₃ (bits (L .bits) n) old m₃ m₄ a₃ (L .bits) a₄ l₃ f₃ v;
         moved = omega (arith, s .moved, t .moved, u .moved, v .moved);
       }
-
--- what is written of the steps: an odd last number is left out
-take-flat : (l : List ℕ) → take (2 * (length l / 2)) l ≡ flat (pairs l)
-take-flat [] = refl
-take-flat (a ∷ []) = refl
-take-flat (a ∷ b ∷ r) =
-    let e : 2 * (length (a ∷ b ∷ r) / 2) ≡ suc (suc (2 * (length r / 2))) = omega arith in
-    ap (λ (k : ℕ). take k (a ∷ b ∷ r)) e ∙ ap (λ (t : List ℕ). a ∷ b ∷ t) (take-flat r)
 
 -- a buffer is clean after what was written
 filed-clean : (b : List Bool) (old m : List ℕ) (at : ℕ) → length b ≡ at → m ≡ filed b old → Clean m at

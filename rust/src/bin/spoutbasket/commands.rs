@@ -1,11 +1,12 @@
 //! What each command does.
 use crate::args::{Form, Given};
-use crate::documents::{self, refused_file, refused_keys, refused_sheet};
+use crate::documents::{self, refused_both, refused_file, refused_keys, refused_sheet};
 use crate::input::Source;
 use crate::json;
 use crate::messages::{counted, say, Failure};
 use crate::output::{self, Target};
-use spoutbasket::{choose as choose_file, Method, Run};
+use crate::wanted::Wanted;
+use spoutbasket::{choose as choose_file, Chain, Method, Run};
 use std::ffi::OsString;
 
 /// A command: what it takes and what it does.
@@ -14,7 +15,7 @@ pub struct Command {
     act: fn(&Form, &Given) -> Result<(), Failure>,
 }
 
-pub const ALL: [Command; 6] = [
+pub const ALL: [Command; 7] = [
     Command {
         form: Form {
             name: "compile",
@@ -29,7 +30,7 @@ pub const ALL: [Command; 6] = [
             name: "check",
             flags: &["--table", "--json"],
             valued: &[],
-            files: (2, 2),
+            files: (2, 3),
         },
         act: check,
     },
@@ -41,6 +42,15 @@ pub const ALL: [Command; 6] = [
             files: (3, 3),
         },
         act: choose,
+    },
+    Command {
+        form: Form {
+            name: "pool",
+            flags: &["--verbose"],
+            valued: &["-o"],
+            files: (2, 2),
+        },
+        act: pool,
     },
     Command {
         form: Form {
@@ -91,7 +101,7 @@ fn compile(form: &Form, given: &Given) -> Result<(), Failure> {
         return Err(form.wrong("--best and --method are two methods"));
     }
     let source = Source::new(given.file(0));
-    let target = target(form, given, &source)?;
+    let target = target(form, given, &[&source], "the sheet")?;
     let sheet = documents::sheet(&source, given.has("--table"))?;
     let made = match method {
         Some(method) => sheet.compile(method).map(|chain| (method, chain)),
@@ -108,35 +118,55 @@ fn compile(form: &Form, given: &Given) -> Result<(), Failure> {
 }
 
 fn check(form: &Form, given: &Given) -> Result<(), Failure> {
-    let [sheet, chain] = sources(form, given)?;
-    let wanted = documents::sheet(&sheet, given.has("--table"))?;
-    let chain = documents::checked(&wanted, &chain, &chain.chain()?)?;
-    let (p, q, n) = (wanted.columns(), wanted.payslips(), chain.n());
+    let table = given.has("--table");
+    let (wanted, chain) = match given.file(2) {
+        None => {
+            let [sheet, chain] = sources(form, given)?;
+            (Wanted::one(&sheet, table)?, chain)
+        }
+        Some(_) => {
+            let [first, second, chain] = sources(form, given)?;
+            (Wanted::two(&first, &second, table)?, chain)
+        }
+    };
+    let chain = wanted.made_by(&chain, &chain.chain()?)?;
     if given.has("--json") {
         let mut fields = vec![("passed", "true".to_string())];
-        fields.extend(shape(p, q, n));
+        fields.extend(shape(sizes(&chain)));
         return print(json::object(&fields));
     }
     // the exit status says it too
-    let sizes = [(p, "column"), (q, "payslip"), (n, "step")];
-    let sizes = sizes
-        .map(|(number, thing)| counted(number, thing))
-        .join(", ");
-    output::tell(format!("passed: {sizes}\n").as_bytes())
+    output::tell(format!("passed: {}\n", in_words(sizes(&chain))).as_bytes())
 }
 
 fn choose(form: &Form, given: &Given) -> Result<(), Failure> {
     let [sheet, first, second] = sources(form, given)?;
-    let target = target(form, given, &sheet)?;
-    let wanted = documents::sheet(&sheet, given.has("--table"))?;
+    let target = target(form, given, &[&sheet], "the sheet")?;
+    let wanted = Wanted::one(&sheet, given.has("--table"))?;
     let (a, b) = (first.chain()?, second.chain()?);
-    let taken = choose_file(&wanted, &a, &b)
-        .map_err(|refusal| documents::unlike(&wanted, &first, &a, refusal))?;
+    let taken =
+        choose_file(&wanted.sheet, &a, &b).map_err(|refusal| wanted.unlike(&first, &a, refusal))?;
     target.write(taken)?;
     if given.has("--verbose") {
         let is_first = std::ptr::eq(taken, &a[..]);
         let name = if is_first { first } else { second }.name();
         say(&format!("{name}: taken"));
+    }
+    Ok(())
+}
+
+fn pool(form: &Form, given: &Given) -> Result<(), Failure> {
+    let [first, second] = sources(form, given)?;
+    let target = target(form, given, &[&first, &second], "a part")?;
+    let (a, b) = (first.chain()?, second.chain()?);
+    let a = documents::chain(&first, &a)?;
+    let b = documents::chain(&second, &b)?;
+    let refused = |refusal| refused_both([&first, &second], [sizes(&a), sizes(&b)], refusal);
+    let pool = a.pool(&b).map_err(refused)?;
+    target.write(&pool.to_file().map_err(refused)?)?;
+    if given.has("--verbose") {
+        let names = documents::both([&first, &second]);
+        say(&format!("{names}: {}", in_words(sizes(&pool))));
     }
     Ok(())
 }
@@ -147,7 +177,7 @@ fn list(_: &Form, given: &Given) -> Result<(), Failure> {
     if !given.has("--json") {
         return output::print(listing.text().as_bytes());
     }
-    let mut fields = shape(listing.columns(), listing.payslips(), listing.steps());
+    let mut fields = shape([listing.columns(), listing.payslips(), listing.steps()]);
     fields.push(("amounts", json::array(listing.rows().map(json::numbers))));
     print(json::object(&fields))
 }
@@ -220,21 +250,34 @@ fn keys_source(form: &Form, given: &Given) -> Result<Source, Failure> {
     }
 }
 
-/// Where a chain goes: not over the sheet that it is for, and to a terminal only if that is asked for.
-fn target(form: &Form, given: &Given, sheet: &Source) -> Result<Target, Failure> {
+/// Where a chain goes: not over what it is made of, and to a terminal only if that is asked for.
+fn target(form: &Form, given: &Given, of: &[&Source], what: &str) -> Result<Target, Failure> {
     let name = given.value("-o");
     if name.is_none() && output::to_terminal() {
         return Err(form.wrong("a chain is no text for a terminal: give -o CHAIN"));
     }
     let target = Target::new(name);
-    if target.is(sheet) {
-        return Err(form.wrong("-o names the sheet itself"));
+    if of.iter().any(|source| target.is(source)) {
+        return Err(form.wrong(&format!("-o names {what} itself")));
     }
     Ok(target)
 }
 
+/// A chain's columns, payslips and steps.
+fn sizes(chain: &Chain) -> [usize; 3] {
+    [chain.columns, chain.outputs.len(), chain.n()]
+}
+
+/// A chain's sizes in words.
+fn in_words([p, q, n]: [usize; 3]) -> String {
+    let sizes = [(p, "column"), (q, "payslip"), (n, "step")];
+    sizes
+        .map(|(number, thing)| counted(number, thing))
+        .join(", ")
+}
+
 /// A chain's sizes as JSON fields.
-fn shape(p: usize, q: usize, n: usize) -> Vec<(&'static str, String)> {
+fn shape([p, q, n]: [usize; 3]) -> Vec<(&'static str, String)> {
     vec![
         ("columns", p.to_string()),
         ("payslips", q.to_string()),

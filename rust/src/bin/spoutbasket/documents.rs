@@ -1,9 +1,9 @@
 //! Sheets, chains and keys out of what is read, each by the library; and in words why one is turned down.
 use crate::input::Source;
 use crate::messages::{counted, Failure, Refused};
-use spoutbasket::{choose, list, numbers, Chain, Keys, Listing, Method, Reason, Refusal};
+use spoutbasket::{list, numbers, Chain, Keys, Listing, Method, Reason, Refusal};
 use spoutbasket::{Sheet, SheetError, TextFault, TextReason};
-use spoutbasket::{LONGEST_FILE, MOST_COLUMNS, MOST_PAYSLIPS};
+use spoutbasket::{LONGEST_FILE, MOST_COLUMNS, MOST_PAYSLIPS, MOST_STEPS};
 
 /// The sheet of a table, or of the plain numbers p, q and the amounts.
 pub fn sheet(source: &Source, table: bool) -> Result<Sheet, Failure> {
@@ -16,9 +16,12 @@ pub fn sheet(source: &Source, table: bool) -> Result<Sheet, Failure> {
     let like_a_table = |byte: &u8| matches!(byte, b',' | b';') || byte.is_ascii_alphabetic();
     Ok(read(&text).map_err(|error| {
         let refused = no_sheet(source, &text, error);
-        match !table && text.iter().any(like_a_table) {
-            true => refused.and("for a table, one payslip a line, give --table"),
-            false => refused,
+        if Chain::from_file(&text).is_ok() {
+            refused.and("the file is a chain, a sheet is wanted")
+        } else if !table && text.iter().any(like_a_table) {
+            refused.and("for a table, one payslip a line, give --table")
+        } else {
+            refused
         }
     })?)
 }
@@ -124,37 +127,25 @@ pub fn refused_file(source: &Source, bytes: &[u8], refusal: Refusal) -> Refused 
     Refused::new(source.name(), refusal, detail)
 }
 
-/// The chain of a file that makes the sheet. It is judged by the chooser, which compares p and q too and never takes a file of no bytes.
-pub fn checked(sheet: &Sheet, source: &Source, bytes: &[u8]) -> Result<Chain, Refused> {
-    match choose(sheet, bytes, &[]) {
-        Ok(_) => chain(source, bytes),
-        Err(refusal) => Err(unlike(sheet, source, bytes, refusal)),
-    }
+/// Two chains that do not pool, or two sheets that do not go one above the other: both are named. Of each its columns, payslips and steps.
+pub fn refused_both(sources: [&Source; 2], sizes: [[usize; 3]; 2], refusal: Refusal) -> Refused {
+    let [[p1, q1, n1], [p2, q2, n2]] = sizes;
+    let together = |found, thing, most| {
+        let found = counted(found, thing);
+        Some(format!("{found} together, at most {most}"))
+    };
+    let detail = match refusal.reason {
+        Reason::Sizes => together(q1 + q2, "payslip", MOST_PAYSLIPS),
+        Reason::Columns => Some(format!("{p1} and {p2} columns")),
+        Reason::Steps => together(n1 + n2, "step", MOST_STEPS),
+        _ => None,
+    };
+    Refused::new(both(sources), refusal, detail)
 }
 
-/// A file that does not make a sheet.
-pub fn unlike(sheet: &Sheet, source: &Source, bytes: &[u8], refusal: Refusal) -> Refused {
-    if refusal.reason != Reason::Payslip {
-        return refused_file(source, bytes, refusal);
-    }
-    let detail = Chain::from_file(bytes).ok().and_then(|chain| {
-        let shape = |what, made, wanted| {
-            let differs = made != wanted;
-            differs.then(|| format!("the chain has {}, the sheet {wanted}", counted(made, what)))
-        };
-        shape("column", chain.columns, sheet.columns())
-            .or_else(|| shape("payslip", chain.outputs.len(), sheet.payslips()))
-            .or_else(|| other_column(&list(bytes).ok()?, sheet, refusal.place))
-    });
-    Refused::new(source.name(), refusal, detail)
-}
-
-/// The first column of a payslip in which a chain makes another amount. The amounts are not told.
-fn other_column(made: &Listing, sheet: &Sheet, payslip: usize) -> Option<String> {
-    let at = payslip.checked_sub(1)?;
-    let mut amounts = made.rows().nth(at)?.iter().zip(sheet.rows().nth(at)?);
-    let column = amounts.position(|(made, wanted)| made != wanted)?;
-    Some(format!("column {} is another amount", column + 1))
+/// The names of two sources.
+pub fn both(sources: [&Source; 2]) -> String {
+    sources.map(Source::name).join(" and ")
 }
 
 /// A sheet that a method refuses, or that no method takes.

@@ -8,8 +8,9 @@ Usage: spoutbasket COMMAND ..
 
 Commands:
   compile  make a sheet's chain, the shortest unless a method is named
-  check    hold a chain against a sheet
+  check    hold a chain against a sheet, or against two
   choose   take the better of two chains for a sheet
+  pool     make one chain of the chains of two sheets
   list     read the amounts back out of a chain
   run      make the control figures of a chain
   figures  make the control figures of a sheet: compile, write, read, check, run
@@ -19,7 +20,7 @@ Exit status: 0 done, 1 refused, 2 wrong use, 3 input or output failed.
 ";
 
 /// The commands' texts by name.
-pub const COMMANDS: [(&str, &str); 6] = [
+pub const COMMANDS: [(&str, &str); 7] = [
     (
         "compile",
         "\
@@ -40,11 +41,13 @@ Example: spoutbasket compile week.txt -o week.chain
     (
         "check",
         "\
-Usage: spoutbasket check [--table] [--json] SHEET CHAIN
+Usage: spoutbasket check [--table] [--json] SHEET [SHEET2] CHAIN
 
-Holds a chain against a sheet, whoever made it: passed, or refused with status 1.
+Holds a chain against a sheet, whoever made it: passed, or refused with status 1. With
+two sheets it is held against the payslips of the first and then of the second, as a
+pool has them.
 
-  --table  the sheet is a table, one payslip a line
+  --table  the sheet is a table, one payslip a line; of two sheets, each
   --json   the result as one JSON object
 
 Example: spoutbasket check week.txt week.chain
@@ -63,6 +66,21 @@ steps, the first where they have as many. Writes that file byte for byte.
   -v, --verbose  say which was taken on standard error
 
 Example: spoutbasket choose week.txt ours.chain theirs.chain -o best.chain
+",
+    ),
+    (
+        "pool",
+        "\
+Usage: spoutbasket pool [-o CHAIN] [-v] FIRST SECOND
+
+Makes one chain of two, whose sheets have the same columns: the payslips of the first,
+then those of the second. The pool makes both sheets, the first above the second, if
+each of the two makes its own; check it against both.
+
+  -o CHAIN       the file to write, whole or not at all; else standard output
+  -v, --verbose  say what was pooled on standard error
+
+Example: spoutbasket pool staff.chain hourly.chain -o pool.chain
 ",
     ),
     (

@@ -9,6 +9,7 @@ mod input;
 mod json;
 mod messages;
 mod output;
+mod wanted;
 
 use messages::Failure;
 use std::ffi::OsString;

@@ -1,0 +1,6 @@
+pub mod Counted
+pub mod Places
+pub mod Parts
+pub mod Poolable
+pub mod Numbers
+pub mod Left

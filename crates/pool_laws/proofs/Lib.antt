@@ -1,0 +1,10 @@
+pub mod Renumbered
+pub mod Values
+pub mod Outputs
+pub mod Legal
+pub mod Findings
+pub mod Exponents
+pub mod Payslips
+pub mod Passes
+pub mod Figures
+pub mod Runs

@@ -1,4 +1,5 @@
-//! What the pages say of the command is what it does: synopses, the example, objects, messages, the night's script, the sample.
+//! What the pages say of the command is what it does: synopses, the example, objects, messages, the night's script, the sample. What they say of the
+//! sources is there: files, contracts, edits.
 use spoutbasket_tests::command::{spoutbasket, Folder, KEYS, WEEK};
 
 fn page(name: &str) -> String {
@@ -192,4 +193,66 @@ fn the_examples_of_the_read_me() {
         lines += 1;
     }
     assert!(lines >= 4);
+}
+
+/// What stands between backticks in some lines.
+fn quoted(lines: &str) -> Vec<&str> {
+    lines.split('`').skip(1).step_by(2).collect()
+}
+
+#[test]
+fn every_source_that_a_page_names() {
+    let mut named = 0;
+    for name in [
+        "DECISIONS",
+        "DEMANDS",
+        "DESIGN",
+        "LIBRARIES",
+        "NOTES",
+        "SPEC",
+        "TRIALS",
+    ] {
+        let page = page(&format!("docs/{name}.md"));
+        let whole = |path: &&str| path.starts_with("crates/") && !path.contains(['*', '…']);
+        for path in quoted(&page).into_iter().filter(whole) {
+            let there = format!("{}/../{path}", env!("CARGO_MANIFEST_DIR"));
+            assert!(std::path::Path::new(&there).exists(), "{name}: {path}");
+            named += 1;
+        }
+    }
+    assert!(named > 100, "{named} sources named");
+}
+
+/// Each entry point has its contract in a file of its row, and each worthless version its edit.
+#[test]
+fn contracts_and_edits_of_the_demands() {
+    let demands = page("docs/DEMANDS.md");
+    let rows = |words: &str| -> Vec<Vec<Vec<String>>> {
+        let (_, table) = demands.split_once(words).unwrap();
+        let rows = table.lines().skip(2);
+        let rows = rows.take_while(|line| line.starts_with('|'));
+        rows.map(|row| {
+            let cells = row.split('|').skip(1);
+            cells
+                .map(|cell| quoted(cell).into_iter().map(String::from).collect())
+                .collect()
+        })
+        .collect()
+    };
+    let entries = rows("| entry point | contract in | rule |");
+    for [names, files] in entries.iter().map(|row| [&row[0], &row[1]]) {
+        let code: String = files.iter().map(|file| page(file)).collect();
+        for name in names.iter().filter(|name| !name.contains('…')) {
+            let function = [format!("pub fn {name}("), format!("pub fn {name}<")];
+            let stands = function.iter().any(|words| code.contains(words));
+            assert!(stands, "{name} in {files:?}");
+        }
+    }
+    let versions = rows("| version | edit |");
+    assert!(entries.len() > 9 && versions.len() > 7);
+    for edit in versions.iter().flat_map(|row| &row[1]) {
+        if let Some((name, label)) = edit.split_once('/') {
+            page(&format!("crates/{name}/must-fail/{label}.edit"));
+        }
+    }
 }

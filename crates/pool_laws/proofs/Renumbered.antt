@@ -1,5 +1,4 @@
 -- Renumbering moves no value down and none up by more than n, and keeps their order: so a legal step stays legal.
-use mathlib.Core.Path.{_≡_}
 use mathlib.Core.List.{List, _++_, map}
 use Prim.Native.Nat.{ℕ, _+_, _≤_, _<_}
 use native.Mathlib.Decide.{decLt}

@@ -8,19 +8,18 @@ use lib.Seq.{getD-take, take-length}
 use Rattle.chain.specs.Verdict.{fine, refused, done, refusal}
 use Rattle.chain.specs.Written.{over}
 use Rattle.chain.specs.Chain.{mostColumns, mostSteps, pairs, flat, stepsRule, outputsRule}
-use Rattle.chain.specs.declared.Step.{Step}
 use Rattle.chain.proofs.Rules.{stop, judging, answer-refused, answer-done, kept, renewed}
 use Rattle.chain.proofs.Steps.{flat-low}
 use Rattle.chain.proofs.Outputs.{outputs-low}
 use Rattle.chain.proofs.Pairs.{length-pairs, take-flat, flat-append}
 use Rattle.pool.specs.Pool.{Part, part, renumbered, renumberedStep, pooledSteps, pooledOutputs, poolableRule, poolRule, poolAnswer, poolSteps, poolOutputs}
 use Rattle.pool.proofs.Numbers.{flat-renumbered}
-use Rattle.pooler.specs.Inner.{Raisable}
+use Rattle.pooler.specs.Inner.{Renumberable}
 
 -- the numbers of a part's lists are far from the end of 32 bits
 module _ (p n k : ℕ) (p-low : p ≤ mostColumns) (n-low : n ≤ mostSteps) (k-low : k ≤ mostSteps) (l : List ℕ) where
-  pub steps-raisable : k ≡ length l / 2 → stepsRule p 1 (pairs l) ≡ fine → Raisable n l (2 * k)
-  steps-raisable is ok = record { there = omega arith; low = low }
+  pub steps-renumberable : k ≡ length l / 2 → stepsRule p 1 (pairs l) ≡ fine → Renumberable n l (2 * k)
+  steps-renumberable is ok = record { there = omega arith; low = low }
     where
       low : (i : ℕ) → i < 2 * k → getD l i 0 + n < 2 ^ 32
       low i h =
@@ -28,8 +27,8 @@ module _ (p n k : ℕ) (p-low : p ≤ mostColumns) (n-low : n ≤ mostSteps) (k-
           let same : getD l i 0 ≡ getD (flat (pairs l)) i 0 = sym (getD-take (2 * k) l i 0 h) ∙ ap (λ (t : List ℕ). getD t i 0) front in
           omega (arith, same, flat-low p 1 (p + k) (pairs l) ok (omega (arith, length-pairs l)) i)
 
-  pub outputs-raisable : outputsRule (p + k) 1 l ≡ fine → Raisable n l (length l)
-  outputs-raisable ok = record { there = omega arith; low = λ i h. omega (arith, outputs-low (p + k) 1 l ok i h) }
+  pub outputs-renumberable : outputsRule (p + k) 1 l ≡ fine → Renumberable n l (length l)
+  outputs-renumberable ok = record { there = omega arith; low = λ i h. omega (arith, outputs-low (p + k) 1 l ok i h) }
 
 -- the pool of two flat parts: its sizes, and its lists as they are put
 pub record FlatPool (p p′ : ℕ) (l l′ o o′ : List ℕ) : Type 0 where

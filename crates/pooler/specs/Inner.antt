@@ -5,17 +5,17 @@ use lib.ListN.{length, getD}
 use Rattle.pooler.specs.declared.Numbering.{Numbering}
 
 -- numbers of which the first few stay 32-bit numbers when they go up by n
-pub record Raisable (n : ℕ) (numbers : List ℕ) (count : ℕ) : Type 0 where
+pub record Renumberable (n : ℕ) (numbers : List ℕ) (count : ℕ) : Type 0 where
   pub there : count ≤ length numbers
   pub low : (i : ℕ) → i < count → getD numbers i 0 + n < 2 ^ 32
 
 -- what laying them from a cell on asks
 pub record LayAsked (to : Numbering) (numbers : List ℕ) (count at : ℕ) (cells : List ℕ) : Type 0 where
-  pub raisable : Raisable (to .n) numbers count
+  pub renumberable : Renumberable (to .n) numbers count
   pub room : at + count ≤ length cells
 
 -- what two lists, one after the other, ask: the first stays as it is
 pub record PutAsked (to : Numbering) (first : List ℕ) (count1 : ℕ) (second : List ℕ) (count2 : ℕ) (cells : List ℕ) : Type 0 where
-  pub first-raisable : Raisable 0 first count1
-  pub second-raisable : Raisable (to .n) second count2
+  pub first-fits : Renumberable 0 first count1
+  pub second-fits : Renumberable (to .n) second count2
   pub room : count1 + count2 ≤ length cells

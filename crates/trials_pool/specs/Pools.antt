@@ -1,7 +1,7 @@
 -- Pools of case A with itself and with others: the answer and both slices, the check against both sheets, and the figures (Spec 7.4).
 use mathlib.Core.List.{List, [], _∷_, _++_}
 use Prim.Native.Nat.{ℕ, _+_, _<_}
-use lib.ListN.{length, getD, replicate}
+use lib.ListN.{length, getD}
 use Rattle.chain.specs.Chain.{by, pairs}
 use Rattle.verify.specs.Verify.{verifyAnswer}
 use Rattle.run.specs.Run.{runAnswer, runFigures}

@@ -12,7 +12,7 @@ use Rattle.chain.proofs.Rules.{told-fine, told-refused}
 use Rattle.chain.proofs.Pairs.{length-pairs}
 use Rattle.pool.specs.Pool.{Part, part, poolableRule}
 use Rattle.pool.proofs.Poolable.{Poolable, poolable}
-use Rattle.pooler.proofs.Pooling.{steps-raisable, outputs-raisable, FlatPool, flat-pool, parts-refused, steps-short, outputs-short, room-enough, refused-leaves, pooled-leaves}
+use Rattle.pooler.proofs.Pooling.{steps-renumberable, outputs-renumberable, FlatPool, flat-pool, parts-refused, steps-short, outputs-short, room-enough, refused-leaves, pooled-leaves}
 use Rattle.pooler.proofs.pool.Statement.{statement}
 use Rattle.pooler.proofs.pool.Tie as tie
 
@@ -77,8 +77,8 @@ put-requires c κs =
     let are = both e in
     let low = few e in
     record {
-      first-raisable = steps-raisable (s .p1) 0 _ (are .sizes .p-low) (omega arith) (omega (arith, low)) (s .steps1 .now) refl (are .steps-fine);
-      second-raisable = steps-raisable (s .p2) _ _ (are .sizes′ .p-low) (omega (arith, low)) (omega (arith, low)) (s .steps2 .now) refl (are .steps-fine′);
+      first-fits = steps-renumberable (s .p1) 0 _ (are .sizes .p-low) (omega arith) (omega (arith, low)) (s .steps1 .now) refl (are .steps-fine);
+      second-fits = steps-renumberable (s .p2) _ _ (are .sizes′ .p-low) (omega (arith, low)) (omega (arith, low)) (s .steps2 .now) refl (are .steps-fine′);
       room = omega (arith, c .before .before .if1 .left);
     }
 
@@ -89,11 +89,11 @@ put-requires-2 c κs =
     let are = both e in
     let low = few e in
     record {
-      first-raisable =
-          outputs-raisable (s .p1) 0 (length (pairs (s .steps1 .now))) (are .sizes .p-low) (omega arith) (omega (arith, are .few)) (s .outputs1 .now)
+      first-fits =
+          outputs-renumberable (s .p1) 0 (length (pairs (s .steps1 .now))) (are .sizes .p-low) (omega arith) (omega (arith, are .few)) (s .outputs1 .now)
           (are .outputs-fine);
-      second-raisable =
-          outputs-raisable (s .p2) _ (length (pairs (s .steps2 .now))) (are .sizes′ .p-low) (omega (arith, low)) (omega (arith, are .few)) (s .outputs2 .now)
+      second-fits =
+          outputs-renumberable (s .p2) _ (length (pairs (s .steps2 .now))) (are .sizes′ .p-low) (omega (arith, low)) (omega (arith, are .few)) (s .outputs2 .now)
           (are .outputs-fine′);
       room = omega (arith, c .before .before .before .before .before .if2 .left);
     }

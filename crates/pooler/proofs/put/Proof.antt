@@ -8,13 +8,13 @@ use Rattle.pooler.proofs.put.Tie as tie
 lay-requires : tie.Need-lay-requires
 lay-requires c κs =
     let asked = c .before .before .before .before .pre in
-    record { raisable = asked .first-raisable; room = omega (arith, asked .room) }
+    record { renumberable = asked .first-fits; room = omega (arith, asked .room) }
 
 lay-requires-2 : tie.Need-lay-requires-2
 lay-requires-2 c κs =
     let first = c .before .before .before in
     let asked = first .before .before .before .before .before .pre in
-    record { raisable = asked .second-raisable; room = omega (arith, asked .room, first .lay .kept) }
+    record { renumberable = asked .second-fits; room = omega (arith, asked .room, first .lay .kept) }
 
 same-length : tie.Need-same-length
 same-length c = search needs
@@ -25,7 +25,7 @@ returns c =
     let first = second .before .before .before .before in
     let start = first .before .before .before .before .before in
     let a = start .args in
-    both-laid (a .to .p) (a .to .n) (a .count1) (a .count2) (a .first .now) (a .second .now) _ _ _ (start .pre .first-raisable .there) (first .lay .ensures) (second .lay2 .ensures)
+    both-laid (a .to .p) (a .to .n) (a .count1) (a .count2) (a .first .now) (a .second .now) _ _ _ (start .pre .first-fits .there) (first .lay .ensures) (second .lay2 .ensures)
 
 pub put-spec : {M : Type 1} → statement M
 put-spec = tie.close (tie.spec lay-requires lay-requires-2 same-length returns)

@@ -1,0 +1,3 @@
+pub mod Field
+pub mod Judged
+pub mod Fields

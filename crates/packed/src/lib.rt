@@ -1,0 +1,74 @@
+// Packed decimal: the fields of a slice of bytes, judged and read.
+ghost use mathlib.Core.Path.{_≡_};
+ghost use Prim.Native.Nat.{_+_, _*_, _/_, _%_, _≤_};
+ghost use lib.ListN.{length};
+ghost use Rattle.chain.specs.Judgement.{verdictOf};
+ghost use Rattle.packed.specs.Field.{fieldBytes, amountOf, fieldRule};
+ghost use Rattle.packed.specs.Inner.{digitPair, signRule, fieldAt};
+use chain::Judgement;
+
+// How many bytes a field has (Spec 1.4).
+pub const FIELD_BYTES: usize = 5;
+
+// 1 for a byte of two digits, else 0.
+fn digit_pair(byte: u8) -> usize
+    ensures { λ r. ⌜ r ≡ digitPair byte ⌝ }
+{
+    if byte < 160 {
+        if byte % 16 < 10 {
+            return 1;
+        }
+    }
+    0
+}
+
+// The sign of field i: fine for plus and unsigned, 19 for minus, 18 for what is none.
+fn judge_sign(sign: u8, i: usize) -> Judgement
+    ensures { λ r. ⌜ verdictOf r ≡ signRule i sign ⌝ }
+{
+    match sign {
+        12 => Judgement::Fine,
+        15 => Judgement::Fine,
+        13 => Judgement::Refused(19, i),
+        _ => Judgement::Refused(18, i),
+    }
+}
+
+// Field i, which begins at a byte: 18, then 19. Its digits are told by one test for four bytes of them, since nearly every field is a good one.
+pub fn judge_field(bytes: &[u8], at: usize, i: usize) -> Judgement
+    requires { ⌜ at + fieldBytes ≤ length (now bytes) ⌝ }
+    ensures { λ r. ⌜ verdictOf r ≡ fieldRule i (fieldAt (now (bytes .entry)) at) ⌝ }
+{
+    let pairs = digit_pair(bytes[at])
+        + digit_pair(bytes[at + 1])
+        + digit_pair(bytes[at + 2])
+        + digit_pair(bytes[at + 3]);
+    let last = bytes[at + 4];
+    if pairs < 4 {
+        return Judgement::Refused(18, i);
+    }
+    if 160 <= last {
+        return Judgement::Refused(18, i);
+    }
+    judge_sign(last % 16, i)
+}
+
+// What two half-bytes say as digits.
+fn said_by(byte: u8) -> u32
+    ensures { λ r. ⌜ r ≡ byte / 16 * 10 + byte % 16 ⌝ }
+{
+    let b = byte as u32;
+    b / 16 * 10 + b % 16
+}
+
+// The amount of the field that begins at a byte.
+pub fn amount_at(bytes: &[u8], at: usize) -> u32
+    requires { ⌜ at + fieldBytes ≤ length (now bytes) ⌝ }
+    ensures { λ r. ⌜ r ≡ amountOf (fieldAt (now (bytes .entry)) at) ⌝ }
+{
+    said_by(bytes[at]) * 10000000
+        + said_by(bytes[at + 1]) * 100000
+        + said_by(bytes[at + 2]) * 1000
+        + said_by(bytes[at + 3]) * 10
+        + (bytes[at + 4] / 16) as u32
+}

@@ -1,18 +1,16 @@
 -- A field is five bytes, one after the other, and its amount the sum of what their digits say, each at its weight.
-use mathlib.Core.Path.{_≡_, ap, _∙_}
+use mathlib.Core.Path.{_≡_, sym, ap, _∙_}
 use mathlib.Core.List.{List, [], _∷_}
 use Prim.Native.Nat.{ℕ, suc, _+_, _*_, _/_, _%_, _≤_, _<_}
-use native.Mathlib.Numerals.{add-one}
 use native.Mathlib.Omega.{arith}
 use lib.ListN.{length, getD, take, drop}
 use lib.Seq.{drop-cons}
 use Rattle.packed.specs.Field.{digitsOf, amountOf}
-use Rattle.packed.specs.Inner.{fieldAt}
+use Rattle.packed.specs.Inner.{saidBy, fieldAt}
 
 -- the next of a list's cells
-one-more : (n at at′ : ℕ) (l : List ℕ) → at′ ≡ at + 1 → at < length l → take (suc n) (drop at l) ≡ getD l at 0 ∷ take n (drop at′ l)
-one-more n at at′ l e h =
-    ap (take (suc n)) (drop-cons l at 0 h) ∙ ap (λ (k : ℕ). getD l at 0 ∷ take n (drop k l)) (omega (arith, add-one at))
+one-more : (n at at′ : ℕ) (l : List ℕ) → at′ ≡ suc at → at < length l → take (suc n) (drop at l) ≡ getD l at 0 ∷ take n (drop at′ l)
+one-more n at at′ l e h = ap (take (suc n)) (drop-cons l at 0 h) ∙ ap (λ (k : ℕ). getD l at 0 ∷ take n (drop k l)) (sym e)
 
 -- the bytes of the field from a byte on
 abbrev pub fiveAt : List ℕ → ℕ → List ℕ
@@ -28,10 +26,6 @@ five-bytes l at h =
     ∙ ap (λ (r : List ℕ). getD l (at + 2) 0 ∷ r)
     (one-more 1 (at + 3) (at + 4) l (omega arith) (omega arith)
     ∙ ap (λ (r : List ℕ). getD l (at + 3) 0 ∷ r) (one-more 0 (at + 4) (at + 5) l (omega arith) (omega arith)))))
-
--- what two half-bytes say as digits
-abbrev pub saidBy : ℕ → ℕ
-saidBy b = b / 16 * 10 + b % 16
 
 pub amount-said : (a b c d e : ℕ)
     → amountOf (a ∷ b ∷ c ∷ d ∷ e ∷ []) ≡ saidBy a * 10000000 + saidBy b * 100000 + saidBy c * 1000 + saidBy d * 10 + e / 16

@@ -21,7 +21,6 @@ unfolding digitPair _or_
 pair-is b = by-halves (decLt b 160) (decLt (b % 16) 10)
   where
     by-halves : Dec (b < 160) → Dec (b % 16 < 10) → digitPair b ≡ cond (above b) 0 1
-    unfolding digitPair _or_
     by-halves (yes h) (yes l) = rw (lt-yes b 160 h, lt-yes (b % 16) 10 l, lt-no 9 (b / 16) (omega arith), lt-no 9 (b % 16) (omega arith))
     by-halves (yes h) (no l) = rw (lt-yes b 160 h, lt-no (b % 16) 10 (omega arith), lt-no 9 (b / 16) (omega arith), lt-yes 9 (b % 16) (omega arith))
     by-halves (no h) l = rw (lt-no b 160 (omega arith), lt-yes 9 (b / 16) (omega arith))
@@ -37,5 +36,8 @@ some-of false false false false r h = absurd (omega arith)
 
 none-of : (t u v w r : Bool) → 4 ≤ cond t 0 1 + cond u 0 1 + cond v 0 1 + cond w 0 1 → (t or u or v or w or r) ≡ r
 unfolding _or_
-none-of true true true true r h = absurd (omega arith)
 none-of false false false false r h = refl
+none-of true u v w r h = absurd (few u v w (omega arith))
+  where
+    few : (u v w : Bool) → 4 ≤ cond u 0 1 + cond v 0 1 + cond w 0 1 → ⊥
+    few u v w g = omega (arith, one u, one v, one w)

@@ -1,8 +1,8 @@
 -- Packed decimal: a field, as the ledger host keeps an amount (Req 02; Spec 1.4).
-use mathlib.Core.Bool.{Bool, true, false, not}
+use mathlib.Core.Bool.{Bool, true, false, not, cond}
 use mathlib.Core.List.{List, [], _∷_, _++_}
 use Prim.Native.Nat.{ℕ, zero, suc, _+_, _*_, _/_, _%_, _^_}
-use lib.ListN.{getD, take, drop}
+use lib.ListN.{getD, take, drop, set}
 use Rattle.chain.specs.Tests.{_<?_, _=?_, _or_}
 use Rattle.chain.specs.Verdict.{Verdict, _then_, refuseIf}
 
@@ -77,7 +77,16 @@ fieldRule i field =
     refuseIf (anyAbove9 (digitsOf field) or not (isSign (signOf field))) 18 i
     then refuseIf (signOf field =? minus) 19 i
 
--- Spec 7.5: the first m fields of bytes, one after the other
+-- Spec 7.5: a field as it is written back once it was read: unsigned has become plus, and all else is the same
+unfoldable pub writtenBack : List ℕ → List ℕ
+writtenBack field = joined (set (halves field) fieldDigits (cond (signOf field =? unsigned) plus (signOf field)))
+
+-- fields one after the other
+abbrev pub inARow : List (List ℕ) → List ℕ
+inARow [] = []
+inARow (f ∷ r) = f ++ inARow r
+
+-- and the first m fields of bytes
 abbrev pub fieldsIn : ℕ → List ℕ → List (List ℕ)
 fieldsIn zero bytes = []
 fieldsIn (suc m) bytes = take fieldBytes bytes ∷ fieldsIn m (drop fieldBytes bytes)

@@ -1,7 +1,7 @@
 -- Inner vocabulary: what the functions of this crate leave. Nobody has to believe it to believe an entry point's promise.
 use mathlib.Core.Bool.{cond, not}
 use mathlib.Core.List.{List}
-use Prim.Native.Nat.{ℕ, _%_}
+use Prim.Native.Nat.{ℕ, _+_, _*_, _/_, _%_}
 use lib.ListN.{take, drop}
 use Rattle.chain.specs.Tests.{_<?_, _=?_}
 use Rattle.chain.specs.Verdict.{Verdict, _then_, refuseIf}
@@ -10,6 +10,10 @@ use Rattle.packed.specs.Field.{fieldBytes, minus, isSign}
 -- 1 for a byte of two decimal digits, else 0
 unfoldable pub digitPair : ℕ → ℕ
 digitPair b = cond (b <? 160) (cond (b % 16 <? 10) 1 0) 0
+
+-- what a byte's two halves say as digits
+abbrev pub saidBy : ℕ → ℕ
+saidBy b = b / 16 * 10 + b % 16
 
 -- the field from a byte on
 abbrev pub fieldAt : List ℕ → ℕ → List ℕ

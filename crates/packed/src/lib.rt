@@ -1,10 +1,11 @@
 // Packed decimal: the fields of a slice of bytes, judged and read.
 ghost use mathlib.Core.Path.{_≡_};
-ghost use Prim.Native.Nat.{_+_, _*_, _/_, _%_, _≤_};
+ghost use Prim.Native.Nat.{_+_, _≤_};
 ghost use lib.ListN.{length};
 ghost use Rattle.chain.specs.Judgement.{verdictOf};
+ghost use Rattle.digits.specs.Inner.{Bounded};
 ghost use Rattle.packed.specs.Field.{fieldBytes, amountOf, fieldRule};
-ghost use Rattle.packed.specs.Inner.{digitPair, signRule, fieldAt};
+ghost use Rattle.packed.specs.Inner.{digitPair, signRule, saidBy, fieldAt};
 use chain::Judgement;
 
 // How many bytes a field has (Spec 1.4).
@@ -12,7 +13,7 @@ pub const FIELD_BYTES: usize = 5;
 
 // 1 for a byte of two digits, else 0.
 fn digit_pair(byte: u8) -> usize
-    ensures { λ r. ⌜ r ≡ digitPair byte ⌝ }
+    ensures { λ r. ⌜ Bounded r (digitPair byte) 1 ⌝ }
 {
     if byte < 160 {
         if byte % 16 < 10 {
@@ -55,7 +56,7 @@ pub fn judge_field(bytes: &[u8], at: usize, i: usize) -> Judgement
 
 // What two half-bytes say as digits.
 fn said_by(byte: u8) -> u32
-    ensures { λ r. ⌜ r ≡ byte / 16 * 10 + byte % 16 ⌝ }
+    ensures { λ r. ⌜ Bounded r (saidBy byte) 165 ⌝ }
 {
     let b = byte as u32;
     b / 16 * 10 + b % 16

@@ -1,0 +1,25 @@
+-- Fields cut from bytes: there are as many as asked for, field k begins at byte 5 k, and an amount taken from each is one of the list of amounts.
+use mathlib.Core.Path.{_≡_, refl, ap, _∙_}
+use mathlib.Core.List.{List, [], _∷_, map}
+use Prim.Native.Nat.{ℕ, zero, suc, _+_, _*_, _<_}
+use native.Mathlib.Omega.{arith}
+use lib.ListN.{length, getD, take, drop, length-map}
+use lib.Seq.{drop-drop}
+use Rattle.packed.specs.Field.{fieldBytes, amountOf, fieldsIn}
+use Rattle.packed.specs.Inner.{fieldAt}
+
+pub length-fields : (m : ℕ) (bytes : List ℕ) → length (fieldsIn m bytes) ≡ m
+length-fields zero bytes = refl
+length-fields (suc m) bytes = ap suc (length-fields m (drop fieldBytes bytes))
+
+pub field-is : (m : ℕ) (bytes : List ℕ) (k : ℕ) → k < m → getD (fieldsIn m bytes) k [] ≡ fieldAt bytes (fieldBytes * k)
+field-is zero bytes k h = absurd (omega arith)
+field-is (suc m) bytes zero h = refl
+field-is (suc m) bytes (suc k) h =
+    let e : fieldBytes + fieldBytes * k ≡ fieldBytes * suc k = omega arith in
+    field-is m (drop fieldBytes bytes) k (omega arith)
+    ∙ ap (take fieldBytes) (drop-drop (fieldBytes * k) fieldBytes bytes ∙ ap (λ (n : ℕ). drop n bytes) e)
+
+-- the amounts of the first m fields
+pub length-amounts : (m : ℕ) (bytes : List ℕ) → length (map amountOf (fieldsIn m bytes)) ≡ m
+length-amounts m bytes = length-map (fieldsIn m bytes) amountOf ∙ length-fields m bytes

@@ -1,100 +1,50 @@
+-- What each byte's digits say, at its weight, adds up to the amount (`amount-said`). Nothing overflows, whatever the half-bytes are.
 use borrow.Author.Needs.{needs}
+use mathlib.Core.Path.{_≡_, sym, ap, _∙_}
+use Prim.Native.Nat.{_+_, _<_}
+use native.Mathlib.Omega.{arith}
+use lib.ListN.{getD}
+use Rattle.packed.specs.Field.{amountOf}
+use Rattle.packed.proofs.Field.{five-bytes, amount-said}
 use Rattle.packed.proofs.amount_at.Statement.{statement}
 use Rattle.packed.proofs.amount_at.Tie as tie
 
-shared-slice-read-said-by : tie.Need-shared-slice-read-said-by
-shared-slice-read-said-by c = search needs
-
-said-by-requires : tie.Need-said-by-requires
-said-by-requires c κs = search needs
-
-mul-result : tie.Need-mul-result
-mul-result c = search needs
-
-add-said-by : tie.Need-add-said-by
-add-said-by c = search needs
-
-shared-slice-read-said-by-2 : tie.Need-shared-slice-read-said-by-2
-shared-slice-read-said-by-2 c = search needs
-
-said-by-requires-2 : tie.Need-said-by-requires-2
-said-by-requires-2 c κs = search needs
-
-mul-result-2 : tie.Need-mul-result-2
-mul-result-2 c = search needs
-
-add-result : tie.Need-add-result
-add-result c = search needs
-
-add-said-by-2 : tie.Need-add-said-by-2
-add-said-by-2 c = search needs
-
-shared-slice-read-said-by-3 : tie.Need-shared-slice-read-said-by-3
-shared-slice-read-said-by-3 c = search needs
-
-said-by-requires-3 : tie.Need-said-by-requires-3
-said-by-requires-3 c κs = search needs
-
-mul-result-3 : tie.Need-mul-result-3
-mul-result-3 c = search needs
-
-add-result-2 : tie.Need-add-result-2
-add-result-2 c = search needs
-
-add-said-by-3 : tie.Need-add-said-by-3
-add-said-by-3 c = search needs
-
-shared-slice-read-said-by-4 : tie.Need-shared-slice-read-said-by-4
-shared-slice-read-said-by-4 c = search needs
-
-said-by-requires-4 : tie.Need-said-by-requires-4
-said-by-requires-4 c κs = search needs
-
-mul-result-4 : tie.Need-mul-result-4
-mul-result-4 c = search needs
-
-add-result-3 : tie.Need-add-result-3
-add-result-3 c = search needs
-
-add-result-4 : tie.Need-add-result-4
-add-result-4 c = search needs
-
-shared-slice-read-result : tie.Need-shared-slice-read-result
-shared-slice-read-result c = search needs
+-- the last byte is one
+last-low : (c : tie.After-shared-slice-known6)
+    → let start = c .before .before .before .before .before .before .before .before .before .before in
+    getD (start .args .bytes .now) (start .args .at + 4) 0 < 256
+last-low c = omega (arith, c .shared-slice-known6 .given (c .before .before .before .before .before .before .before .before .before .before .args .at + 4))
 
 cast-result : tie.Need-cast-result
-cast-result c = search needs
+cast-result c = record { fits = omega (arith, last-low c) }
 
 add-result-5 : tie.Need-add-result-5
-add-result-5 c = search needs
+add-result-5 c =
+    let four = c .before in
+    let three = four .before .before in
+    let two = three .before .before in
+    let one = two .before .before in
+    record {
+      fits =
+          omega
+          (arith, last-low c, one .said-by .ensures .low, two .said-by2 .ensures .low, three .said-by3 .ensures .low, four .said-by4 .ensures .low);
+    }
 
 returns : tie.Need-returns
-returns c = search needs
+returns c =
+    let four = c .before in
+    let three = four .before .before in
+    let two = three .before .before in
+    let one = two .before .before in
+    let start = one .before .before .before in
+    let said = amount-said _ _ _ _ _ in
+    sym (ap amountOf (five-bytes (start .args .bytes .now) (start .args .at) (start .pre)) ∙ said
+    ∙ omega (arith, one .said-by .ensures .is, two .said-by2 .ensures .is, three .said-by3 .ensures .is, four .said-by4 .ensures .is))
 
 pub amount-at-spec : {M : Type 1} → statement M
 amount-at-spec =
     tie.close
-    (tie.spec
-    shared-slice-read-said-by
-    said-by-requires
-    mul-result
-    add-said-by
-    shared-slice-read-said-by-2
-    said-by-requires-2
-    mul-result-2
-    add-result
-    add-said-by-2
-    shared-slice-read-said-by-3
-    said-by-requires-3
-    mul-result-3
-    add-result-2
-    add-said-by-3
-    shared-slice-read-said-by-4
-    said-by-requires-4
-    mul-result-4
-    add-result-3
-    add-result-4
-    shared-slice-read-result
-    cast-result
-    add-result-5
-    returns)
+    (tie.spec (λ c. search needs) (λ c κs. search needs) (λ c. search needs) (λ c. search needs) (λ c. search needs) (λ c κs. search needs)
+    (λ c. search needs) (λ c. search needs) (λ c. search needs) (λ c. search needs) (λ c κs. search needs) (λ c. search needs) (λ c. search needs)
+    (λ c. search needs) (λ c. search needs) (λ c κs. search needs) (λ c. search needs) (λ c. search needs) (λ c. search needs) (λ c. search needs)
+    cast-result add-result-5 returns)

@@ -1,88 +1,44 @@
+-- Four counts of digits and the last byte say what is found (`Judged`).
 use borrow.Author.Needs.{needs}
+use Rattle.packed.proofs.Judged.{pairs-refused, last-refused, sign-judged}
 use Rattle.packed.proofs.judge_field.Statement.{statement}
 use Rattle.packed.proofs.judge_field.Tie as tie
 
-shared-slice-read-digit-pair : tie.Need-shared-slice-read-digit-pair
-shared-slice-read-digit-pair c = search needs
-
-digit-pair-requires : tie.Need-digit-pair-requires
-digit-pair-requires c κs = search needs
-
-add-digit-pair : tie.Need-add-digit-pair
-add-digit-pair c = search needs
-
-shared-slice-read-digit-pair-2 : tie.Need-shared-slice-read-digit-pair-2
-shared-slice-read-digit-pair-2 c = search needs
-
-digit-pair-requires-2 : tie.Need-digit-pair-requires-2
-digit-pair-requires-2 c κs = search needs
-
-add-pairs : tie.Need-add-pairs
-add-pairs c = search needs
-
-add-digit-pair-2 : tie.Need-add-digit-pair-2
-add-digit-pair-2 c = search needs
-
-shared-slice-read-digit-pair-3 : tie.Need-shared-slice-read-digit-pair-3
-shared-slice-read-digit-pair-3 c = search needs
-
-digit-pair-requires-3 : tie.Need-digit-pair-requires-3
-digit-pair-requires-3 c κs = search needs
-
-add-pairs-2 : tie.Need-add-pairs-2
-add-pairs-2 c = search needs
-
-add-digit-pair-3 : tie.Need-add-digit-pair-3
-add-digit-pair-3 c = search needs
-
-shared-slice-read-digit-pair-4 : tie.Need-shared-slice-read-digit-pair-4
-shared-slice-read-digit-pair-4 c = search needs
-
-digit-pair-requires-4 : tie.Need-digit-pair-requires-4
-digit-pair-requires-4 c κs = search needs
-
-add-pairs-3 : tie.Need-add-pairs-3
-add-pairs-3 c = search needs
-
-add-last : tie.Need-add-last
-add-last c = search needs
-
-shared-slice-read-last : tie.Need-shared-slice-read-last
-shared-slice-read-last c = search needs
-
 returns : tie.Need-returns
-returns c = search needs
+returns c =
+    let four = c .before .before in
+    let three = four .before .before in
+    let two = three .before .before in
+    let one = two .before .before in
+    let start = one .before .before .before in
+    pairs-refused (start .args .bytes .now) (start .args .at) (start .args .i) _ _ _ _ (start .pre) (one .digit-pair .ensures .is)
+    (two .digit-pair2 .ensures .is) (three .digit-pair3 .ensures .is) (four .digit-pair4 .ensures .is) (c .if1 .taken)
 
 returns-2 : tie.Need-returns-2
-returns-2 c = search needs
-
-judge-sign-requires : tie.Need-judge-sign-requires
-judge-sign-requires c κs = search needs
+returns-2 c =
+    let four = c .before .before .before in
+    let three = four .before .before in
+    let two = three .before .before in
+    let one = two .before .before in
+    let start = one .before .before .before in
+    last-refused (start .args .bytes .now) (start .args .at) (start .args .i) _ _ _ _ (start .pre) (one .digit-pair .ensures .is)
+    (two .digit-pair2 .ensures .is) (three .digit-pair3 .ensures .is) (four .digit-pair4 .ensures .is) (c .before .if1 .left) (c .if2 .taken)
 
 returns-3 : tie.Need-returns-3
-returns-3 c = search needs
+returns-3 c =
+    let passed = c .before in
+    let four = passed .before .before .before in
+    let three = four .before .before in
+    let two = three .before .before in
+    let one = two .before .before in
+    let start = one .before .before .before in
+    sign-judged (start .args .bytes .now) (start .args .at) (start .args .i) _ _ _ _ (start .pre) (one .digit-pair .ensures .is)
+    (two .digit-pair2 .ensures .is) (three .digit-pair3 .ensures .is) (four .digit-pair4 .ensures .is) (passed .before .if1 .left) _ (c .judge-sign .ensures)
+    (passed .if2 .left)
 
 pub judge-field-spec : {M : Type 1} → statement M
 judge-field-spec =
     tie.close
-    (tie.spec
-    shared-slice-read-digit-pair
-    digit-pair-requires
-    add-digit-pair
-    shared-slice-read-digit-pair-2
-    digit-pair-requires-2
-    add-pairs
-    add-digit-pair-2
-    shared-slice-read-digit-pair-3
-    digit-pair-requires-3
-    add-pairs-2
-    add-digit-pair-3
-    shared-slice-read-digit-pair-4
-    digit-pair-requires-4
-    add-pairs-3
-    add-last
-    shared-slice-read-last
-    returns
-    returns-2
-    judge-sign-requires
-    returns-3)
+    (tie.spec (λ c. search needs) (λ c κs. search needs) (λ c. search needs) (λ c. search needs) (λ c κs. search needs) (λ c. search needs)
+    (λ c. search needs) (λ c. search needs) (λ c κs. search needs) (λ c. search needs) (λ c. search needs) (λ c. search needs) (λ c κs. search needs)
+    (λ c. search needs) (λ c. search needs) (λ c. search needs) returns returns-2 (λ c κs. search needs) returns-3)

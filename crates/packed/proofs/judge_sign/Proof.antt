@@ -1,18 +1,11 @@
-use borrow.Author.Needs.{needs}
+-- Each arm is one of the signs, or none of them.
+use native.Mathlib.Omega.{arith}
+use Rattle.packed.proofs.Judged.{sign-plus, sign-minus, sign-unsigned, sign-none}
 use Rattle.packed.proofs.judge_sign.Statement.{statement}
 use Rattle.packed.proofs.judge_sign.Tie as tie
 
-returns : tie.Need-returns
-returns c = search needs
-
-returns-2 : tie.Need-returns-2
-returns-2 c = search needs
-
-returns-3 : tie.Need-returns-3
-returns-3 c = search needs
-
-returns-4 : tie.Need-returns-4
-returns-4 c = search needs
-
 pub judge-sign-spec : {M : Type 1} → statement M
-judge-sign-spec = tie.close (tie.spec returns returns-2 returns-3 returns-4)
+judge-sign-spec =
+    tie.close
+    (tie.spec (λ c. sign-plus _ _ (omega arith)) (λ c. sign-unsigned _ _ (omega arith)) (λ c. sign-minus _ _ (omega arith))
+    (λ c. sign-none _ _ (λ e. omega arith) (λ e. omega arith) (λ e. omega arith)))

@@ -3,9 +3,9 @@ use mathlib.Core.Path.{_≡_, refl, ap, _∙_}
 use mathlib.Core.List.{List, [], _∷_, map}
 use Prim.Native.Nat.{ℕ, zero, suc, _+_, _*_, _<_}
 use native.Mathlib.Omega.{arith}
-use lib.ListN.{length, getD, take, drop, length-map}
+use lib.ListN.{length, getD, take, drop, length-map, List·getD-map}
 use lib.Seq.{drop-drop}
-use Rattle.packed.specs.Field.{fieldBytes, amountOf, fieldsIn}
+use Rattle.packed.specs.Field.{fieldBytes, digitsOf, amountOf, fieldsIn}
 use Rattle.packed.specs.Inner.{fieldAt}
 
 pub length-fields : (m : ℕ) (bytes : List ℕ) → length (fieldsIn m bytes) ≡ m
@@ -23,3 +23,7 @@ field-is (suc m) bytes (suc k) h =
 -- the amounts of the first m fields
 pub length-amounts : (m : ℕ) (bytes : List ℕ) → length (map amountOf (fieldsIn m bytes)) ≡ m
 length-amounts m bytes = length-map (fieldsIn m bytes) amountOf ∙ length-fields m bytes
+
+pub amount-is : (m : ℕ) (bytes : List ℕ) (k : ℕ) → k < m → getD (map amountOf (fieldsIn m bytes)) k 0 ≡ amountOf (fieldAt bytes (fieldBytes * k))
+unfolding amountOf digitsOf
+amount-is m bytes k h = List·getD-map amountOf (fieldsIn m bytes) k [] ∙ ap amountOf (field-is m bytes k h)

@@ -38,10 +38,11 @@ fn judge_readable(p: usize, q: usize, bytes: &[u8]) -> Judgement
     match shape::judge_sizes(p, q) {
         Judgement::Refused(number, place) => Judgement::Refused(number, place),
         Judgement::Fine => {
-            if bytes.len() != packed::FIELD_BYTES * (p * q) {
+            let m = p * q;
+            if bytes.len() != packed::FIELD_BYTES * m {
                 return Judgement::Refused(2, 0);
             }
-            judge_fields(bytes, p * q)
+            judge_fields(bytes, m)
         }
     }
 }

@@ -1,13 +1,13 @@
 // A sheet written as packed fields.
 ghost use mathlib.Core.Path.{_≡_};
-ghost use Prim.Native.Nat.{_+_, _*_, _/_, _%_, _≤_, _<_};
+ghost use Prim.Native.Nat.{_<_};
 ghost use lib.ListN.{length};
 ghost use Rattle.chain.specs.Judgement.{verdictOf};
 ghost use Rattle.chain.specs.Written.{over, laid};
 ghost use Rattle.packed.specs.Field.{fieldOf};
 ghost use Rattle.packed.specs.Packed.{packed, writableRule, packAnswer, packBytes};
 ghost use Rattle.answers.specs.Answers.{transferredOf};
-ghost use Rattle.packing.specs.Inner.{FieldAsked, StoreAsked};
+ghost use Rattle.packing.specs.Inner.{pairOf, FieldAsked, StoreAsked};
 use answers::Transferred;
 use chain::Judgement;
 
@@ -17,7 +17,7 @@ const MOST_PACKED: usize = 999999999;
 // The byte of two digits.
 fn pair(x: u32) -> u8
     requires { ⌜ x < 100 ⌝ }
-    ensures { λ r. ⌜ r ≡ x / 10 * 16 + x % 10 ⌝ }
+    ensures { λ r. ⌜ r ≡ pairOf x ⌝ }
 {
     (x / 10 * 16 + x % 10) as u8
 }

@@ -10,7 +10,7 @@ use Rattle.chain.specs.Tests.{_<?_, _=?_, _or_}
 use Rattle.chain.specs.Verdict.{Verdict, fine, refused, _then_, refuseIf}
 use Rattle.chain.proofs.Rules.{lt-yes, lt-no, eq-no, or-left, refuse-yes, stop}
 use Rattle.packed.specs.Field.{plus, minus, unsigned, digitsOf, signOf, anyAbove9, isSign, fieldRule}
-use Rattle.packed.specs.Inner.{digitPair, signRule, fieldAt}
+use Rattle.packed.specs.Inner.{digitPair, pairsAt, signRule, fieldAt}
 use Rattle.packed.proofs.Field.{fiveAt, five-bytes}
 
 -- one of a byte's halves is above 9
@@ -112,18 +112,17 @@ module _ (i s : ℕ) where
   unfolding signRule isSign _or_ refuseIf _then_
   sign-none a b c = rw (eq-no s plus a, eq-no s minus b, eq-no s unsigned c)
 
--- the same of the field from a byte on; the four counts are what was told of its first bytes
-module _ (bytes : List ℕ) (at i w x y z : ℕ) (there : at + 5 ≤ length bytes) (first : w ≡ digitPair (getD bytes at 0))
-    (second : x ≡ digitPair (getD bytes (at + 1) 0)) (third : y ≡ digitPair (getD bytes (at + 2) 0)) (fourth : z ≡ digitPair (getD bytes (at + 3) 0)) where
+-- the same of the field from a byte on
+module _ (bytes : List ℕ) (at i : ℕ) (there : at + 5 ≤ length bytes) where
   is-field : (v : Verdict) → v ≡ fieldRule i (fiveAt bytes at) → v ≡ fieldRule i (fieldAt bytes at)
   is-field v e = e ∙ ap (fieldRule i) (sym (five-bytes bytes at there))
 
-  pub pairs-refused : w + x + y + z < 4 → refused 18 i ≡ fieldRule i (fieldAt bytes at)
-  pairs-refused h = is-field _ (pairs-bad _ _ _ _ _ i (omega arith))
+  pub pairs-refused : pairsAt bytes at < 4 → refused 18 i ≡ fieldRule i (fieldAt bytes at)
+  pairs-refused h = is-field _ (pairs-bad _ _ _ _ _ i h)
 
-  module _ (good : 4 ≤ w + x + y + z) where
+  module _ (good : 4 ≤ pairsAt bytes at) where
     pub last-refused : 160 ≤ getD bytes (at + 4) 0 → refused 18 i ≡ fieldRule i (fieldAt bytes at)
-    last-refused h = is-field _ (last-bad _ _ _ _ _ i (omega arith) h)
+    last-refused h = is-field _ (last-bad _ _ _ _ _ i good h)
 
     pub sign-judged : (v : Verdict) → v ≡ signRule i (getD bytes (at + 4) 0 % 16) → getD bytes (at + 4) 0 < 160 → v ≡ fieldRule i (fieldAt bytes at)
-    sign-judged v e h = is-field _ (e ∙ sign-decides _ _ _ _ _ i (omega arith) h)
+    sign-judged v e h = is-field _ (e ∙ sign-decides _ _ _ _ _ i good h)

@@ -5,7 +5,7 @@ ghost use lib.ListN.{length};
 ghost use Rattle.chain.specs.Judgement.{verdictOf};
 ghost use Rattle.digits.specs.Inner.{Bounded};
 ghost use Rattle.packed.specs.Field.{fieldBytes, amountOf, fieldRule};
-ghost use Rattle.packed.specs.Inner.{digitPair, signRule, saidBy, fieldAt};
+ghost use Rattle.packed.specs.Inner.{digitPair, pairsAt, signRule, saidBy, fieldAt};
 use chain::Judgement;
 
 // How many bytes a field has (Spec 1.4).
@@ -23,6 +23,17 @@ fn digit_pair(byte: u8) -> usize
     0
 }
 
+// How many of the four bytes from one on are two digits each. They are counted, not tested one after the other: nearly every field is a good one.
+fn count_pairs(bytes: &[u8], at: usize) -> usize
+    requires { ⌜ at + fieldBytes ≤ length (now bytes) ⌝ }
+    ensures { λ r. ⌜ r ≡ pairsAt (now (bytes .entry)) at ⌝ }
+{
+    digit_pair(bytes[at])
+        + digit_pair(bytes[at + 1])
+        + digit_pair(bytes[at + 2])
+        + digit_pair(bytes[at + 3])
+}
+
 // The sign of field i: fine for plus and unsigned, 19 for minus, 18 for what is none.
 fn judge_sign(sign: u8, i: usize) -> Judgement
     ensures { λ r. ⌜ verdictOf r ≡ signRule i sign ⌝ }
@@ -35,19 +46,15 @@ fn judge_sign(sign: u8, i: usize) -> Judgement
     }
 }
 
-// Field i, which begins at a byte: 18, then 19. Its digits are told by one test for four bytes of them, since nearly every field is a good one.
+// Field i, which begins at a byte: 18, then 19.
 pub fn judge_field(bytes: &[u8], at: usize, i: usize) -> Judgement
     requires { ⌜ at + fieldBytes ≤ length (now bytes) ⌝ }
     ensures { λ r. ⌜ verdictOf r ≡ fieldRule i (fieldAt (now (bytes .entry)) at) ⌝ }
 {
-    let pairs = digit_pair(bytes[at])
-        + digit_pair(bytes[at + 1])
-        + digit_pair(bytes[at + 2])
-        + digit_pair(bytes[at + 3]);
-    let last = bytes[at + 4];
-    if pairs < 4 {
+    if count_pairs(bytes, at) < 4 {
         return Judgement::Refused(18, i);
     }
+    let last = bytes[at + 4];
     if 160 <= last {
         return Judgement::Refused(18, i);
     }

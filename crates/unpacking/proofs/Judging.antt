@@ -1,21 +1,20 @@
 -- Fields are judged one by one, as any list is; field i begins at byte 5 i. A sheet of them is fine only if its sizes and bytes are.
 use mathlib.Core.Path.{_≡_, sym, ap, _∙_}
-use mathlib.Core.List.{List, [], _∷_}
+use mathlib.Core.List.{List, []}
 use Prim.Native.Nat.{ℕ, _+_, _*_, _≤_, _<_}
 use native.Mathlib.Omega.{arith}
 use lib.ListN.{length, getD}
-use Rattle.chain.specs.Verdict.{fine, refused, inOrder, done, refusal}
-use Rattle.chain.specs.Written.{over}
+use Rattle.chain.specs.Verdict.{fine, refused, inOrder}
 use Rattle.chain.specs.Chain.{mostColumns, mostPayslips}
 use Rattle.chain.specs.Judgement.{verdictOf}
 use Rattle.chain.specs.declared.Judgement.{Judgement}
 use Rattle.chain.specs.declared.Judgement.the-variants.{Fine, Refused}
-use Rattle.chain.proofs.Rules.{told-refused, told-fine, then-fine, refuseIf-fine, not-ne, stop, judging, answer-refused, answer-done, kept, renewed}
+use Rattle.chain.proofs.Rules.{told-refused, told-fine, then-fine, refuseIf-fine, not-ne}
 use Rattle.chain.proofs.Sizes.{sizes-fit}
 use Rattle.chain.proofs.InOrder.{left, judge-start, judge-on, judge-bad, judge-end}
 use Rattle.sheet.proofs.Amounts.{product-low}
 use Rattle.packed.specs.Field.{fieldBytes, fieldRule, fieldsIn}
-use Rattle.packed.specs.Packed.{unpacked, readableRule, unpackRule, unpackAnswer, unpackAmounts}
+use Rattle.packed.specs.Packed.{readableRule}
 use Rattle.packed.specs.Inner.{fieldAt}
 use Rattle.packed.proofs.Fields.{length-fields, field-is}
 
@@ -60,29 +59,3 @@ readable p q bytes e =
       few = product-low p q (sizes .p-low) (sizes .q-low);
       there = not-ne _ _ (refuseIf-fine _ 2 0 (then-fine _ _ (first .1) .0));
     }
-
--- the verdict, by what was found of the bytes and by the room lent
-module _ (p q : ℕ) (bytes : List ℕ) (lent : ℕ) where
-  pub bytes-refused : (n s : ℕ) → refused n s ≡ readableRule p q bytes → refused n s ≡ unpackRule p q bytes lent
-  unfolding unpackRule
-  bytes-refused n s e = stop _ _ n s e
-
-  pub amounts-short : fine ≡ readableRule p q bytes → lent < p * q → refused 5 0 ≡ unpackRule p q bytes lent
-  unfolding unpackRule
-  amounts-short ok h = search judging depth 8
-
-  pub room-enough : fine ≡ readableRule p q bytes → p * q ≤ lent → fine ≡ unpackRule p q bytes lent
-  unfolding unpackRule
-  room-enough ok h = search judging depth 8
-
--- what the call answers and leaves, by the verdict
-module _ (p q : ℕ) (bytes old : List ℕ) where
-  pub refused-leaves : (n s : ℕ) → refused n s ≡ unpackRule p q bytes (length old)
-      → (refusal n s ≡ unpackAnswer p q bytes (length old)) × (old ≡ unpackAmounts p q bytes old)
-  unfolding unpackAnswer unpackAmounts
-  refused-leaves n s e = (answer-refused _ _ n s e, kept _ _ old n s e)
-
-  pub read-leaves : (new : List ℕ) → fine ≡ unpackRule p q bytes (length old) → new ≡ over (unpacked p q bytes) old
-      → (done (p * q ∷ []) ≡ unpackAnswer p q bytes (length old)) × (new ≡ unpackAmounts p q bytes old)
-  unfolding unpackAnswer unpackAmounts
-  read-leaves new e d = (answer-done _ _ e, renewed _ _ old _ e d)

@@ -4,8 +4,9 @@ use mathlib.Core.Path.{_≡_}
 use native.Mathlib.Omega.{arith}
 use Rattle.chain.specs.Verdict.{fine}
 use Rattle.chain.proofs.Rules.{told-fine, told-refused}
-use Rattle.packed.specs.Packed.{writableRule}
-use Rattle.packing.proofs.Packing.{Writable, writable, amounts-refused, bytes-short, room-enough, refused-leaves, written-leaves}
+use Rattle.chain.proofs.OneSlice.{given-refused, too-short, long-enough, refused-leaves, done-leaves}
+use Rattle.packed.specs.Packed.{writableRule, packRule, packAnswer, packBytes}
+use Rattle.packing.proofs.Writable.{writable}
 use Rattle.packing.proofs.pack.Statement.{statement}
 use Rattle.packing.proofs.pack.Tie as tie
 
@@ -15,9 +16,10 @@ found-fine : (e : tie.After-enum-told)
 found-fine e = told-fine _ _ (e .before .before .judge-writable .ensures) (e .enum-told .given .1)
 
 returns : tie.Need-returns
+unfolding packRule packAnswer packBytes
 returns c =
     let e = found-fine (c .before) in
-    refused-leaves _ _ _ _ 5 0 (bytes-short _ _ _ _ e (omega (arith, writable _ _ _ e .many, c .if1 .taken)))
+    refused-leaves _ _ _ _ 5 0 (too-short _ _ _ e (omega (arith, writable _ _ _ e .many, c .if1 .taken)))
 
 store-requires : tie.Need-store-requires
 store-requires c κs =
@@ -25,17 +27,19 @@ store-requires c κs =
     record { amounts-low = writable _ _ _ (found-fine (room .before)) .low; room = room .if1 .left }
 
 returns-2 : tie.Need-returns-2
+unfolding packRule packAnswer packBytes
 returns-2 c =
     refused-leaves _ _ _ _ _ _
-    (amounts-refused _ _ _ _ _ _ (told-refused _ _ _ _ (c .before .before .before .judge-writable .ensures) (c .before .number .given .1)))
+    (given-refused _ _ _ _ _ (told-refused _ _ _ _ (c .before .before .before .judge-writable .ensures) (c .before .number .given .1)))
 
 returns-3 : tie.Need-returns-3
+unfolding packRule packAnswer packBytes
 returns-3 c =
     let stored = c .before .before in
     let room = stored .before .before in
     let e = found-fine (room .before) in
     let many = writable _ _ _ e .many in
-    written-leaves _ _ _ _ _ _ (room-enough _ _ _ _ e (omega (arith, many, room .if1 .left))) many (stored .store .ensures)
+    rw (← many) (done-leaves _ _ _ _ _ (long-enough _ _ _ e (omega (arith, many, room .if1 .left))) (stored .store .ensures))
 
 pub pack-spec : {M : Type 1} → statement M
 pack-spec =

@@ -24,19 +24,9 @@ mul-m c = record { fits = omega (arith, few c) }
 mul-if1 : tie.Need-mul-if1
 mul-if1 c = record { fits = omega (arith, few c) }
 
-returns : tie.Need-returns
-unfolding readableRule
-returns c = search judging depth 8
-
-returns-2 : tie.Need-returns-2
-unfolding readableRule
-returns-2 c = search judging depth 8
-
-returns-3 : tie.Need-returns-3
-unfolding readableRule
-returns-3 c = search judging depth 8
-
 pub judge-readable-spec : {M : Type 1} → statement M
+unfolding readableRule
 judge-readable-spec =
     tie.close
-    (tie.spec (λ c κs. search needs) (λ c. search needs) (λ c. search needs) mul-m mul-if1 returns (λ c κs. search needs) returns-2 returns-3)
+    (tie.spec (λ c κs. search needs) (λ c. search needs) (λ c. search needs) mul-m mul-if1 (λ c. search judging depth 8) (λ c κs. search needs)
+    (λ c. search judging depth 8) (λ c. search judging depth 8))

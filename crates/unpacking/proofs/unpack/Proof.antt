@@ -1,11 +1,12 @@
 -- What was found of the bytes answers, then what is lent; where nothing is found, the amounts stored are the fields'.
 use borrow.Author.Needs.{needs}
-use mathlib.Core.Path.{_≡_, sym}
+use mathlib.Core.Path.{_≡_}
 use native.Mathlib.Omega.{arith}
 use Rattle.chain.specs.Verdict.{fine}
 use Rattle.chain.proofs.Rules.{told-fine, told-refused}
-use Rattle.packed.specs.Packed.{readableRule}
-use Rattle.unpacking.proofs.Judging.{Readable, readable, bytes-refused, amounts-short, room-enough, refused-leaves, read-leaves}
+use Rattle.chain.proofs.OneSlice.{given-refused, too-short, long-enough, refused-leaves, done-leaves}
+use Rattle.packed.specs.Packed.{readableRule, unpackRule, unpackAnswer, unpackAmounts}
+use Rattle.unpacking.proofs.Judging.{readable}
 use Rattle.unpacking.proofs.unpack.Statement.{statement}
 use Rattle.unpacking.proofs.unpack.Tie as tie
 
@@ -18,21 +19,24 @@ mul-m : tie.Need-mul-m
 mul-m c = record { fits = omega (arith, readable _ _ _ (found-fine c) .few) }
 
 returns : tie.Need-returns
-returns c = refused-leaves _ _ _ _ 5 0 (amounts-short _ _ _ _ (found-fine (c .before)) (c .if1 .taken))
+unfolding unpackRule unpackAnswer unpackAmounts
+returns c = refused-leaves _ _ _ _ 5 0 (too-short _ _ _ (found-fine (c .before)) (c .if1 .taken))
 
 store-requires : tie.Need-store-requires
 store-requires c κs = record { there = omega (arith, readable _ _ _ (found-fine (c .before .before)) .there); room = c .before .if1 .left }
 
 returns-2 : tie.Need-returns-2
+unfolding unpackRule unpackAnswer unpackAmounts
 returns-2 c =
     refused-leaves _ _ _ _ _ _
-    (bytes-refused _ _ _ _ _ _ (told-refused _ _ _ _ (c .before .before .before .judge-readable .ensures) (c .before .number .given .1)))
+    (given-refused _ _ _ _ _ (told-refused _ _ _ _ (c .before .before .before .judge-readable .ensures) (c .before .number .given .1)))
 
 returns-3 : tie.Need-returns-3
+unfolding unpackRule unpackAnswer unpackAmounts
 returns-3 c =
     let stored = c .before .before in
     let room = stored .before .before in
-    read-leaves _ _ _ _ _ (room-enough _ _ _ _ (found-fine (room .before)) (room .if1 .left)) (stored .store .ensures)
+    done-leaves _ _ _ _ _ (long-enough _ _ _ (found-fine (room .before)) (room .if1 .left)) (stored .store .ensures)
 
 pub unpack-spec : {M : Type 1} → statement M
 unpack-spec =

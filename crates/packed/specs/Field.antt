@@ -81,12 +81,7 @@ fieldRule i field =
 unfoldable pub writtenBack : List ℕ → List ℕ
 writtenBack field = joined (set (halves field) fieldDigits (cond (signOf field =? unsigned) plus (signOf field)))
 
--- fields one after the other
-abbrev pub inARow : List (List ℕ) → List ℕ
-inARow [] = []
-inARow (f ∷ r) = f ++ inARow r
-
--- and the first m fields of bytes
+-- Spec 7.5: the first m fields of bytes, one after the other
 abbrev pub fieldsIn : ℕ → List ℕ → List (List ℕ)
 fieldsIn zero bytes = []
 fieldsIn (suc m) bytes = take fieldBytes bytes ∷ fieldsIn m (drop fieldBytes bytes)

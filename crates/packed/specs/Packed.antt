@@ -4,10 +4,10 @@ use Prim.Native.Nat.{ℕ, _*_}
 use lib.ListN.{length}
 use Rattle.chain.specs.Tests.{_<?_, _≠?_}
 use Rattle.chain.specs.Verdict.{Verdict, _then_, refuseIf, inOrder, Answer, answer, onFine}
-use Rattle.chain.specs.Written.{over}
+use Rattle.chain.specs.Written.{over, inARow}
 use Rattle.chain.specs.Chain.{sizesRule, limitRule}
 use Rattle.sheet.specs.Sheet.{sheetRule}
-use Rattle.packed.specs.Field.{fieldBytes, mostPacked, amountOf, fieldOf, fieldRule, inARow, fieldsIn}
+use Rattle.packed.specs.Field.{fieldBytes, mostPacked, amountOf, fieldOf, fieldRule, fieldsIn}
 
 -- Spec 7.5: the amounts of a sheet's fields, and the fields of its amounts
 abbrev pub unpacked : ℕ → ℕ → List ℕ → List ℕ

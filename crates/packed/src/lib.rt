@@ -1,6 +1,6 @@
 // Packed decimal: the fields of a slice of bytes, judged and read.
 ghost use mathlib.Core.Path.{_≡_};
-ghost use Prim.Native.Nat.{_+_, _≤_};
+ghost use Prim.Native.Nat.{_+_, _/_, _≤_};
 ghost use lib.ListN.{length};
 ghost use Rattle.chain.specs.Judgement.{verdictOf};
 ghost use Rattle.digits.specs.Inner.{Bounded};
@@ -69,14 +69,22 @@ fn said_by(byte: u8) -> u32
     b / 16 * 10 + b % 16
 }
 
-// The amount of the field that begins at a byte.
+// What the first of them says alone.
+fn first_said_by(byte: u8) -> u32
+    ensures { λ r. ⌜ Bounded r (byte / 16) 15 ⌝ }
+{
+    (byte / 16) as u32
+}
+
+// The amount of the field that begins at a byte. The digits are added from the last pair to the first: in this order the compiler takes four bytes at a
+// time.
 pub fn amount_at(bytes: &[u8], at: usize) -> u32
     requires { ⌜ at + fieldBytes ≤ length (now bytes) ⌝ }
     ensures { λ r. ⌜ r ≡ amountOf (fieldAt (now (bytes .entry)) at) ⌝ }
 {
-    said_by(bytes[at]) * 10000000
-        + said_by(bytes[at + 1]) * 100000
+    said_by(bytes[at + 3]) * 10
         + said_by(bytes[at + 2]) * 1000
-        + said_by(bytes[at + 3]) * 10
-        + (bytes[at + 4] / 16) as u32
+        + said_by(bytes[at + 1]) * 100000
+        + said_by(bytes[at]) * 10000000
+        + first_said_by(bytes[at + 4])
 }

@@ -20,7 +20,7 @@ read-path : (p q : ℕ) (bytes : List ℕ) → Saying p q bytes (p * q) → Pack
 read-path p q bytes s =
     record {
       sheet-fine = read-sheet p q bytes s;
-      amount-is = λ i c h g. unpacked-amount (p * q) bytes _ (amount-there p q i c (p * q) h g refl);
+      amounts-said = λ i c h g. unpacked-amount (p * q) bytes _ (amount-there p q i c (p * q) h g refl);
       demanded = λ method k m bases l. demand-3 p q (unpacked p q bytes) method k low l m bases;
     }
   where

@@ -14,7 +14,7 @@ pub record PackedPath (p q : ℕ) (bytes amounts : List ℕ) : Type 0 where
   -- they are a sheet
   pub sheet-fine : sheetRule p q amounts ≡ fine
   -- whose amount of payslip i in column c is what the field there says
-  pub amount-is : (i c : ℕ) → i < q → c < p → amount p amounts i c ≡ amountOf (fieldAt bytes (fieldBytes * (i * p + c)))
+  pub amounts-said : (i c : ℕ) → i < q → c < p → amount p amounts i c ≡ amountOf (fieldAt bytes (fieldBytes * (i * p + c)))
   -- and the five calls do with it what demand 3 asks
   pub demanded : (method k m : ℕ) (bases : List ℕ) (l : Lent)
       → Demand3 p q amounts method k m bases l (pathAnswer p q amounts method k l m bases) (pathLeaves p q amounts method k l m bases)

@@ -1,0 +1,24 @@
+-- Fields in a row: those of written amounts are found again where they were put.
+use mathlib.Core.Path.{_≡_, ap, _∙_}
+use mathlib.Core.List.{List, [], _∷_, _++_}
+use Prim.Native.Nat.{ℕ, zero, suc, _+_, _*_, _<_}
+use native.Mathlib.Omega.{arith}
+use lib.ListN.{length, getD, take, drop}
+use lib.Seq.{getD-take, getD-drop, take-at, drop-append-add}
+use Rattle.packed.specs.Field.{fieldBytes, fieldOf}
+use Rattle.packed.specs.Packed.{packed}
+use Rattle.packed.specs.Inner.{fieldAt}
+use Rattle.packed.proofs.Fields.{length-field}
+
+-- a field's bytes
+pub field-byte : (bytes : List ℕ) (at j : ℕ) → j < fieldBytes → getD (fieldAt bytes at) j 0 ≡ getD bytes (at + j) 0
+field-byte bytes at j h = getD-take fieldBytes (drop at bytes) j 0 h ∙ getD-drop at bytes j 0
+
+pub packed-field : (amounts : List ℕ) (k : ℕ) → k < length amounts → fieldAt (packed amounts) (fieldBytes * k) ≡ fieldOf (getD amounts k 0)
+packed-field [] k h = absurd (omega arith)
+packed-field (a ∷ r) zero h = take-at (fieldOf a) (packed r) fieldBytes (length-field a)
+packed-field (a ∷ r) (suc k) h =
+    let e : fieldBytes * suc k ≡ length (fieldOf a) + fieldBytes * k = omega (arith, length-field a) in
+    ap (λ (n : ℕ). take fieldBytes (drop n (fieldOf a ++ packed r))) e
+    ∙ ap (take fieldBytes) (drop-append-add (fieldOf a) (packed r) (fieldBytes * k))
+    ∙ packed-field r k (omega arith)

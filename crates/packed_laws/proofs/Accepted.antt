@@ -6,12 +6,13 @@ use native.Mathlib.Nat.{add-comm}
 use native.Mathlib.Omega.{arith}
 use lib.ListN.{length, getD}
 use Rattle.chain.specs.Verdict.{Verdict, fine, refused, inOrder}
-use Rattle.chain.proofs.Rules.{then-fine, pass, stop, refuseIf-fine, refuse-no, lt-no, not-ne, ne-no}
+use Rattle.chain.proofs.Rules.{then-fine, pass, stop, refuse-no, lt-no, ne-no}
 use Rattle.chain.proofs.InOrder.{each-fine, fine-each, first-refused}
 use Rattle.packed.specs.Field.{fieldBytes, fieldRule, fieldsIn}
 use Rattle.packed.specs.Packed.{readableRule, unpackRule}
 use Rattle.packed.specs.Inner.{fieldAt}
 use Rattle.packed.proofs.Fields.{length-fields, field-is}
+use Rattle.packed.proofs.Given.{readable}
 use Rattle.packed_laws.specs.Kinds.{Sayable}
 use Rattle.packed_laws.specs.Accepted.{Saying, Decided}
 use Rattle.packed_laws.proofs.Found.{kinds}
@@ -39,14 +40,13 @@ module _ (p q : ℕ) (bytes : List ℕ) where
 
   module _ (lent : ℕ) where
     pub accepted : unpackRule p q bytes lent ≡ fine → Saying p q bytes (p * q)
-    unfolding unpackRule readableRule
+    unfolding unpackRule
     accepted ok =
-        let whole = then-fine _ _ (then-fine _ _ ok .0) in
-        let rest = then-fine _ _ (whole .1) in
+        let r = readable p q bytes (then-fine _ _ ok .0) in
         record {
-          sizes = whole .0;
-          long = not-ne _ _ (refuseIf-fine _ 2 0 (rest .0));
-          fields = λ k h. kinds (field k) .fine-sayable (1 + k) (sym (judged k h) ∙ each-fine fieldRule [] 1 fields (rest .1) k (one-of k h));
+          sizes = r .sizes;
+          long = r .long;
+          fields = λ k h. kinds (field k) .fine-sayable (1 + k) (sym (judged k h) ∙ each-fine fieldRule [] 1 fields (r .fields-fine) k (one-of k h));
         }
 
     pub accepted-fields : unpackRule p q bytes lent ≡ fine → (k : ℕ) → k < p * q → Sayable (field k)

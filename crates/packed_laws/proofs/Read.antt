@@ -7,6 +7,7 @@ use native.Mathlib.Omega.{arith}
 use lib.ListN.{length, getD, List·getD-eq-default}
 use Rattle.chain.specs.Verdict.{fine}
 use Rattle.chain.proofs.Rules.{pass}
+use Rattle.chain.proofs.OneSlice.{taken-out}
 use Rattle.sheet.specs.Sheet.{sheetRule}
 use Rattle.sheet.proofs.Amounts.{fit-amounts}
 use Rattle.packed.specs.Field.{fieldBytes, mostPacked}
@@ -14,7 +15,6 @@ use Rattle.packed.specs.Packed.{unpacked, unpackRule, unpackAmounts}
 use Rattle.packed.proofs.Fields.{length-amounts, amount-is}
 use Rattle.packed_laws.specs.Accepted.{Saying}
 use Rattle.packed_laws.specs.Back.{amountsRead}
-use Rattle.packed_laws.proofs.Lists.{taken-out}
 use Rattle.packed_laws.proofs.Rewritten.{amount-low}
 
 module _ (p q : ℕ) (bytes : List ℕ) where

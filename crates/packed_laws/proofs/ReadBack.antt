@@ -7,57 +7,46 @@ use lib.ListN.{length, getD}
 use lib.Seq.{ext-getD}
 use Rattle.chain.specs.Verdict.{fine}
 use Rattle.chain.specs.Written.{over}
-use Rattle.chain.specs.Chain.{limitRule}
 use Rattle.chain.proofs.Rules.{then-fine, answer-done, renewed}
-use Rattle.chain.proofs.Limits.{numbers-low}
-use Rattle.sheet.specs.Sheet.{sheetRule}
-use Rattle.sheet.proofs.Amounts.{amounts-fit}
-use Rattle.packed.specs.Field.{fieldBytes, mostPacked, amountOf}
-use Rattle.packed.specs.Packed.{unpacked, packed, unpackRule, unpackAnswer, unpackAmounts, writableRule, packRule, packBytes}
+use Rattle.chain.proofs.OneSlice.{taken-out}
+use Rattle.packed.specs.Field.{fieldBytes, amountOf}
+use Rattle.packed.specs.Packed.{unpacked, packed, unpackRule, unpackAnswer, unpackAmounts, packRule, packBytes}
 use Rattle.packed.proofs.Fields.{length-amounts, amount-is, length-packed}
+use Rattle.packed.proofs.Given.{Writable, writable}
 use Rattle.packed_laws.specs.Accepted.{Saying}
 use Rattle.packed_laws.specs.Back.{bytesWritten, ReadBack}
 use Rattle.packed_laws.proofs.Accepted.{sayable-accepted}
-use Rattle.packed_laws.proofs.Lists.{taken-out}
 use Rattle.packed_laws.proofs.Rows.{packed-field}
 use Rattle.packed_laws.proofs.Written.{written-sayable, amount-written}
 
 module _ (p q : ℕ) (amounts old : List ℕ) (ok : packRule p q amounts (length old) ≡ fine) where
-  writable : (sheetRule p q amounts ≡ fine) × (limitRule 20 mostPacked 1 amounts ≡ fine)
-  unfolding packRule writableRule
-  writable = then-fine _ _ (then-fine _ _ ok .0)
-
-  low : (k : ℕ) → k < length amounts → getD amounts k 0 ≤ mostPacked
-  low = numbers-low 20 mostPacked 1 amounts (writable .1)
-
-  all-amounts : length amounts ≡ p * q
-  unfolding sheetRule
-  all-amounts = amounts-fit p q amounts (then-fine _ _ (writable .0) .1)
+  given : Writable p q amounts
+  unfolding packRule
+  given = writable p q amounts (then-fine _ _ ok .0)
 
   all-bytes : length (packed amounts) ≡ fieldBytes * (p * q)
-  all-bytes = length-packed amounts ∙ ap (λ (n : ℕ). fieldBytes * n) all-amounts
+  all-bytes = length-packed amounts ∙ ap (λ (n : ℕ). fieldBytes * n) (given .many)
 
   pub bytes-written : bytesWritten p q amounts old ≡ packed amounts
   unfolding packBytes
   bytes-written = taken-out _ (fieldBytes * (p * q)) (packed amounts) old ok all-bytes
 
   saying : Saying p q (packed amounts) (p * q)
-  unfolding sheetRule
   saying =
       record {
-        sizes = then-fine _ _ (writable .0) .0;
+        sizes = given .sizes;
         long = all-bytes;
-        fields = λ k h. rw (packed-field amounts k (omega (arith, all-amounts))) (written-sayable (getD amounts k 0));
+        fields = λ k h. rw (packed-field amounts k (omega (arith, given .many))) (written-sayable (getD amounts k 0));
       }
 
   unpacked-packed : unpacked p q (packed amounts) ≡ amounts
-  unpacked-packed = ext-getD 0 _ _ (length-amounts (p * q) (packed amounts) ∙ sym all-amounts) each
+  unpacked-packed = ext-getD 0 _ _ (length-amounts (p * q) (packed amounts) ∙ sym (given .many)) each
     where
       each : (k : ℕ) → k < length (unpacked p q (packed amounts)) → getD (unpacked p q (packed amounts)) k 0 ≡ getD amounts k 0
       each k h =
           let inside : k < p * q = omega (arith, length-amounts (p * q) (packed amounts)) in
-          let there : k < length amounts = omega (arith, all-amounts) in
-          amount-is (p * q) (packed amounts) k inside ∙ ap amountOf (packed-field amounts k there) ∙ amount-written (getD amounts k 0) (low k there)
+          let there : k < length amounts = omega (arith, given .many) in
+          amount-is (p * q) (packed amounts) k inside ∙ ap amountOf (packed-field amounts k there) ∙ amount-written (getD amounts k 0) (given .low k there)
 
   pub unpack-packed : (new : List ℕ) → p * q ≤ length new → ReadBack p q amounts (bytesWritten p q amounts old) new
   unfolding unpackAnswer unpackAmounts

@@ -1,6 +1,6 @@
 -- Fields in a row: those of written amounts are found again where they were put.
-use mathlib.Core.Path.{_≡_, ap, _∙_}
-use mathlib.Core.List.{List, [], _∷_, _++_}
+use mathlib.Core.Path.{_≡_, refl, ap, ap₂, _∙_}
+use mathlib.Core.List.{List, [], _∷_, _++_, map}
 use Prim.Native.Nat.{ℕ, zero, suc, _+_, _*_, _<_}
 use native.Mathlib.Omega.{arith}
 use lib.ListN.{length, getD, take, drop}
@@ -9,6 +9,11 @@ use Rattle.packed.specs.Field.{fieldBytes, fieldOf}
 use Rattle.packed.specs.Packed.{packed}
 use Rattle.packed.specs.Inner.{fieldAt}
 use Rattle.packed.proofs.Fields.{length-field}
+
+-- functions that agree on a list's members
+pub map-same : {A B : Type 0} (f g : A → B) (d : A) (l : List A) → ((k : ℕ) → k < length l → f (getD l k d) ≡ g (getD l k d)) → map f l ≡ map g l
+map-same f g d [] same = refl
+map-same f g d (x ∷ l) same = ap₂ _∷_ (same 0 (omega arith)) (map-same f g d l (λ k h. same (suc k) (omega arith)))
 
 -- a field's bytes
 pub field-byte : (bytes : List ℕ) (at j : ℕ) → j < fieldBytes → getD (fieldAt bytes at) j 0 ≡ getD bytes (at + j) 0

@@ -15,8 +15,7 @@ use Rattle.packed.proofs.Fields.{length-fields, field-is, length-amounts, amoun
 use Rattle.packed_laws.specs.Accepted.{Saying}
 use Rattle.packed_laws.specs.Back.{amountsRead, WrittenBack}
 use Rattle.packed_laws.proofs.Accepted.{accepted}
-use Rattle.packed_laws.proofs.Lists.{map-same}
-use Rattle.packed_laws.proofs.Rows.{field-byte, packed-field}
+use Rattle.packed_laws.proofs.Rows.{map-same, field-byte, packed-field}
 use Rattle.packed_laws.proofs.Rewritten.{written-anew, byte-kept, byte-plus}
 use Rattle.packed_laws.proofs.Read.{amounts-read, field-there, read-sheet, read-low}
 

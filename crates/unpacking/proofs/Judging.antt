@@ -1,20 +1,16 @@
--- Fields are judged one by one, as any list is; field i begins at byte 5 i. A sheet of them is fine only if its sizes and bytes are.
+-- Fields are judged one by one, as any list is; field i begins at byte 5 i.
 use mathlib.Core.Path.{_≡_, sym, ap, _∙_}
 use mathlib.Core.List.{List, []}
 use Prim.Native.Nat.{ℕ, _+_, _*_, _≤_, _<_}
 use native.Mathlib.Omega.{arith}
 use lib.ListN.{length, getD}
 use Rattle.chain.specs.Verdict.{fine, refused, inOrder}
-use Rattle.chain.specs.Chain.{mostColumns, mostPayslips}
 use Rattle.chain.specs.Judgement.{verdictOf}
 use Rattle.chain.specs.declared.Judgement.{Judgement}
 use Rattle.chain.specs.declared.Judgement.the-variants.{Fine, Refused}
-use Rattle.chain.proofs.Rules.{told-refused, told-fine, then-fine, refuseIf-fine, not-ne}
-use Rattle.chain.proofs.Sizes.{sizes-fit}
+use Rattle.chain.proofs.Rules.{told-refused, told-fine}
 use Rattle.chain.proofs.InOrder.{left, judge-start, judge-on, judge-bad, judge-end}
-use Rattle.sheet.proofs.Amounts.{product-low}
 use Rattle.packed.specs.Field.{fieldBytes, fieldRule, fieldsIn}
-use Rattle.packed.specs.Packed.{readableRule}
 use Rattle.packed.specs.Inner.{fieldAt}
 use Rattle.packed.proofs.Fields.{length-fields, field-is}
 
@@ -44,18 +40,3 @@ module _ (bytes : List ℕ) (m : ℕ) where
 
     pub fields-bad : (n s : ℕ) → j ≡ Refused n s → refused n s ≡ inOrder fieldRule 1 (fieldsIn m bytes)
     fields-bad n s e = judge-bad fieldRule [] (fieldsIn m bytes) i _ n s within (told-refused j _ n s judged e ∙ of-list) (inv .rest)
-
--- what bytes that can be read keep to
-pub record Readable (p q : ℕ) (bytes : List ℕ) : Type 0 where
-  pub few : p * q ≤ mostColumns * mostPayslips
-  pub there : length bytes ≡ fieldBytes * (p * q)
-
-pub readable : (p q : ℕ) (bytes : List ℕ) → fine ≡ readableRule p q bytes → Readable p q bytes
-unfolding readableRule
-readable p q bytes e =
-    let first = then-fine _ _ (sym e) in
-    let sizes = sizes-fit p q (first .0) in
-    record {
-      few = product-low p q (sizes .p-low) (sizes .q-low);
-      there = not-ne _ _ (refuseIf-fine _ 2 0 (then-fine _ _ (first .1) .0));
-    }

@@ -1,12 +1,12 @@
 -- What was found of the bytes answers, then what is lent; where nothing is found, the amounts stored are the fields'.
 use borrow.Author.Needs.{needs}
-use mathlib.Core.Path.{_≡_}
+use mathlib.Core.Path.{_≡_, sym}
 use native.Mathlib.Omega.{arith}
 use Rattle.chain.specs.Verdict.{fine}
 use Rattle.chain.proofs.Rules.{told-fine, told-refused}
 use Rattle.chain.proofs.OneSlice.{given-refused, too-short, long-enough, refused-leaves, done-leaves}
 use Rattle.packed.specs.Packed.{readableRule, unpackRule, unpackAnswer, unpackAmounts}
-use Rattle.unpacking.proofs.Judging.{readable}
+use Rattle.packed.proofs.Given.{Readable, readable}
 use Rattle.unpacking.proofs.unpack.Statement.{statement}
 use Rattle.unpacking.proofs.unpack.Tie as tie
 
@@ -15,15 +15,20 @@ found-fine : (e : tie.After-enum-told)
     fine ≡ readableRule (s .p) (s .q) (s .bytes .now)
 found-fine e = told-fine _ _ (e .before .before .judge-readable .ensures) (e .enum-told .given .1)
 
+can-read : (e : tie.After-enum-told)
+    → let s = e .before .before .before .before .before .args in
+    Readable (s .p) (s .q) (s .bytes .now)
+can-read e = readable _ _ _ (sym (found-fine e))
+
 mul-m : tie.Need-mul-m
-mul-m c = record { fits = omega (arith, readable _ _ _ (found-fine c) .few) }
+mul-m c = record { fits = omega (arith, can-read c .few) }
 
 returns : tie.Need-returns
 unfolding unpackRule unpackAnswer unpackAmounts
 returns c = refused-leaves _ _ _ _ 5 0 (too-short _ _ _ (found-fine (c .before)) (c .if1 .taken))
 
 store-requires : tie.Need-store-requires
-store-requires c κs = record { there = omega (arith, readable _ _ _ (found-fine (c .before .before)) .there); room = c .before .if1 .left }
+store-requires c κs = record { there = omega (arith, can-read (c .before .before) .long); room = c .before .if1 .left }
 
 returns-2 : tie.Need-returns-2
 unfolding unpackRule unpackAnswer unpackAmounts

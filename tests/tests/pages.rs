@@ -1,6 +1,6 @@
 //! What the pages say of the command is what it does: synopses, the example, objects, messages, the night's script, the sample. What they say of the
 //! sources is there: files, contracts, edits.
-use spoutbasket_tests::command::{spoutbasket, Folder, KEYS, WEEK};
+use spoutbasket_tests::command::{spoutbasket, Folder, COMMANDS, KEYS, WEEK};
 
 fn page(name: &str) -> String {
     let path = format!("{}/../{name}", env!("CARGO_MANIFEST_DIR"));
@@ -46,9 +46,7 @@ fn manual_page() -> String {
 #[test]
 fn every_synopsis_in_the_manual_page() {
     let page = manual_page();
-    for name in [
-        "compile", "check", "choose", "pool", "list", "run", "figures",
-    ] {
+    for name in COMMANDS {
         let help = spoutbasket(&["help", name], b"").done();
         let usage = help.lines().next().unwrap();
         let usage = usage.strip_prefix("Usage: ").unwrap();

@@ -35,7 +35,8 @@ fn mistaken(kind: Kind, bytes: &[u8], refused: Refused) -> Refused {
         _ if can_only_be_fields(bytes) => refused
             .without_detail()
             .and("for packed fields, five bytes an amount, give --packed P,Q"),
-        Kind::Plain if bytes.iter().any(like_a_table) => {
+        // no text has a byte 0
+        Kind::Plain if bytes.iter().any(like_a_table) && !bytes.contains(&0) => {
             refused.and("for a table, one payslip a line, give --table")
         }
         _ => refused,

@@ -105,6 +105,29 @@ fn the_pool_of_the_manual() {
     }
 }
 
+/// Packed fields of the manual's sheet, and what is said of one that is refused.
+#[test]
+fn the_fields_of_the_manual() {
+    let folder = week("manual-fields");
+    let manual = page("docs/MANUAL.md");
+    let session = shown(&manual, "**Packed**");
+    assert_eq!(play(&folder, &session), 6);
+    let refused = folder.script(
+        "printf '\\15' | dd of=week.packed bs=1 seek=34 conv=notrunc status=none
+        spoutbasket compile --packed 3,4 week.packed -o week.chain",
+    );
+    assert_eq!(refused.told, shown(&manual, "that is somebody's pay"));
+    // the manual page's example is the manual's
+    let page = manual_page();
+    let lines = session
+        .lines()
+        .filter(|line| line.contains(" --packed 3,4"));
+    for line in lines.filter(|line| !line.contains(" unpack ")) {
+        let command = line.strip_prefix("$ ").unwrap();
+        assert!(page.lines().any(|line| line == command), "{command}");
+    }
+}
+
 /// Every object and every message that the manual shows, and the messages of the manual page.
 #[test]
 fn the_objects_and_messages_of_the_manual() {

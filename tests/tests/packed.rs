@@ -65,6 +65,18 @@ fn with_plus(fields: &[u8]) -> Vec<u8> {
     fields
 }
 
+/// The number of a refusal, or 0.
+fn number<T>(answer: Result<T, (u32, u64)>) -> u32 {
+    answer.map_or_else(|(number, _)| number, |_| 0)
+}
+
+/// Each of these answers came often enough to mean something.
+fn often(seen: &BTreeMap<u32, usize>, numbers: &[u32]) {
+    for number in numbers {
+        assert!(seen.get(number) > Some(&500), "{number}: {seen:?}");
+    }
+}
+
 /// The sizes of a sheet, seldom large.
 fn some_sizes(r: &mut Random) -> (usize, usize) {
     match r.below(100) {
@@ -138,13 +150,9 @@ fn damaged_fields_and_short_slices() {
         if answer.is_err() {
             assert_eq!(read, lent);
         }
-        let number = answer.map_or_else(|(number, _)| number, |_| 0);
-        *seen.entry(number).or_insert(0) += 1;
+        *seen.entry(number(answer)).or_insert(0) += 1;
     }
-    for number in [0, 1, 2, 5, 18, 19] {
-        let times = seen.get(&number).copied().unwrap_or(0);
-        assert!(times > 500, "{number} came {times} times: {seen:?}");
-    }
+    often(&seen, &[0, 1, 2, 5, 18, 19]);
 }
 
 #[test]
@@ -178,13 +186,9 @@ fn unfit_amounts_and_short_slices() {
         if answer.is_err() {
             assert_eq!(written, lent);
         }
-        let number = answer.map_or_else(|(number, _)| number, |_| 0);
-        *seen.entry(number).or_insert(0) += 1;
+        *seen.entry(number(answer)).or_insert(0) += 1;
     }
-    for number in [0, 1, 2, 5, 20] {
-        let times = seen.get(&number).copied().unwrap_or(0);
-        assert!(times > 500, "{number} came {times} times: {seen:?}");
-    }
+    often(&seen, &[0, 1, 2, 5, 20]);
 }
 
 /// The last digit and the sign: of all 256 bytes, ten with each of two signs are amounts, and ten are negative.
@@ -201,8 +205,7 @@ fn every_last_byte() {
             _ => Err((18, 1)),
         };
         assert_eq!(said, expected, "{last:#x}");
-        let number = said.map_or_else(|(number, _)| number, |_| 0);
-        *seen.entry(number).or_insert(0) += 1;
+        *seen.entry(number(said)).or_insert(0) += 1;
     }
     assert_eq!(seen, BTreeMap::from([(0, 20), (18, 226), (19, 10)]));
 }

@@ -21,7 +21,7 @@ impl Sheet {
     /// let fields = [0x00, 0x01, 0x68, 0x23, 0x3c, 0x00, 0x00, 0x18, 0x75, 0x0d];
     /// let refusal = Sheet::from_packed(2, 1, &fields).unwrap_err();
     /// assert_eq!(refusal, Refusal { reason: Reason::PackedMinus, place: 2 });
-    /// assert_eq!(refusal.to_string(), "refused 19 at field 2: sign D: the amount is negative");
+    /// assert_eq!(refusal.place_name(), Some("field"));
     /// # Ok(())
     /// # }
     /// ```

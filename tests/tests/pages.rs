@@ -113,7 +113,7 @@ fn the_fields_of_the_manual() {
     let session = shown(&manual, "**Packed**");
     assert_eq!(play(&folder, &session), 6);
     let refused = folder.script(
-        "printf '\\15' | dd of=week.packed bs=1 seek=34 conv=notrunc status=none
+        "printf '\\240' | dd of=week.packed bs=1 seek=33 conv=notrunc status=none
         spoutbasket compile --packed 3,4 week.packed -o week.chain",
     );
     assert_eq!(refused.told, shown(&manual, "that is somebody's pay"));

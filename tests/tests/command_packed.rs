@@ -270,7 +270,7 @@ fn mistaken_files() {
     let plain = folder.path("week.txt");
     let bytes = std::fs::read(&week).unwrap();
     // amounts with digits in all places, a minus among them
-    let wages = with(&with(&bytes, 1, 0x764_746_764C), 2, 0x467_647_467D);
+    let wages = with(&with(&bytes, 1, 0x764746764C), 2, 0x467647467D);
     let wages_file = folder.file("wages", &wages);
     let ended = folder.file("ended", [&wages[..], b"\n"].concat());
     let table = folder.file("week.csv", "Löhne;Steuer\n3;2\n");
@@ -325,7 +325,7 @@ fn mistaken_files() {
     refused(&["run", "--keys", &keys, &week], b"", "7:", no_chain);
     refused(&["pool", &chain, &week], b"", "7:", no_chain);
     // 1 in the place of the edition
-    let first = with(&bytes, 1, 0x100_000_000C);
+    let first = with(&bytes, 1, 0x100000000C);
     refused(&["list", "-"], &first, "6:", no_chain);
     let is_chain = "the file is a chain, a sheet is wanted";
     let why = "2: 15 bytes found, 60 wanted;";

@@ -134,7 +134,7 @@ fn damaged_fields_and_short_slices() {
                 4 => cells = r.pick(&[0, count - 1, count]),
                 5..8 if at + 4 < bytes.len() => {
                     let half = r.below(9);
-                    let shift = if half % 2 == 0 { 4 } else { 0 };
+                    let shift = [4, 0][half % 2];
                     let byte = &mut bytes[at + half / 2];
                     *byte = *byte & !(0xF << shift) | (r.within(9, 15) as u8) << shift;
                 }

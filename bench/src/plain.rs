@@ -176,10 +176,10 @@ pub fn pack(p: usize, q: usize, amounts: &[u32], bytes: &mut [u8]) -> Result<usi
         return Err((5, 0));
     }
     for (field, &amount) in bytes.chunks_exact_mut(FIELD_BYTES).zip(amounts) {
-        field[4] = (amount % 10 << 4) as u8 | 0xC;
+        field[4] = ((amount % 10) << 4) as u8 | 0xC;
         let mut front = amount / 10;
         for byte in field[..4].iter_mut().rev() {
-            *byte = (front % 100 / 10 << 4 | front % 10) as u8;
+            *byte = ((front % 100 / 10) << 4 | (front % 10)) as u8;
             front /= 100;
         }
     }

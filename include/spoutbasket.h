@@ -102,8 +102,8 @@ enum spoutbasket_refusal {
     SPOUTBASKET_REFUSED_BASES = 16,         /* bases not p, or one not below the modulus */
     SPOUTBASKET_REFUSED_COLUMNS = 17,       /* column counts differ */
     SPOUTBASKET_REFUSED_PACKED_FIELD = 18,  /* a digit above 9, or a sign that is not C, D or F */
-    SPOUTBASKET_REFUSED_PACKED_MINUS = 19,  /* sign D: the amount is negative */
-    SPOUTBASKET_REFUSED_PACKED_AMOUNT = 20  /* amount above 999,999,999, the most that fits a field */
+    SPOUTBASKET_REFUSED_PACKED_MINUS = 19,  /* sign D, minus */
+    SPOUTBASKET_REFUSED_PACKED_AMOUNT = 20  /* amount above 999,999,999 */
 };
 
 /* The faults of a text, by number, each with its words. A text may also be refused 1 and 5. */

@@ -1,5 +1,5 @@
 -- Packed decimal: a field, as the ledger host keeps an amount (Req 02; Spec 1.4).
-use mathlib.Core.Bool.{Bool, true, false, not, cond}
+use mathlib.Core.Bool.{Bool, false, not, cond}
 use mathlib.Core.List.{List, [], _∷_, _++_}
 use Prim.Native.Nat.{ℕ, zero, suc, _+_, _*_, _/_, _%_, _^_}
 use lib.ListN.{getD, take, drop, set}

@@ -1,5 +1,4 @@
 -- Each return is the two tests of the definition, decided.
-use mathlib.Core.Path.{refl}
 use native.Mathlib.Omega.{arith}
 use Rattle.chain.proofs.Rules.{lt-yes, lt-no}
 use Rattle.packed.specs.Inner.{digitPair}

@@ -1,7 +1,6 @@
 -- At each turn the verdict on all fields is the verdict on those that are left.
 use borrow.Author.Needs.{needs}
 use Prim.Native.Nat.{_-_}
-use native.Mathlib.Omega.{arith}
 use Rattle.unpacking.proofs.Judging.{FieldsLeft, fields-start, fields-on, fields-bad, fields-end}
 use Rattle.unpacking.proofs.judge_fields.Statement.{statement}
 use Rattle.unpacking.proofs.judge_fields.Tie as tie

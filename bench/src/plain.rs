@@ -179,7 +179,8 @@ pub fn pack(p: usize, q: usize, amounts: &[u32], bytes: &mut [u8]) -> Result<usi
         field[4] = ((amount % 10) << 4) as u8 | 0xC;
         let mut front = amount / 10;
         for byte in field[..4].iter_mut().rev() {
-            *byte = ((front % 100 / 10) << 4 | (front % 10)) as u8;
+            let pair = front % 100;
+            *byte = ((pair / 10) << 4 | (pair % 10)) as u8;
             front /= 100;
         }
     }

@@ -8,9 +8,9 @@
  * call may write overlaps no other slice of that call. The slices stay the caller's; they may hold anything when they are lent.
  *
  * Each function looks at all its input itself. It returns 0, or the number of a refusal, and writes four words to `answer`: the values that the call
- * answers, or the refusal's place, then zeros. A place is a step (9, 10, 11, 13) or a payslip (12, 14), counted from 1, and 0 where there is none.
- * What the two functions that read texts write on a refusal stands at them. After a refusal every slice is as it was, unless the function's comment says
- * otherwise. Cells past those that are needed never change.
+ * answers, or the refusal's place, then zeros. A place is a step (9, 10, 11, 13), a payslip (12, 14) or a packed field (18, 19, 20), counted from 1, and 0
+ * where there is none. What the two functions that read texts write on a refusal stands at them. After a refusal every slice is as it was, unless the
+ * function's comment says otherwise. Cells past those that are needed never change.
  *
  * A call needs no more stack than SPOUTBASKET_STACK, and spoutbasket_list SPOUTBASKET_STACK_LIST: a thread with a stack of that many bytes will do. */
 #ifndef SPOUTBASKET_H
@@ -25,9 +25,9 @@ extern "C" {
 
 /* The version of this header and of the library. */
 #define SPOUTBASKET_VERSION_MAJOR 0
-#define SPOUTBASKET_VERSION_MINOR 4
+#define SPOUTBASKET_VERSION_MINOR 5
 #define SPOUTBASKET_VERSION_PATCH 0
-#define SPOUTBASKET_VERSION "0.4.0"
+#define SPOUTBASKET_VERSION "0.5.0"
 
 /* The bytes of stack that are enough for a call, whatever it is given. */
 #define SPOUTBASKET_STACK (64 * 1024)
@@ -51,6 +51,10 @@ extern "C" {
 
 /* Bytes enough for every listing: the line "16 64 16000" and, for each payslip, its number, a blank and ten digits for each column, and a newline. */
 #define SPOUTBASKET_LONGEST_LISTING (12 + (2 + 11 * SPOUTBASKET_MOST_COLUMNS + 1) * SPOUTBASKET_MOST_PAYSLIPS)
+
+/* The bytes of a packed field, in which a ledger host keeps an amount: ten half-bytes, of each byte the high half first. The first nine are decimal
+ * digits, the highest first, and the last is the sign: C (hexadecimal) is plus, D minus, F unsigned. */
+#define SPOUTBASKET_FIELD_BYTES 5
 
 /* Bytes enough for the words of every refusal. */
 #define SPOUTBASKET_LONGEST_PHRASE 64
@@ -96,7 +100,10 @@ enum spoutbasket_refusal {
     SPOUTBASKET_REFUSED_PAYSLIP = 14,       /* an output's exponents are not its payslip */
     SPOUTBASKET_REFUSED_MODULUS = 15,       /* modulus 0 */
     SPOUTBASKET_REFUSED_BASES = 16,         /* bases not p, or one not below the modulus */
-    SPOUTBASKET_REFUSED_COLUMNS = 17        /* column counts differ */
+    SPOUTBASKET_REFUSED_COLUMNS = 17,       /* column counts differ */
+    SPOUTBASKET_REFUSED_PACKED_FIELD = 18,  /* a digit above 9, or a sign that is not C, D or F */
+    SPOUTBASKET_REFUSED_PACKED_MINUS = 19,  /* sign D, minus */
+    SPOUTBASKET_REFUSED_PACKED_AMOUNT = 20  /* amount above 999,999,999 */
 };
 
 /* The faults of a text, by number, each with its words. A text may also be refused 1 and 5. */
@@ -200,6 +207,18 @@ uint32_t spoutbasket_numbers(const uint8_t *text, size_t text_len, uint32_t *num
  * 104 the amounts of the line and p; for 5 the cells that there are and those needed so far. The amounts that stand whole before the fault have been
  * stored; on 103 nothing has. */
 uint32_t spoutbasket_table(const uint8_t *text, size_t text_len, uint32_t *amounts, size_t amounts_len, uint64_t answer[4]);
+
+/* Reads a sheet of p columns and q payslips from packed fields, payslip by payslip, with nothing behind them. Refused 1, then 2 for any other number of
+ * bytes than SPOUTBASKET_FIELD_BYTES for each field, then field by field 18 and 19, and last 5. 19 is for every sign D, on zero too; a field with that
+ * sign and a digit above 9 is refused 18. Needs p times q amounts, which are such as compile takes. Answers p times q. */
+uint32_t spoutbasket_unpack(size_t p, size_t q, const uint8_t *bytes, size_t bytes_len,
+                            uint32_t *amounts, size_t amounts_len, uint64_t answer[4]);
+
+/* Writes a sheet as packed fields, each with sign C. Of fields that were read it makes the same again, but for a sign F, which becomes C. Refused 1, 2, 20
+ * and 5, in this order; the place of 20 is the field that the first amount above 999,999,999 would have had. Needs SPOUTBASKET_FIELD_BYTES bytes for each
+ * amount. Answers p times q. */
+uint32_t spoutbasket_pack(size_t p, size_t q, const uint32_t *amounts, size_t amounts_len,
+                          uint8_t *bytes, size_t bytes_len, uint64_t answer[4]);
 
 /* The words for the number of a refusal or a fault, in ASCII, over the front of `text`, without a closing 0; for any other number "no such refusal".
  * Needs as many bytes as they have; SPOUTBASKET_LONGEST_PHRASE are always enough. Answers how many bytes they have. */

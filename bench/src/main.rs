@@ -7,7 +7,7 @@ mod sheet;
 
 use spoutbasket::{LONGEST_FILE, MOST_COLUMNS, MOST_PAYSLIPS, MOST_STEPS, MOST_VALUES};
 use spoutbasket_tests::ffi;
-use spoutbasket_tests::random::{legal_chain, Chain, Random};
+use spoutbasket_tests::random::{fields, legal_chain, Chain, Random};
 use std::hint::black_box;
 use std::time::Instant;
 
@@ -172,6 +172,7 @@ fn main() {
     assert_eq!((&steps, &outputs), (&other_steps, &other_outputs));
     assert_eq!(steps, scattered.steps);
     pool();
+    packed();
     sheet::measure();
 }
 
@@ -195,4 +196,31 @@ fn pool() {
         ),
     );
     assert_eq!((steps, outputs), (other_steps, other_outputs));
+}
+
+/// The largest sheet read from packed fields and written as such.
+fn packed() {
+    let (p, q) = (MOST_COLUMNS, MOST_PAYSLIPS);
+    let count = p * q;
+    let fields = fields(&mut Random(15), p, q);
+    let (mut amounts, mut other) = (vec![0; count], vec![0; count]);
+    report(
+        &format!("unpack, {p} by {q} fields"),
+        medians(
+            10_001,
+            || assert!(ffi::unpack(p, q, black_box(&fields), &mut amounts).is_ok()),
+            || assert!(plain::unpack(p, q, black_box(&fields), &mut other).is_ok()),
+        ),
+    );
+    assert_eq!(amounts, other);
+    let (mut bytes, mut other) = (vec![0; fields.len()], vec![0; fields.len()]);
+    report(
+        &format!("pack, {p} by {q} fields"),
+        medians(
+            10_001,
+            || assert!(ffi::pack(p, q, black_box(&amounts), &mut bytes).is_ok()),
+            || assert!(plain::pack(p, q, black_box(&amounts), &mut other).is_ok()),
+        ),
+    );
+    assert_eq!(bytes, other);
 }

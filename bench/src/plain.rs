@@ -1,6 +1,6 @@
 //! The same jobs in plain Rust, written for speed: what the library is measured against.
 
-use spoutbasket::{MOST_COLUMNS, MOST_PAYSLIPS, MOST_STEPS};
+use spoutbasket::{FIELD_BYTES, MOST_COLUMNS, MOST_PAYSLIPS, MOST_STEPS};
 use spoutbasket_tests::reference::Part;
 
 /// The check of a legal chain that fits: column by column over the scratch, like the library.
@@ -120,6 +120,71 @@ pub fn pool(
         *x = raised(v);
     }
     Ok(n)
+}
+
+/// A sheet of packed fields, all judged before an amount is stored.
+pub fn unpack(
+    p: usize,
+    q: usize,
+    bytes: &[u8],
+    amounts: &mut [u32],
+) -> Result<usize, (u32, usize)> {
+    sizes(p, q)?;
+    if bytes.len() != FIELD_BYTES * p * q {
+        return Err((2, 0));
+    }
+    let fields = bytes.chunks_exact(FIELD_BYTES);
+    for (i, field) in fields.clone().enumerate() {
+        judge_field(field).map_err(|number| (number, i + 1))?;
+    }
+    if amounts.len() < p * q {
+        return Err((5, 0));
+    }
+    for (amount, field) in amounts.iter_mut().zip(fields) {
+        let pairs = field[..4]
+            .iter()
+            .map(|&byte| (byte >> 4) * 10 + (byte & 15));
+        let front = pairs.fold(0, |front, pair| front * 100 + u32::from(pair));
+        *amount = front * 10 + u32::from(field[4] >> 4);
+    }
+    Ok(p * q)
+}
+
+/// 18 for a digit above 9 or no sign, 19 for a minus.
+fn judge_field(field: &[u8]) -> Result<(), u32> {
+    let low = |byte: &u8| byte & 15 <= 9;
+    if field.iter().any(|&byte| byte >> 4 > 9) || !field[..4].iter().all(low) {
+        return Err(18);
+    }
+    match field[4] & 15 {
+        0xC | 0xF => Ok(()),
+        0xD => Err(19),
+        _ => Err(18),
+    }
+}
+
+/// The packed fields of a sheet, likewise.
+pub fn pack(p: usize, q: usize, amounts: &[u32], bytes: &mut [u8]) -> Result<usize, (u32, usize)> {
+    sizes(p, q)?;
+    if amounts.len() != p * q {
+        return Err((2, 0));
+    }
+    if let Some(i) = amounts.iter().position(|&amount| amount > 999_999_999) {
+        return Err((20, i + 1));
+    }
+    if bytes.len() < FIELD_BYTES * p * q {
+        return Err((5, 0));
+    }
+    for (field, &amount) in bytes.chunks_exact_mut(FIELD_BYTES).zip(amounts) {
+        field[4] = ((amount % 10) << 4) as u8 | 0xC;
+        let mut front = amount / 10;
+        for byte in field[..4].iter_mut().rev() {
+            let pair = front % 100;
+            *byte = ((pair / 10) << 4 | (pair % 10)) as u8;
+            front /= 100;
+        }
+    }
+    Ok(p * q)
 }
 
 /// The step after s others: 9, 10, 11.

@@ -2,6 +2,7 @@
 //!
 //! A [`Sheet`] becomes a [`Chain`] by a [`Method`]; a chain has one file, is checked against a sheet and is run over a receiver's bases and modulus.
 //! Two chains over the same columns [pool](Chain::pool) into one.
+//! A sheet is read from packed decimal, as ledger hosts hold amounts, and [written](Sheet::to_packed) as that.
 //! What a call turns down it tells as a [`Refusal`], by reason and place; a text that cannot be read, as a [`TextFault`].
 //!
 //! ```
@@ -46,6 +47,7 @@ mod fault;
 mod keys;
 mod listing;
 mod method;
+mod packed;
 mod reason;
 mod refusal;
 mod sheet;
@@ -89,5 +91,7 @@ const LONGEST_SIZES: usize = "16 64 16000\n".len();
 const LONGEST_LINE: usize = "64\n".len() + LONGEST_FIELD * MOST_COLUMNS;
 /// Bytes enough for every listing.
 pub const LONGEST_LISTING: usize = LONGEST_SIZES + LONGEST_LINE * MOST_PAYSLIPS;
+/// The bytes of a packed field, in which a ledger host keeps an amount.
+pub const FIELD_BYTES: usize = 5;
 /// Bytes enough for the words of every refusal.
 pub const LONGEST_PHRASE: usize = 64;

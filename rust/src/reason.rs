@@ -95,6 +95,12 @@ reasons! {
         Bases = 16,
         /// 17: two chains to be pooled, or two sheets to stand one above the other, have not as many columns.
         Columns = 17,
+        /// 18: a packed field has a digit above 9, or a sign that is not C, D or F.
+        PackedField = 18,
+        /// 19: a packed field has sign D, whatever its digits are.
+        PackedMinus = 19,
+        /// 20: an amount has more than the nine digits of a packed field.
+        PackedAmount = 20,
     }
 }
 

@@ -3,8 +3,8 @@ use std::{fmt, io};
 
 /// Input turned down, by reason and place.
 ///
-/// A place is a step (for 9, 10, 11 and 13) or a payslip (for 12 and 14), counted from 1, of a pool through both parts, and 0 where there is none.
-/// `Debug` says what `Display` says, so that a `main` that returns a refusal prints it in words.
+/// A place is a step (for 9, 10, 11 and 13), a payslip (for 12 and 14) or a packed field (for 18, 19 and 20), counted from 1, of a pool through both
+/// parts, and 0 where there is none. `Debug` says what `Display` says, so that a `main` that returns a refusal prints it in words.
 ///
 /// ```
 /// use spoutbasket::{Chain, Reason, Refusal};
@@ -19,7 +19,7 @@ use std::{fmt, io};
 pub struct Refusal {
     /// Why.
     pub reason: Reason,
-    /// The first step or payslip that is refused, from 1; 0 where the reason has no place.
+    /// The first step, payslip or packed field that is refused, from 1; 0 where the reason has no place.
     pub place: usize,
 }
 
@@ -36,7 +36,7 @@ impl Refusal {
         self.reason.phrase()
     }
 
-    /// What the place counts, `step` or `payslip`; nothing where the refusal has no place.
+    /// What the place counts, `step`, `payslip` or `field`; nothing where the refusal has no place.
     #[must_use]
     pub fn place_name(&self) -> Option<&'static str> {
         match self.reason {
@@ -45,6 +45,7 @@ impl Refusal {
                 Some("step")
             }
             Reason::Output | Reason::Payslip => Some("payslip"),
+            Reason::PackedField | Reason::PackedMinus | Reason::PackedAmount => Some("field"),
             _ => Some("place"),
         }
     }

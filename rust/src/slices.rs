@@ -199,6 +199,24 @@ functions! {
         answer: &mut [u64; 4],
     );
 
+    /// Reads a sheet of packed fields, [`FIELD_BYTES`](crate::FIELD_BYTES) bytes each; answers p times q.
+    fn unpack(
+        p: usize,
+        q: usize,
+        bytes: &[u8],
+        amounts: &mut [u32],
+        answer: &mut [u64; 4],
+    );
+
+    /// Writes a sheet as packed fields with sign C; answers p times q.
+    fn pack(
+        p: usize,
+        q: usize,
+        amounts: &[u32],
+        bytes: &mut [u8],
+        answer: &mut [u64; 4],
+    );
+
     /// The words for a refusal's number; answers how many bytes they have, of which [`LONGEST_PHRASE`](crate::LONGEST_PHRASE) are always enough.
     fn phrase(
         number: u32,

@@ -192,6 +192,33 @@ fn sheets_above_each_other() -> Result<(), Refusal> {
     Ok(())
 }
 
+/// 1, 2, 18 and 19 of packed fields that are read, in this order, and 18 and 19 field by field; 20 of amounts that are written.
+#[test]
+fn packed_fields() -> Result<(), Refusal> {
+    let (one, digit) = ([0, 0, 0, 0, 0x1c], [0, 0xa0, 0, 0, 0x1c]);
+    let (sign, minus) = ([0, 0, 0, 0, 0x1e], [0, 0, 0, 0, 0x0d]);
+    let both = [0x0a, 0, 0, 0, 0x1d];
+    let sheet = |fields: [[u8; 5]; 2]| Sheet::from_packed(2, 1, fields.as_flattened());
+    assert_eq!(sheet([one, one])?, Sheet::new(2, 1, [1, 1])?);
+    for (p, q) in [(0, 1), (17, 1), (1, 0), (1, 65), (usize::MAX, usize::MAX)] {
+        refused(1, 0, Sheet::from_packed(p, q, &digit));
+    }
+    for fields in [&[][..], &one, &one[..4], &[one, digit, one].concat()] {
+        refused(2, 0, Sheet::from_packed(2, 1, fields));
+    }
+    for unfit in [digit, sign, both] {
+        refused(18, 1, sheet([unfit, minus]));
+        refused(18, 2, sheet([one, unfit]));
+        refused(19, 1, sheet([minus, unfit]));
+    }
+    refused(19, 2, sheet([one, minus]));
+    let most = Sheet::new(2, 1, [0, 999_999_999])?.to_packed()?;
+    assert_eq!(most, [0, 0, 0, 0, 0x0c, 0x99, 0x99, 0x99, 0x99, 0x9c]);
+    refused(20, 2, Sheet::new(2, 1, [7, 1_000_000_000])?.to_packed());
+    refused(20, 1, Sheet::new(2, 1, [u32::MAX; 2])?.to_packed());
+    Ok(())
+}
+
 /// Every reason stands at its number, and no number is lost.
 #[test]
 fn numbers() {
@@ -214,12 +241,15 @@ fn numbers() {
         Modulus,
         Bases,
         Columns,
+        PackedField,
+        PackedMinus,
+        PackedAmount,
     ];
     for (number, reason) in (1..).zip(reasons) {
         assert_eq!((Reason::from(number), reason.number()), (reason, number));
     }
     assert!(reasons.windows(2).all(|pair| pair[0] < pair[1]));
-    for number in [0, 18, 101, u32::MAX] {
+    for number in [0, 21, 101, u32::MAX] {
         assert_eq!(Reason::from(number), Other(number));
         assert_eq!(Reason::from(number).number(), number);
     }
@@ -251,8 +281,14 @@ fn in_words() {
         "refused 14 at payslip 1: an output's exponents are not its payslip"
     );
     assert_eq!(words(17, 0), "refused 17: column counts differ");
-    assert_eq!(words(18, 0), "refused 18: no such refusal");
-    assert_eq!(words(18, 3), "refused 18 at place 3: no such refusal");
+    assert_eq!(
+        words(18, 2),
+        "refused 18 at field 2: a digit above 9, or a sign that is not C, D or F"
+    );
+    assert!(words(19, 1).starts_with("refused 19 at field 1: sign D"));
+    assert!(words(20, 1024).starts_with("refused 20 at field 1024: amount above 999,999,999"));
+    assert_eq!(words(21, 0), "refused 21: no such refusal");
+    assert_eq!(words(21, 3), "refused 21 at place 3: no such refusal");
     assert_eq!(words(u32::MAX, 0), "refused 4294967295: no such refusal");
     let error: Box<dyn std::error::Error> = Box::new(Refusal::from(Reason::Modulus));
     assert_eq!(error.to_string(), "refused 15: modulus 0");

@@ -1,13 +1,48 @@
 //! The command, run as a script runs it, and the lister.
+use crate::reference::{pack, FIELD_BYTES};
 use std::io::Write;
 use std::path::{Path, PathBuf};
 use std::process::{Child, Command, Stdio};
 
 /// The manual's week: four payslips of three pay elements, and a receiver's keys.
 pub const WEEK: &str = "3 4\n3 0 2\n1 2 0\n0 0 2\n3 2 1\n";
+pub const WEEK_AMOUNTS: [u32; 12] = [3, 0, 2, 1, 2, 0, 0, 0, 2, 3, 2, 1];
 pub const KEYS: &str = "10000\n3 5 7\n";
 /// What the check says of the week's shortest chain.
 pub const PASSED: &str = "passed: 3 columns, 4 payslips, 9 steps\n";
+
+/// The commands, in the order of the help.
+pub const COMMANDS: [&str; 9] = [
+    "compile", "check", "choose", "pool", "list", "run", "figures", "unpack", "pack",
+];
+
+/// A sheet as a plain text or as a table.
+pub fn sheet_text(p: usize, amounts: &[u32], table: bool) -> String {
+    let lines = amounts.chunks(p).map(|payslip| {
+        let fields: Vec<String> = payslip.iter().map(u32::to_string).collect();
+        fields.join(if table { ";" } else { " " }) + "\n"
+    });
+    let head = match table {
+        true => String::new(),
+        false => format!("{p} {}\n", amounts.len() / p),
+    };
+    head + &lines.collect::<String>()
+}
+
+/// A sheet as packed fields with sign C.
+pub fn packed(p: usize, amounts: &[u32]) -> Vec<u8> {
+    let mut fields = vec![0; FIELD_BYTES * amounts.len()];
+    pack(p, amounts.len() / p, amounts, &mut fields).unwrap();
+    fields
+}
+
+/// A number of things as the command says it.
+pub fn count(number: usize, thing: &str) -> String {
+    match number {
+        1 => format!("1 {thing}"),
+        _ => format!("{number} {thing}s"),
+    }
+}
 
 /// How a run ended.
 #[derive(Debug)]
@@ -110,13 +145,14 @@ impl Folder {
         Folder(folder)
     }
 
-    /// A folder with the week's sheet, keys and shortest chain.
+    /// A folder with the week's sheet, plain and packed, keys and shortest chain.
     pub fn week(name: &str) -> Folder {
         let folder = Folder::new(name);
         let sheet = folder.file("week.txt", WEEK);
         folder.file("bank.keys", KEYS);
         let chain = folder.path("week.chain");
         spoutbasket(&["compile", &sheet, "-o", &chain], b"").done();
+        folder.file("week.packed", packed(3, &WEEK_AMOUNTS));
         folder
     }
 

@@ -98,6 +98,14 @@ pub fn pool(
     })
 }
 
+pub fn unpack(p: usize, q: usize, bytes: &[u8], amounts: &mut [u32]) -> Answer {
+    answer(1, |words| slices::unpack(p, q, bytes, amounts, words))
+}
+
+pub fn pack(p: usize, q: usize, amounts: &[u32], bytes: &mut [u8]) -> Answer {
+    answer(1, |words| slices::pack(p, q, amounts, bytes, words))
+}
+
 /// The scratch that the chooser is lent.
 pub struct Scratch {
     pub steps: Vec<u32>,

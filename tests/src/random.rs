@@ -1,7 +1,8 @@
-//! Random numbers from a fixed seed, random chains, sheets, moduli and bases.
+//! Random numbers from a fixed seed, random chains, sheets, packed fields, moduli and bases.
 
 use crate::compiler::{methods, Job};
-use crate::reference::{exponents, pairs, Part, MOST_AMOUNT, MOST_COLUMNS, MOST_PAYSLIPS};
+use crate::reference::{exponents, pairs, Part, FIELD_BYTES};
+use crate::reference::{MOST_AMOUNT, MOST_COLUMNS, MOST_PAYSLIPS};
 
 /// splitmix64.
 pub struct Random(pub u64);
@@ -35,6 +36,10 @@ impl Random {
 
     pub fn words(&mut self, n: usize) -> Vec<u32> {
         (0..n).map(|_| self.word() as u32).collect()
+    }
+
+    pub fn bytes(&mut self, n: usize) -> Vec<u8> {
+        (0..n).map(|_| self.word() as u8).collect()
     }
 }
 
@@ -144,6 +149,23 @@ pub fn sheet(r: &mut Random, p: usize, q: usize, bits: usize) -> Vec<u32> {
         }
     }
     amounts
+}
+
+/// The fields of a packed sheet, with sign C or F, of amounts of all numbers of digits: some are 0, some have only digits 9.
+pub fn fields(r: &mut Random, p: usize, q: usize) -> Vec<u8> {
+    let mut fields = Vec::with_capacity(FIELD_BYTES * p * q);
+    for _ in 0..p * q {
+        let end = 10_usize.pow(r.within(0, 9) as u32);
+        let amount = match r.below(4) {
+            0 => end - 1,
+            _ => r.below(end),
+        };
+        let sign = r.pick(&[0xC, 0xF]);
+        // the digits in decimal, read as if they were hexadecimal, are one half each
+        let digits = u64::from_str_radix(&amount.to_string(), 16).unwrap();
+        fields.extend(&(digits << 4 | sign).to_be_bytes()[8 - FIELD_BYTES..]);
+    }
+    fields
 }
 
 /// A sheet with a method and a parameter that go with it; its chain may be too long.

@@ -398,6 +398,62 @@ pub fn pool(first: Part, second: Part, steps: &mut [u32], outputs: &mut [u32]) -
     Ok(vec![all_steps.len() as u64 / 2])
 }
 
+/// The bytes of a packed field, and the largest amount that its nine digits say.
+pub const FIELD_BYTES: usize = 5;
+pub const MOST_PACKED: u32 = 999_999_999;
+
+/// The amount of a packed field, or 18, then 19. In hexadecimal a field is its nine digits and its sign as they are written.
+fn amount(field: &[u8]) -> Result<u32, u32> {
+    let halves: String = field.iter().map(|byte| format!("{byte:02X}")).collect();
+    let (digits, sign) = halves.split_at(9);
+    if digits.contains(|digit: char| !digit.is_ascii_digit()) || !["C", "D", "F"].contains(&sign) {
+        return Err(18);
+    }
+    if sign == "D" {
+        return Err(19);
+    }
+    Ok(digits.parse().unwrap())
+}
+
+/// A sheet of packed fields, read.
+pub fn unpack(p: usize, q: usize, bytes: &[u8], amounts: &mut [u32]) -> Answer {
+    sizes(p, q)?;
+    if bytes.len() != FIELD_BYTES * p * q {
+        return Err((2, 0));
+    }
+    let mut read = vec![];
+    for (i, field) in bytes.chunks(FIELD_BYTES).enumerate() {
+        read.push(amount(field).map_err(|number| (number, i as u64 + 1))?);
+    }
+    if amounts.len() < read.len() {
+        return Err((5, 0));
+    }
+    amounts[..read.len()].copy_from_slice(&read);
+    Ok(vec![read.len() as u64])
+}
+
+/// A sheet written as packed fields.
+pub fn pack(p: usize, q: usize, amounts: &[u32], bytes: &mut [u8]) -> Answer {
+    sizes(p, q)?;
+    if amounts.len() != p * q {
+        return Err((2, 0));
+    }
+    let mut written = vec![];
+    for (i, &amount) in amounts.iter().enumerate() {
+        if amount > MOST_PACKED {
+            return Err((20, i as u64 + 1));
+        }
+        let halves = format!("{amount:09}C");
+        let byte = |at: usize| u8::from_str_radix(&halves[at..at + 2], 16).unwrap();
+        written.extend((0..halves.len()).step_by(2).map(byte));
+    }
+    if bytes.len() < written.len() {
+        return Err((5, 0));
+    }
+    bytes[..written.len()].copy_from_slice(&written);
+    Ok(vec![amounts.len() as u64])
+}
+
 /// What the listing program writes.
 pub fn listing(bytes: &[u8]) -> String {
     let lines = || -> Result<String, (u32, u64)> {

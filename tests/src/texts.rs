@@ -12,7 +12,7 @@ type Fault = (u32, usize, u64, u64);
 const MARK: [u8; 3] = [0xEF, 0xBB, 0xBF];
 
 /// The words for each refusal's number.
-pub const PHRASES: [(u32, &str); 24] = [
+pub const PHRASES: [(u32, &str); 27] = [
     (1, "p or q out of range"),
     (2, "amounts are not p times q"),
     (3, "method or parameter"),
@@ -30,6 +30,9 @@ pub const PHRASES: [(u32, &str); 24] = [
     (15, "modulus 0"),
     (16, "bases not p, or one not below the modulus"),
     (17, "column counts differ"),
+    (18, "a digit above 9, or a sign that is not C, D or F"),
+    (19, "sign D, minus"),
+    (20, "amount above 999,999,999"),
     (101, "neither a digit nor a separator"),
     (102, "number above 4,294,967,295"),
     (103, "cut off: the last line has no newline"),

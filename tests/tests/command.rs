@@ -1,14 +1,12 @@
 //! The command against the reference: every subcommand, what it writes, and its exit status.
-use spoutbasket_tests::command::{spoutbasket, Folder, PASSED, WEEK};
+use spoutbasket_tests::command::{
+    count, spoutbasket, Folder, COMMANDS, PASSED, WEEK, WEEK_AMOUNTS,
+};
 use spoutbasket_tests::compiler::methods;
 use spoutbasket_tests::random::{bases, job, modulus, Random};
 use spoutbasket_tests::reference::{self, figure, Job, LONGEST_FILE, MOST_PAYSLIPS};
 use spoutbasket_tests::reference::{EDITION_STEPS, EDITION_VALUES};
 use spoutbasket_tests::texts::phrase;
-
-const COMMANDS: [&str; 7] = [
-    "compile", "check", "choose", "pool", "list", "run", "figures",
-];
 
 fn method_name(job: &Job) -> String {
     let name = ["straus", "yao", "partition"][job.method - 1];
@@ -80,13 +78,6 @@ fn lines(job: &Job, m: u32, bases: &[u32]) -> String {
     let payslips = job.amounts.chunks(job.p);
     let figures = payslips.map(|payslip| format!("{}\n", figure(m, bases, payslip)));
     figures.collect::<String>() + &format!("{} multiplications\n", job.count())
-}
-
-fn count(number: usize, thing: &str) -> String {
-    match number {
-        1 => format!("1 {thing}"),
-        _ => format!("{number} {thing}s"),
-    }
 }
 
 #[test]
@@ -207,6 +198,11 @@ fn any_bytes() {
             vec!["check", &sheet, "-", &other],
             vec!["check", "--table", "-", &other, &other],
             vec!["choose", "-", &other, &other],
+            vec!["compile", "--packed", "1,1", "-"],
+            vec!["check", "--packed", "3,1,20", &other, "-", &chain],
+            vec!["unpack", "--packed", "2,2", "-"],
+            vec!["pack", "-"],
+            vec!["pack", "--table", "-"],
             vec!["pool", "-", &chain],
             vec!["pool", &chain, "-"],
             vec!["list", "-"],
@@ -231,13 +227,12 @@ fn any_bytes() {
 fn every_bit() {
     let folder = Folder::new("bits");
     let sheet = folder.file("sheet", WEEK);
-    let amounts = [3, 0, 2, 1, 2, 0, 0, 0, 2, 3, 2, 1];
-    let file = file_of(&best(&Job::new(3, 4, &amounts, 1, 1))).unwrap();
+    let file = file_of(&best(&Job::new(3, 4, &WEEK_AMOUNTS, 1, 1))).unwrap();
     let scratch = (EDITION_STEPS, MOST_PAYSLIPS, EDITION_VALUES);
     for bit in 0..8 * file.len() {
         let mut turned = file.clone();
         turned[bit / 8] ^= 0x80 >> (bit % 8);
-        let judged = reference::choose(3, 4, &amounts, &turned, &[], scratch);
+        let judged = reference::choose(3, 4, &WEEK_AMOUNTS, &turned, &[], scratch);
         let checked = spoutbasket(&["check", &sheet, "-"], &turned);
         match judged {
             Ok(_) => assert_eq!(checked.status, 0, "{bit}"),
@@ -428,7 +423,7 @@ fn helps() {
 #[test]
 fn options() {
     let options = [
-        "--best", "--method", "--table", "-o", "-v", "--keys", "--json",
+        "--best", "--method", "--table", "--packed", "-o", "-v", "--keys", "--json",
     ];
     for name in COMMANDS {
         let help = spoutbasket(&["help", name], b"").done();

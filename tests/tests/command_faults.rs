@@ -1,5 +1,5 @@
 //! The command where input or output fails: the status and the line, and a chain file that is whole or not there.
-use spoutbasket_tests::command::{end, spoutbasket, start, start_on, Ended, Folder, PASSED};
+use spoutbasket_tests::command::{end, spoutbasket, start, start_on, Ended, Folder, PASSED, WEEK};
 use spoutbasket_tests::texts::phrase;
 use std::io::Write;
 use std::os::fd::OwnedFd;
@@ -10,10 +10,12 @@ use std::time::Duration;
 const FULL: &str = "No space left on device (os error 28)";
 
 /// The commands that write to standard output.
-const WRITING: [&str; 11] = [
+const WRITING: [&str; 13] = [
     "compile week.txt",
     "choose week.txt week.chain week.chain",
     "pool week.chain week.chain",
+    "unpack --packed 3,4 week.packed",
+    "pack week.txt",
     "check week.txt week.chain",
     "check --json week.txt week.chain",
     "list week.chain",
@@ -165,6 +167,10 @@ fn input_that_cannot_be_read() {
             "check week.txt week.txt NAME",
             "choose week.txt NAME week.chain",
             "choose week.txt week.chain NAME",
+            "check --packed 3,4,4 week.packed NAME week.chain",
+            "unpack --packed 3,4 NAME -o new.chain",
+            "pack NAME -o new.chain",
+            "pack --packed 3,4 NAME -o new.chain",
             "pool NAME week.chain -o new.chain",
             "pool week.chain NAME -o new.chain",
             "list NAME",
@@ -188,8 +194,10 @@ fn input_that_cannot_be_read() {
         "standard input: Bad file descriptor (os error 9)"
     );
     // input without an end
-    let ended = folder.script("spoutbasket compile /dev/zero");
-    assert_eq!(ended.ended(3), "/dev/zero: longer than 16 MiB");
+    for command in ["compile", "unpack --packed 3,4"] {
+        let ended = folder.script(&format!("spoutbasket {command} /dev/zero"));
+        assert_eq!(ended.ended(3), "/dev/zero: longer than 16 MiB");
+    }
     let ended = folder.script("yes 1 | spoutbasket figures --keys - week.txt");
     assert_eq!(ended.ended(3), "standard input: longer than 16 MiB");
     let ended = folder.script("yes 1 | tr -d '\\n' | tr 1 '\\21' | spoutbasket list");
@@ -213,7 +221,7 @@ fn output_that_cannot_be_written() {
     folder
         .script(
             "mkdir folder; echo old > old.chain; ln week.txt same.txt
-            ln week.chain same.chain; cp week.chain other.chain",
+            ln week.chain same.chain; cp week.chain other.chain; ln week.packed same.packed",
         )
         .done();
     let names = folder.names();
@@ -236,6 +244,8 @@ fn output_that_cannot_be_written() {
             "compile week.txt",
             "choose week.txt week.chain week.chain",
             "pool week.chain week.chain",
+            "unpack --packed 3,4 week.packed",
+            "pack week.txt",
         ] {
             let ended = folder.script(&format!("spoutbasket {command} -o {target}"));
             assert_eq!(ended.ended(status), why, "{command}");
@@ -245,6 +255,11 @@ fn output_that_cannot_be_written() {
         "compile week.txt -o same.txt",
         "compile -o week.txt < week.txt",
         "choose - week.chain week.chain -o same.txt < week.txt",
+        "pack week.txt -o same.txt",
+        "pack -o same.txt < week.txt",
+        "pack --packed 3,4 week.packed -o same.packed",
+        "unpack --packed 3,4 week.packed -o same.packed",
+        "compile --packed 3,4 week.packed -o same.packed",
     ] {
         let ended = folder.script(&format!("spoutbasket {command}"));
         assert!(ended.ended(2).contains("-o names the sheet itself"));
@@ -263,6 +278,10 @@ fn output_that_cannot_be_written() {
     let ended = folder.script("spoutbasket choose week.txt old.chain old.chain -o old.chain");
     assert_eq!(ended.status, 1);
     let ended = folder.script("spoutbasket pool week.chain week.txt -o old.chain");
+    assert_eq!(ended.status, 1);
+    let ended = folder.script("spoutbasket unpack --packed 3,5 week.packed -o old.chain");
+    assert_eq!(ended.status, 1);
+    let ended = folder.script("echo 1 1 1000000000 | spoutbasket pack -o old.chain");
     assert_eq!(ended.status, 1);
     assert_eq!(folder.script("cat old.chain").done(), "old\n");
     assert_eq!(folder.names(), names);
@@ -428,23 +447,33 @@ fn a_terminal() {
             String::from_utf8_lossy(&said.said).into_owned(),
         )
     };
-    for command in [
-        "compile week.txt",
-        "choose week.txt week.chain week.chain",
-        "pool week.chain week.chain",
+    let chain = "a chain is no text for a terminal: give -o CHAIN";
+    let fields = "packed fields are no text for a terminal: give -o FIELDS";
+    for (command, why) in [
+        ("compile week.txt", chain),
+        ("choose week.txt week.chain week.chain", chain),
+        ("pool week.chain week.chain", chain),
+        ("compile --packed 3,4 week.packed", chain),
+        ("pack week.txt", fields),
+        ("pack --packed 3,4 week.packed", fields),
     ] {
         let (status, said) = on_terminal(command);
         assert_eq!(status, 2);
-        assert!(
-            said.contains("a chain is no text for a terminal: give -o CHAIN"),
-            "{said}"
-        );
+        assert!(said.contains(why), "{said}");
     }
     assert_eq!(
         on_terminal("compile week.txt -o new.chain"),
         (0, String::new())
     );
     assert_eq!(on_terminal("compile week.txt -o -").0, 0);
+    assert_eq!(on_terminal("pack week.txt -o -").0, 0);
+    assert_eq!(
+        on_terminal("pack week.txt -o new.packed"),
+        (0, String::new())
+    );
+    // a plain sheet is a text
+    let (status, said) = on_terminal("unpack --packed 3,4 week.packed");
+    assert_eq!((status, said.replace("\r\n", "\n")), (0, WEEK.to_string()));
     let (status, said) = on_terminal("check week.txt week.chain");
     assert_eq!((status, said.trim_end()), (0, PASSED.trim_end()));
 }

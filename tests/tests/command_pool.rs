@@ -1,5 +1,5 @@
 //! Two chains as one by the command, and the check of the pool against both sheets.
-use spoutbasket_tests::command::{spoutbasket, Folder};
+use spoutbasket_tests::command::{count, sheet_text, spoutbasket, Folder};
 use spoutbasket_tests::compiler::methods;
 use spoutbasket_tests::random::{bases, modulus, sheet, Random};
 use spoutbasket_tests::reference::{self, LONGEST_FILE, MOST_PAYSLIPS, MOST_STEPS};
@@ -33,26 +33,6 @@ fn pooled(first: &[u8], second: &[u8]) -> Vec<u8> {
     written(p, &steps, &outputs)
 }
 
-/// A sheet as a plain text or as a table.
-fn text(p: usize, amounts: &[u32], table: bool) -> String {
-    let lines = amounts.chunks(p).map(|payslip| {
-        let fields: Vec<String> = payslip.iter().map(u32::to_string).collect();
-        fields.join(if table { ";" } else { " " }) + "\n"
-    });
-    let head = match table {
-        true => String::new(),
-        false => format!("{p} {}\n", amounts.len() / p),
-    };
-    head + &lines.collect::<String>()
-}
-
-fn count(number: usize, thing: &str) -> String {
-    match number {
-        1 => format!("1 {thing}"),
-        _ => format!("{number} {thing}s"),
-    }
-}
-
 /// Sheets, their chains, the pool and its check; a damaged amount is found in its sheet.
 #[test]
 fn from_two_sheets_to_one_list_of_figures() {
@@ -65,7 +45,7 @@ fn from_two_sheets_to_one_list_of_figures() {
         let bits = r.within(1, 20);
         let amounts = q.map(|q| sheet(&mut r, p, q, bits));
         let names = ["first.txt", "second.txt"];
-        let sheets = [0, 1].map(|i| folder.file(names[i], text(p, &amounts[i], table)));
+        let sheets = [0, 1].map(|i| folder.file(names[i], sheet_text(p, &amounts[i], table)));
         let chains = [0, 1].map(|i| {
             let (method, k) = r.pick(&methods(p));
             let (steps, outputs) = reference::make(p, q[i], &amounts[i], method, k);
@@ -123,7 +103,7 @@ fn from_two_sheets_to_one_list_of_figures() {
         let mut other = amounts[part].clone();
         let i = r.below(other.len());
         other[i] ^= 1;
-        folder.file(names[part], text(p, &other, table));
+        folder.file(names[part], sheet_text(p, &other, table));
         let (payslip, column) = (i / p + 1, i % p + 1);
         let place = part * q[0] + payslip;
         let sheet = &sheets[part];
@@ -225,7 +205,8 @@ fn parts_that_do_not_pool() {
 #[test]
 fn sheets_that_do_not_go_together() {
     let folder = Folder::new("unlike");
-    let sheet = |name: &str, p: usize, q: usize| folder.file(name, text(p, &vec![1; p * q], false));
+    let sheet =
+        |name: &str, p: usize, q: usize| folder.file(name, sheet_text(p, &vec![1; p * q], false));
     let (two, three) = (sheet("two", 2, 1), sheet("three", 3, 1));
     let (many, few) = (sheet("many", 2, 60), sheet("few", 2, 5));
     let pool = folder.file("pool", written(2, &[2, 1], &[3; 7]));

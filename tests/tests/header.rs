@@ -28,6 +28,7 @@ fn limits() {
         ("LONGEST_FILE", spoutbasket::LONGEST_FILE),
         ("LONGEST_LISTING", spoutbasket::LONGEST_LISTING),
         ("LONGEST_PHRASE", spoutbasket::LONGEST_PHRASE),
+        ("FIELD_BYTES", spoutbasket::FIELD_BYTES),
     ] {
         assert_eq!(numbers.get(name), Some(&number), "{name}");
     }
@@ -41,7 +42,7 @@ fn phrases() -> BTreeMap<u32, &'static str> {
         .filter(known)
         .map(|number| (number, Reason::from(number).phrase()))
         .collect();
-    assert!(phrases.keys().copied().eq((1..=17).chain(101..=107)));
+    assert!(phrases.keys().copied().eq((1..=20).chain(101..=107)));
     phrases
 }
 

@@ -1,6 +1,6 @@
 //! What the pages say of the command is what it does: synopses, the example, objects, messages, the night's script, the sample. What they say of the
 //! sources is there: files, contracts, edits.
-use spoutbasket_tests::command::{spoutbasket, Folder, KEYS, WEEK};
+use spoutbasket_tests::command::{spoutbasket, Folder, COMMANDS, KEYS, WEEK};
 
 fn page(name: &str) -> String {
     let path = format!("{}/../{name}", env!("CARGO_MANIFEST_DIR"));
@@ -46,9 +46,7 @@ fn manual_page() -> String {
 #[test]
 fn every_synopsis_in_the_manual_page() {
     let page = manual_page();
-    for name in [
-        "compile", "check", "choose", "pool", "list", "run", "figures",
-    ] {
+    for name in COMMANDS {
         let help = spoutbasket(&["help", name], b"").done();
         let usage = help.lines().next().unwrap();
         let usage = usage.strip_prefix("Usage: ").unwrap();
@@ -102,6 +100,29 @@ fn the_pool_of_the_manual() {
     let page = manual_page();
     let lines = session.lines().filter(|line| line.contains(" pool.chain"));
     for line in lines.filter(|line| !line.contains(" run ")) {
+        let command = line.strip_prefix("$ ").unwrap();
+        assert!(page.lines().any(|line| line == command), "{command}");
+    }
+}
+
+/// Packed fields of the manual's sheet, and what is said of one that is refused.
+#[test]
+fn the_fields_of_the_manual() {
+    let folder = week("manual-fields");
+    let manual = page("docs/MANUAL.md");
+    let session = shown(&manual, "**Packed**");
+    assert_eq!(play(&folder, &session), 6);
+    let refused = folder.script(
+        "printf '\\240' | dd of=week.packed bs=1 seek=33 conv=notrunc status=none
+        spoutbasket compile --packed 3,4 week.packed -o week.chain",
+    );
+    assert_eq!(refused.told, shown(&manual, "that is somebody's pay"));
+    // the manual page's example is the manual's
+    let page = manual_page();
+    let lines = session
+        .lines()
+        .filter(|line| line.contains(" --packed 3,4"));
+    for line in lines.filter(|line| !line.contains(" unpack ")) {
         let command = line.strip_prefix("$ ").unwrap();
         assert!(page.lines().any(|line| line == command), "{command}");
     }

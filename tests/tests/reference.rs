@@ -129,6 +129,42 @@ fn pools_of_trials_a_and_b() {
     assert_eq!(pool(a, narrow, &mut steps, &mut outputs), Err((17, 0)));
 }
 
+/// Packed fields read and written, by hand: every number and place, the order within a field, and what is left of the slice.
+#[test]
+fn fields_by_hand() {
+    let fields = [0x00, 0x01, 0x68, 0x23, 0x3C, 0x99, 0x99, 0x99, 0x99, 0x9F];
+    let mut amounts = [9; 3];
+    assert_eq!(unpack(1, 2, &fields, &mut amounts), Ok(vec![2]));
+    assert_eq!(amounts, [168_233, 999_999_999, 9]);
+    let mut written = [9; 11];
+    assert_eq!(pack(1, 2, &amounts[..2], &mut written), Ok(vec![2]));
+    assert_eq!(written[..9], fields[..9]);
+    assert_eq!(written[9..], [0x9C, 9]);
+    for (last, refusal) in [
+        (0x9D, (19, 2)),
+        (0x0D, (19, 2)),
+        (0xAD, (18, 2)),
+        (0xAC, (18, 2)),
+        (0x9E, (18, 2)),
+        (0x9B, (18, 2)),
+        (0x90, (18, 2)),
+    ] {
+        let unfit = [&fields[..9], &[last]].concat();
+        assert_eq!(unpack(2, 1, &unfit, &mut amounts), Err(refusal));
+    }
+    assert_eq!(unpack(2, 1, &fields[..9], &mut amounts), Err((2, 0)));
+    assert_eq!(unpack(2, 17, &fields, &mut amounts), Err((2, 0)));
+    assert_eq!(unpack(17, 2, &fields, &mut amounts), Err((1, 0)));
+    assert_eq!(unpack(2, 1, &fields, &mut amounts[..1]), Err((5, 0)));
+    assert_eq!(amounts, [168_233, 999_999_999, 9]);
+    let large = [0, 1_000_000_000];
+    assert_eq!(pack(1, 2, &large, &mut written), Err((20, 2)));
+    assert_eq!(pack(1, 1, &large, &mut written), Err((2, 0)));
+    assert_eq!(pack(1, 0, &large, &mut written), Err((1, 0)));
+    assert_eq!(pack(1, 1, &[7], &mut written[..4]), Err((5, 0)));
+    assert_eq!(written[9..], [0x9C, 9]);
+}
+
 /// Counts and ceilings worked out by hand from the document's formulas.
 #[test]
 fn counts_and_ceilings() {

@@ -1,5 +1,5 @@
 //! Each function, on the largest input, on a thread with just the stack that the header says is enough. One that needed more would end the process.
-use spoutbasket::{slices, LONGEST_FILE, LONGEST_LISTING, LONGEST_PHRASE};
+use spoutbasket::{slices, FIELD_BYTES, LONGEST_FILE, LONGEST_LISTING, LONGEST_PHRASE};
 use spoutbasket_tests::header;
 use spoutbasket_tests::random::{job_counting, legal_chain, Random};
 use spoutbasket_tests::reference::{Job, MOST_COLUMNS, MOST_PAYSLIPS, MOST_STEPS, MOST_VALUES};
@@ -169,6 +169,22 @@ fn pools() {
         });
         assert_eq!(answer, [MOST_STEPS as u64, 0, 0, 0]);
     }
+}
+
+/// The largest sheet, of the largest amounts, as packed fields and back.
+#[test]
+fn packed_fields() {
+    let (p, q) = (MOST_COLUMNS, MOST_PAYSLIPS);
+    let (amounts, mut read) = (vec![999_999_999; AMOUNTS], vec![0; AMOUNTS]);
+    let mut fields = vec![0; FIELD_BYTES * AMOUNTS];
+    let answer = on_stack("STACK", |words| {
+        slices::pack(p, q, &amounts, &mut fields, words)
+    });
+    assert_eq!(answer, [AMOUNTS as u64, 0, 0, 0]);
+    let answer = on_stack("STACK", |words| {
+        slices::unpack(p, q, &fields, &mut read, words)
+    });
+    assert_eq!((answer, read), ([AMOUNTS as u64, 0, 0, 0], amounts));
 }
 
 #[test]

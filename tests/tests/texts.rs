@@ -276,5 +276,5 @@ fn phrases() {
         assert_eq!(words, [0; 4], "{number}");
         assert!(text.iter().all(|&cell| cell == 0xA5), "{number}");
     }
-    assert_eq!(PHRASES.len(), 17 + 7);
+    assert_eq!(PHRASES.len(), 20 + 7);
 }

@@ -14,6 +14,8 @@ use Rattle.answers.specs.declared.Ran.{Ran}
 use Rattle.answers.specs.declared.Ran.the-variants as ran
 use Rattle.answers.specs.declared.Pooled.{Pooled}
 use Rattle.answers.specs.declared.Pooled.the-variants as pooled
+use Rattle.answers.specs.declared.Transferred.{Transferred}
+use Rattle.answers.specs.declared.Transferred.the-variants as transferred
 use Rattle.answers.specs.declared.Chosen.{Chosen}
 use Rattle.answers.specs.declared.Chosen.the-variants as chosen
 use Rattle.answers.specs.declared.Figured.{Figured}
@@ -48,6 +50,11 @@ ranOf (ran.Refused number place) = refusal number place
 abbrev pub pooledOf : Pooled → Answer
 pooledOf (pooled.Steps n) = done (n ∷ [])
 pooledOf (pooled.Refused number place) = refusal number place
+
+-- unpack and pack: the fields read, or written
+abbrev pub transferredOf : Transferred → Answer
+transferredOf (transferred.Fields n) = done (n ∷ [])
+transferredOf (transferred.Refused number place) = refusal number place
 
 -- Spec 8: which file the chooser hands back, or the refusal
 pub data Choice : Type 0 where

@@ -36,6 +36,12 @@ pub enum Pooled {
     Refused(u32, usize),
 }
 
+// Unpack and pack: the fields read, or written.
+pub enum Transferred {
+    Fields(usize),
+    Refused(u32, usize),
+}
+
 // The chooser: the file chosen.
 pub enum Chosen {
     First,

@@ -1,24 +1,15 @@
 -- Bytes stored one after the other are the first of a number's bytes, laid over the buffer; eight of them are four, and then four.
 use mathlib.Core.Path.{_≡_, refl, sym, ap, ap₂, _∙_}
 use mathlib.Core.List.{List, [], _∷_, _++_}
-use Prim.Native.Nat.{ℕ, zero, suc, _+_, _-_, _*_, _/_, _%_, _^_, _≤_, _<_}
+use Prim.Native.Nat.{ℕ, zero, suc, _+_, _-_, _*_, _/_, _%_, _^_, _≤_}
 use native.Mathlib.Nat.{zero-add, suc-add}
 use native.Mathlib.Omega.{arith}
 use lib.ListN.{length, take, set}
 use lib.Seq.{take-all, take-append-le, take-append-add}
 use lib.Pow.{shr-shr}
 use Rattle.chain.specs.Written.{laid}
-use Rattle.chain.proofs.Written.{laid-nil, laid-one, laid-laid, laid-length}
+use Rattle.chain.proofs.Written.{laid-laid, cell-laid, cell-after}
 use Rattle.bytes.specs.Inner.{spread}
-
--- one cell stored, and one more after those
-cell : (l : List ℕ) (i a : ℕ) → i < length l → set l i a ≡ laid i (a ∷ []) l
-cell l i a h = sym (laid-nil (i + 1) (set l i a)) ∙ laid-one i a [] l h
-
-cells : (l m t : List ℕ) (i a k : ℕ) → m ≡ laid i t l → length t ≡ k → i + k < length l → set m (i + k) a ≡ laid i (t ++ a ∷ []) l
-cells l m t i a k em et h =
-    let n : length m ≡ length l = ap length em ∙ laid-length i t l (omega arith) in
-    cell m (i + k) a (omega arith) ∙ ap (laid (i + k) (a ∷ [])) em ∙ laid-laid i (i + k) t (a ∷ []) l (omega arith) (omega arith)
 
 -- the first count bytes of head * 2 ^ 24 + x
 module _ (l : List ℕ) (i count head x a : ℕ) (room : i + count ≤ length l) (ea : a ≡ (head + x / 2 ^ 24) % 256) where
@@ -30,7 +21,7 @@ module _ (l : List ℕ) (i count head x a : ℕ) (room : i + count ≤ length l)
 
   pub stored-one : count ≡ 1 → set l i a ≡ laid i (take count (spread 4 y)) l
   unfolding spread
-  stored-one e = cell l i a (omega arith) ∙ rw (e, is-a)
+  stored-one e = cell-laid l i a (omega arith) ∙ rw (e, is-a)
 
   module _ (b : ℕ) (eb : b ≡ x / 2 ^ 16 % 256) where
     is-b : b ≡ y / 2 ^ 16 % 256
@@ -38,7 +29,7 @@ module _ (l : List ℕ) (i count head x a : ℕ) (room : i + count ≤ length l)
 
     pub stored-two : count ≡ 2 → set (set l i a) (i + 1) b ≡ laid i (take count (spread 4 y)) l
     unfolding spread
-    stored-two e = cells l _ (a ∷ []) i b 1 (cell l i a (omega arith)) refl (omega arith) ∙ rw (e, is-a, is-b)
+    stored-two e = cell-after l _ (a ∷ []) i b 1 (cell-laid l i a (omega arith)) refl (omega arith) ∙ rw (e, is-a, is-b)
 
     module _ (c : ℕ) (ec : c ≡ x / 2 ^ 8 % 256) where
       is-c : c ≡ y / 2 ^ 8 % 256
@@ -47,14 +38,14 @@ module _ (l : List ℕ) (i count head x a : ℕ) (room : i + count ≤ length l)
       pub stored-three : count ≡ 3 → set (set (set l i a) (i + 1) b) (i + 2) c ≡ laid i (take count (spread 4 y)) l
       unfolding spread
       stored-three e =
-          cells l _ (a ∷ b ∷ []) i c 2 (cells l _ (a ∷ []) i b 1 (cell l i a (omega arith)) refl (omega arith)) refl (omega arith) ∙ rw (e, is-a, is-b, is-c)
+          cell-after l _ (a ∷ b ∷ []) i c 2 (cell-after l _ (a ∷ []) i b 1 (cell-laid l i a (omega arith)) refl (omega arith)) refl (omega arith) ∙ rw (e, is-a, is-b, is-c)
 
       pub stored-four : (d : ℕ) → d ≡ x % 256 → count ≡ 4 → set (set (set (set l i a) (i + 1) b) (i + 2) c) (i + 3) d ≡ laid i (take count (spread 4 y)) l
       unfolding spread
       stored-four d ed e =
           let is-d : d ≡ y / 2 ^ 0 % 256 = ed ∙ omega arith in
-          cells l _ (a ∷ b ∷ c ∷ []) i d 3
-          (cells l _ (a ∷ b ∷ []) i c 2 (cells l _ (a ∷ []) i b 1 (cell l i a (omega arith)) refl (omega arith)) refl (omega arith)) refl (omega arith)
+          cell-after l _ (a ∷ b ∷ c ∷ []) i d 3
+          (cell-after l _ (a ∷ b ∷ []) i c 2 (cell-after l _ (a ∷ []) i b 1 (cell-laid l i a (omega arith)) refl (omega arith)) refl (omega arith)) refl (omega arith)
           ∙ rw (e, is-a, is-b, is-c, is-d)
 
 length-spread : (n x : ℕ) → length (spread n x) ≡ n

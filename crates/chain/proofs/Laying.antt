@@ -6,8 +6,8 @@ use native.Mathlib.Numerals.{add-one}
 use native.Mathlib.Omega.{arith}
 use lib.ListN.{length, getD, drop, set, length-set, drop-of-length-le}
 use lib.Seq.{drop-cons}
-use Rattle.chain.specs.Written.{laid}
-use Rattle.chain.proofs.Written.{laid-nil, laid-on}
+use Rattle.chain.specs.Written.{over, laid}
+use Rattle.chain.proofs.Written.{laid-nil, laid-on, over-laid}
 
 module _ (numbers : List ℕ) (at : ℕ) (old : List ℕ) where
   -- the loop's invariant: i numbers are laid
@@ -38,5 +38,16 @@ module _ (numbers : List ℕ) (at : ℕ) (old : List ℕ) where
 
   pub lay-all : (i : ℕ) (cells : List ℕ) → length numbers ≤ i → LaidTo i cells → cells ≡ laid at numbers old
   lay-all i cells h d = sym (d .left ∙ rw (drop-of-length-le numbers h) (laid-nil (at + i) cells))
+
+-- the same over the front
+module _ (numbers old : List ℕ) where
+  pub front-more : (i x : ℕ) (cells : List ℕ) → i < length numbers → length numbers ≤ length old → x ≡ getD numbers i 0 → LaidTo numbers 0 old i cells
+      → LaidTo numbers 0 old (i + 1) (set cells i x)
+  front-more i x cells h room is d =
+      let e : 0 + i ≡ i = omega arith in
+      rw e at (lay-more numbers 0 old i x cells h (omega arith) is d)
+
+  pub front-all : (i : ℕ) (cells : List ℕ) → length numbers ≤ i → LaidTo numbers 0 old i cells → cells ≡ over numbers old
+  front-all i cells h d = lay-all numbers 0 old i cells h d ∙ sym (over-laid numbers old)
 
 pub ruleset laying = (lay-none, lay-more, lay-all)

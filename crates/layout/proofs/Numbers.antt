@@ -11,7 +11,7 @@ use Rattle.chain.specs.Chain.{flat, chainRule}
 use Rattle.chain.specs.declared.Step.{Step}
 use Rattle.chain.proofs.Rules.{then-fine}
 use Rattle.chain.proofs.Steps.{flat-low}
-use Rattle.chain.proofs.Outputs.{outputs-low}
+use Rattle.chain.proofs.Limits.{outputs-low}
 use Rattle.layout.specs.File.{width}
 use Rattle.layout.proofs.Lengths.{width-holds}
 

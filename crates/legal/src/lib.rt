@@ -29,15 +29,7 @@ pub fn judge_steps(p: usize, steps: &[u32]) -> Judgement
 pub fn judge_outputs(top: usize, outputs: &[u32]) -> Judgement
     ensures { λ r. ⌜ verdictOf r ≡ outputsRule top 1 (now (outputs .entry)) ⌝ }
 {
-    let mut i: usize = 0;
-    while i < outputs.len() {
-        let o = outputs[i] as usize;
-        if top < o {
-            return Judgement::Refused(12, i + 1);
-        }
-        i += 1;
-    }
-    Judgement::Fine
+    limit::judge_numbers(12, top, outputs)
 }
 
 // The steps, then 12.

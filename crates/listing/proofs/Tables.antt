@@ -11,7 +11,7 @@ use Rattle.chain.specs.Written.{over, laid}
 use Rattle.chain.specs.Chain.{mostColumns, mostPayslips, outputsRule, exponents, exponentOf}
 use Rattle.chain.specs.declared.Step.{Step}
 use Rattle.chain.proofs.Exponents.{length-exponents}
-use Rattle.chain.proofs.Outputs.{outputs-low}
+use Rattle.chain.proofs.Limits.{outputs-low}
 use Rattle.chain.proofs.Written.{over-getD}
 use Rattle.verify.specs.Verify.{earlier}
 use Rattle.verify.specs.Inner.{SummedUp}

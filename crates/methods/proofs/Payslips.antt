@@ -10,7 +10,7 @@ use Rattle.chain.specs.Verdict.{fine}
 use Rattle.chain.specs.Chain.{Chain, outputsRule}
 use Rattle.chain.specs.declared.Step.{Step}
 use Rattle.chain.proofs.Exponents.{Makes}
-use Rattle.chain.proofs.Outputs.{low-outputs}
+use Rattle.chain.proofs.Limits.{low-outputs}
 use Rattle.digits.specs.Range.{sumTo}
 use Rattle.products.specs.Product.{Made, payslips}
 use Rattle.products.proofs.Sound.{Begins, begins-own, begins-on, makes-on, Sound}

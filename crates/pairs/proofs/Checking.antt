@@ -17,7 +17,7 @@ use Rattle.chain.proofs.Rules.{then-assoc, then-fine, lt-yes, lt-no}
 use Rattle.chain.proofs.Pairs.{pairs-flat}
 use Rattle.chain.proofs.Filling.{madeTo, fill-start, fill-on}
 use Rattle.chain.proofs.Legal.{legal-parts, chain-parts}
-use Rattle.chain.proofs.Outputs.{outputs-low}
+use Rattle.chain.proofs.Limits.{outputs-low}
 use Rattle.verify.specs.Verify.{firstOver, fittingRule, verifyAnswer, verifyScratch}
 use Rattle.rest.specs.Inner.{EndAsked, endRule}
 use Rattle.rest.proofs.Rest.{rest-parts, end-asked}

@@ -8,7 +8,7 @@ use Rattle.chain.specs.Verdict.{fine}
 use Rattle.chain.specs.Chain.{Chain, mostAmount, mostSteps, Legal, pick}
 use Rattle.chain.proofs.Rules.{pass, refuse-no, or-none, lt-no}
 use Rattle.chain.proofs.Sizes.{Sizes}
-use Rattle.chain.proofs.Outputs.{outputs-low}
+use Rattle.chain.proofs.Limits.{outputs-low}
 use Rattle.chain.proofs.Legal.{parts-legal, parts-chain}
 use Rattle.residue.specs.Residue.{figure}
 use Rattle.verify.specs.Verify.{scratchSize, verifyRule}

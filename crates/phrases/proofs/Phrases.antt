@@ -1,6 +1,5 @@
 -- A phrase is cut out of all phrases one after the other: it begins where those before it end.
 use mathlib.Core.Path.{_≡_, sym, ap, ap₂, _∙_}
-use mathlib.Core.Bool.{cond}
 use mathlib.Core.List.{List, [], _∷_, _++_}
 use Prim.Native.Nat.{ℕ, zero, suc, _+_, _-_, _≤_, _<_}
 use native.Mathlib.Decide.{decLt}
@@ -8,22 +7,22 @@ use native.Mathlib.Numerals.{add-one}
 use native.Mathlib.Omega.{arith}
 use lib.ListN.{length, getD, take, drop, length-append, length-take, length-drop, List·getD-append, List·getD-eq-default}
 use lib.Seq.{take-append-seam, drop-append-add}
-use Rattle.chain.specs.Written.{over}
+use Rattle.chain.specs.Written.{over, inARow}
 use Rattle.chain.proofs.Rules.{lt-yes, lt-no}
 use Rattle.decimal.proofs.Choices.{choosing}
 use Rattle.phrases.specs.Phrases.{noPhrase, phrases, firstFault, faultPhrases, phrase, lacks, phraseNumber, phraseWords, phraseText}
-use Rattle.phrases.specs.Inner.{allPhrases, joined, startOf, placeOf}
+use Rattle.phrases.specs.Inner.{allPhrases, startOf, placeOf}
 
 -- list n, cut out of all
 pub cut : (ls : List (List ℕ)) (n : ℕ) (d : List ℕ) → n < length ls
-    → take (startOf ls (suc n) - startOf ls n) (drop (startOf ls n) (joined ls)) ≡ getD ls n d
+    → take (startOf ls (suc n) - startOf ls n) (drop (startOf ls n) (inARow ls)) ≡ getD ls n d
 cut [] n d h = absurd (omega arith)
 cut (l ∷ r) zero d h =
     let all : length l + 0 - 0 ≡ length l = omega arith in
-    ap (λ (k : ℕ). take k (l ++ joined r)) all ∙ take-append-seam l (joined r)
+    ap (λ (k : ℕ). take k (l ++ inARow r)) all ∙ take-append-seam l (inARow r)
 cut (l ∷ r) (suc n) d h =
     let same : length l + startOf r (suc n) - (length l + startOf r n) ≡ startOf r (suc n) - startOf r n = omega arith in
-    ap₂ take same (drop-append-add l (joined r) (startOf r n)) ∙ cut r n d (omega arith)
+    ap₂ take same (drop-append-add l (inARow r) (startOf r n)) ∙ cut r n d (omega arith)
 
 -- each begins and ends within all of them
 pub starts-rise : (ls : List (List ℕ)) (n : ℕ) → n < length ls → startOf ls n ≤ startOf ls (suc n)
@@ -31,10 +30,10 @@ starts-rise [] n h = absurd (omega arith)
 starts-rise (l ∷ r) zero h = omega arith
 starts-rise (l ∷ r) (suc n) h = omega (arith, starts-rise r n (omega arith))
 
-pub starts-within : (ls : List (List ℕ)) (n : ℕ) → startOf ls n ≤ length (joined ls)
+pub starts-within : (ls : List (List ℕ)) (n : ℕ) → startOf ls n ≤ length (inARow ls)
 starts-within ls zero = omega arith
 starts-within [] (suc n) = omega arith
-starts-within (l ∷ r) (suc n) = omega (arith, length-append l (joined r), starts-within r n)
+starts-within (l ∷ r) (suc n) = omega (arith, length-append l (inARow r), starts-within r n)
 
 -- all starts as a list, the first one being k
 abbrev pub startsFrom : ℕ → List (List ℕ) → List ℕ
@@ -106,20 +105,20 @@ module _ (number : ℕ) where
 
   -- cut by the numbers that the code has
   module _ (n from end : ℕ) (is : n ≡ placeOf number) (begins : from ≡ startOf allPhrases n) (ends : end ≡ startOf allPhrases (n + 1)) where
-    pub phrase-cut : take (end - from) (drop from (joined allPhrases)) ≡ phrase number
+    pub phrase-cut : take (end - from) (drop from (inARow allPhrases)) ≡ phrase number
     phrase-cut = rw (begins, ends, is, add-one (placeOf number)) (cut allPhrases (placeOf number) noPhrase place-low) ∙ phrase-there
 
     pub phrase-rises : from ≤ end
     phrase-rises = rw (begins, ends, is, add-one (placeOf number)) (starts-rise allPhrases (placeOf number) place-low)
 
-    pub phrase-within : end ≤ length (joined allPhrases)
+    pub phrase-within : end ≤ length (inARow allPhrases)
     phrase-within = rw ends (starts-within allPhrases (n + 1))
 
     pub phrase-length : end - from ≡ length (phrase number)
     phrase-length =
         let rise = phrase-rises in
         let within = phrase-within in
-        rw (← phrase-cut) (omega (arith, length-take (end - from) (drop from (joined allPhrases)), length-drop from (joined allPhrases)))
+        rw (← phrase-cut) (omega (arith, length-take (end - from) (drop from (inARow allPhrases)), length-drop from (inARow allPhrases)))
 
 -- the phrase fits, or not: what is returned, told and written
 module _ (number : ℕ) (text : List ℕ) where

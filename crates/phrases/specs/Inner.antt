@@ -10,11 +10,7 @@ use Rattle.phrases.specs.Phrases.{phrases, firstFault, faultPhrases}
 abbrev pub allPhrases : List (List ℕ)
 allPhrases = phrases ++ faultPhrases
 
--- lists one after the other, and where list n begins
-abbrev pub joined : List (List ℕ) → List ℕ
-joined [] = []
-joined (l ∷ r) = l ++ joined r
-
+-- where list n begins, of lists one after the other
 abbrev pub startOf : List (List ℕ) → ℕ → ℕ
 startOf ls zero = 0
 startOf [] (suc n) = 0

@@ -78,6 +78,18 @@ phrase16 = 98 ∷ 97 ∷ 115 ∷ 101 ∷ 115 ∷ 32 ∷ 110 ∷ 111 ∷ 116 ∷ 
 abbrev phrase17 : List ℕ
 phrase17 = 99 ∷ 111 ∷ 108 ∷ 117 ∷ 109 ∷ 110 ∷ 32 ∷ 99 ∷ 111 ∷ 117 ∷ 110 ∷ 116 ∷ 115 ∷ 32 ∷ 100 ∷ 105 ∷ 102 ∷ 102 ∷ 101 ∷ 114 ∷ []
 
+-- "a digit above 9, or a sign that is not C, D or F"
+abbrev phrase18 : List ℕ
+phrase18 = 97 ∷ 32 ∷ 100 ∷ 105 ∷ 103 ∷ 105 ∷ 116 ∷ 32 ∷ 97 ∷ 98 ∷ 111 ∷ 118 ∷ 101 ∷ 32 ∷ 57 ∷ 44 ∷ 32 ∷ 111 ∷ 114 ∷ 32 ∷ 97 ∷ 32 ∷ 115 ∷ 105 ∷ 103 ∷ 110 ∷ 32 ∷ 116 ∷ 104 ∷ 97 ∷ 116 ∷ 32 ∷ 105 ∷ 115 ∷ 32 ∷ 110 ∷ 111 ∷ 116 ∷ 32 ∷ 67 ∷ 44 ∷ 32 ∷ 68 ∷ 32 ∷ 111 ∷ 114 ∷ 32 ∷ 70 ∷ []
+
+-- "sign D, minus"
+abbrev phrase19 : List ℕ
+phrase19 = 115 ∷ 105 ∷ 103 ∷ 110 ∷ 32 ∷ 68 ∷ 44 ∷ 32 ∷ 109 ∷ 105 ∷ 110 ∷ 117 ∷ 115 ∷ []
+
+-- "amount above 999,999,999"
+abbrev phrase20 : List ℕ
+phrase20 = 97 ∷ 109 ∷ 111 ∷ 117 ∷ 110 ∷ 116 ∷ 32 ∷ 97 ∷ 98 ∷ 111 ∷ 118 ∷ 101 ∷ 32 ∷ 57 ∷ 57 ∷ 57 ∷ 44 ∷ 57 ∷ 57 ∷ 57 ∷ 44 ∷ 57 ∷ 57 ∷ 57 ∷ []
+
 -- "neither a digit nor a separator"
 abbrev phrase101 : List ℕ
 phrase101 = 110 ∷ 101 ∷ 105 ∷ 116 ∷ 104 ∷ 101 ∷ 114 ∷ 32 ∷ 97 ∷ 32 ∷ 100 ∷ 105 ∷ 103 ∷ 105 ∷ 116 ∷ 32 ∷ 110 ∷ 111 ∷ 114 ∷ 32 ∷ 97 ∷ 32 ∷ 115 ∷ 101 ∷ 112 ∷ 97 ∷ 114 ∷ 97 ∷ 116 ∷ 111 ∷ 114 ∷ []
@@ -108,7 +120,7 @@ phrase107 = 110 ∷ 111 ∷ 32 ∷ 97 ∷ 109 ∷ 111 ∷ 117 ∷ 110 ∷ 116 �
 
 -- those of the specification's refusals by their numbers (Spec 10.1), 0 for none
 abbrev pub phrases : List (List ℕ)
-phrases = noPhrase ∷ phrase1 ∷ phrase2 ∷ phrase3 ∷ phrase4 ∷ phrase5 ∷ phrase6 ∷ phrase7 ∷ phrase8 ∷ phrase9 ∷ phrase10 ∷ phrase11 ∷ phrase12 ∷ phrase13 ∷ phrase14 ∷ phrase15 ∷ phrase16 ∷ phrase17 ∷ []
+phrases = noPhrase ∷ phrase1 ∷ phrase2 ∷ phrase3 ∷ phrase4 ∷ phrase5 ∷ phrase6 ∷ phrase7 ∷ phrase8 ∷ phrase9 ∷ phrase10 ∷ phrase11 ∷ phrase12 ∷ phrase13 ∷ phrase14 ∷ phrase15 ∷ phrase16 ∷ phrase17 ∷ phrase18 ∷ phrase19 ∷ phrase20 ∷ []
 
 -- those of a text's faults, whose numbers begin at firstFault
 abbrev pub firstFault : ℕ

@@ -12,10 +12,10 @@ pub record Samples : Type 0 where
   pub sign : phrase 106 ≡ 115 ∷ 105 ∷ 103 ∷ 110 ∷ []
   -- the last of each run is there, the numbers around the runs have none
   pub sixteenth : length (phrase 16) ≡ 41
-  pub last : length (phrase 17) ≡ 20
+  pub last : length (phrase 20) ≡ 24
   pub lastFault : length (phrase 107) ≡ 32
   pub zero : phrase 0 ≡ noPhrase
-  pub past : phrase 18 ≡ noPhrase
+  pub past : phrase 21 ≡ noPhrase
   pub below : phrase 100 ≡ noPhrase
   pub above : phrase 108 ≡ noPhrase
   -- a text that just holds a phrase, and one that is a byte too short

@@ -7,7 +7,7 @@ ghost use Rattle.phrases.specs.Phrases.{phraseNumber, phraseWords, phras
 ghost use Rattle.phrases.specs.Inner.{allPhrases, startOf, placeOf};
 
 // How many phrases the specification's refusals have, with one for a number that is none; the first number of a text's faults, and how many these are.
-const PHRASES: usize = 18;
+const PHRASES: usize = 21;
 
 const FIRST_FAULT: usize = 101;
 
@@ -34,13 +34,16 @@ const STARTS: [usize; PHRASES + FAULTS + 1] = [
     358,
     399,
     419,
-    450,
-    476,
-    513,
+    467,
+    480,
+    504,
+    535,
     561,
-    591,
-    595,
-    627,
+    598,
+    646,
+    676,
+    680,
+    712,
 ];
 
 // Where phrase n begins.
@@ -90,7 +93,7 @@ pub fn phrase(number: u32, text: &mut [u8], answer: &mut [u64; 4]) -> u32
         return 5;
     }
     put_part(
-        b"no such refusalp or q out of rangeamounts are not p times qmethod or parametermore than 16,000 stepsa lent slice too shortfile under 4 bytes, or not its stated lengtheditiona filling bit setoperand 0operand not below its own valuefirst operand smaller than secondoutput above the last valueexponent too largean output's exponents are not its payslipmodulus 0bases not p, or one not below the moduluscolumn counts differneither a digit nor a separatornumber above 4,294,967,295cut off: the last line has no newlinea line with more or fewer amounts than the firstdecimal point or grouping marksignno amount between two separators",
+        b"no such refusalp or q out of rangeamounts are not p times qmethod or parametermore than 16,000 stepsa lent slice too shortfile under 4 bytes, or not its stated lengtheditiona filling bit setoperand 0operand not below its own valuefirst operand smaller than secondoutput above the last valueexponent too largean output's exponents are not its payslipmodulus 0bases not p, or one not below the moduluscolumn counts differa digit above 9, or a sign that is not C, D or Fsign D, minusamount above 999,999,999neither a digit nor a separatornumber above 4,294,967,295cut off: the last line has no newlinea line with more or fewer amounts than the firstdecimal point or grouping marksignno amount between two separators",
         from,
         end,
         text,

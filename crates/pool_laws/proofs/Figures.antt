@@ -7,7 +7,7 @@ use lib.ListN.{length, getD}
 use Rattle.chain.specs.Verdict.{fine}
 use Rattle.chain.specs.Chain.{pick}
 use Rattle.chain.proofs.Values.{values-keep}
-use Rattle.chain.proofs.Outputs.{outputs-low}
+use Rattle.chain.proofs.Limits.{outputs-low}
 use Rattle.chain.proofs.Picked.{pick-same}
 use Rattle.residue.specs.Residue.{timesMod}
 use Rattle.run.specs.Run.{residues}

@@ -9,7 +9,7 @@ use Rattle.chain.specs.Chain.{Legal, stepsRule}
 use Rattle.chain.specs.declared.Step.{Step}
 use Rattle.chain.proofs.Rules.{then-fine, pass}
 use Rattle.chain.proofs.Steps.{step-legal, legal-step, steps-append}
-use Rattle.chain.proofs.Outputs.{outputs-low, low-outputs}
+use Rattle.chain.proofs.Limits.{outputs-low, low-outputs}
 use Rattle.chain.proofs.Legal.{parts-legal, parts-chain}
 use Rattle.pool.specs.Pool.{Part, renumberedStep, poolableRule, pooledSteps, pooledOutputs}
 use Rattle.pool.proofs.Poolable.{poolable}

@@ -11,7 +11,7 @@ use Rattle.chain.specs.Verdict.{fine, _then_}
 use Rattle.chain.specs.Chain.{stepsRule, outputsRule, exponentOf}
 use Rattle.chain.specs.declared.Step.{Step}
 use Rattle.chain.proofs.Exponents.{exponent-keep}
-use Rattle.chain.proofs.Outputs.{outputs-low}
+use Rattle.chain.proofs.Limits.{outputs-low}
 use Rattle.sheet.specs.Sheet.{amount}
 use Rattle.sheet.proofs.Amounts.{amount-there}
 use Rattle.verify.specs.Verify.{payslipsRule}

@@ -11,7 +11,7 @@ use Rattle.chain.specs.Written.{over}
 use Rattle.chain.specs.Chain.{Legal}
 use Rattle.chain.proofs.Rules.{renewed}
 use Rattle.chain.proofs.Legal.{legal-parts, chain-parts}
-use Rattle.chain.proofs.Outputs.{outputs-low}
+use Rattle.chain.proofs.Limits.{outputs-low}
 use Rattle.run.specs.Run.{runRule, runFigures}
 use Rattle.run.proofs.Runnable.{runnable, runs-fine}
 use Rattle.pool.specs.Pool.{Part, pooledSteps, pooledOutputs, poolableRule}

@@ -10,7 +10,7 @@ use Rattle.chain.specs.Written.{over}
 use Rattle.chain.specs.Chain.{mostColumns, mostSteps, pairs, flat, stepsRule, outputsRule}
 use Rattle.chain.proofs.Rules.{stop, judging, answer-refused, answer-done, kept, renewed}
 use Rattle.chain.proofs.Steps.{flat-low}
-use Rattle.chain.proofs.Outputs.{outputs-low}
+use Rattle.chain.proofs.Limits.{outputs-low}
 use Rattle.chain.proofs.Pairs.{length-pairs, take-flat, flat-append}
 use Rattle.pool.specs.Pool.{Part, part, renumbered, renumberedStep, pooledSteps, pooledOutputs, poolableRule, poolRule, poolAnswer, poolSteps, poolOutputs}
 use Rattle.pool.proofs.Numbers.{flat-renumbered}

@@ -9,7 +9,7 @@ use Rattle.chain.specs.Verdict.{Verdict, fine, _then_, refuseIf}
 use Rattle.chain.specs.Chain.{mostSteps, pairs, stepsRule, outputsRule, chainRule}
 use Rattle.chain.specs.declared.Step.{Step}
 use Rattle.chain.proofs.Rules.{then-assoc, then-fine, refuseIf-fine, not-lt}
-use Rattle.chain.proofs.Outputs.{outputs-low}
+use Rattle.chain.proofs.Limits.{outputs-low}
 use Rattle.chain.proofs.Pairs.{length-pairs}
 use Rattle.chain.proofs.Sizes.{Shape}
 use Rattle.rest.specs.Inner.{EndAsked, endRule, restRule}

@@ -12,6 +12,7 @@ ghost use Rattle.layout.specs.File.{writeAnswer, writeBytes, readAnswer, readSt
 ghost use Rattle.verify.specs.Verify.{verifyAnswer, verifyScratch};
 ghost use Rattle.run.specs.Run.{runAnswer, runValues, runFigures};
 ghost use Rattle.pool.specs.Pool.{part, poolAnswer, poolSteps, poolOutputs};
+ghost use Rattle.packed.specs.Packed.{unpackAnswer, unpackAmounts, packAnswer, packBytes};
 ghost use Rattle.choose.specs.Choose.{choice};
 ghost use Rattle.listing.specs.Listing.{listing};
 ghost use Rattle.path.specs.Path.{lent, pathAnswer, pathLeaves};
@@ -188,6 +189,40 @@ pub extern "C" fn spoutbasket_pool(
 {
     let pooled = pooler::pool(p1, steps1, outputs1, p2, steps2, outputs2, steps, outputs);
     tell_chain::tell_pooled(pooled, answer)
+}
+
+// A sheet of packed fields, read.
+#[no_mangle]
+pub extern "C" fn spoutbasket_unpack(
+    p: usize,
+    q: usize,
+    bytes: &[u8],
+    amounts: &mut [u32],
+    answer: &mut [u64; 4],
+) -> u32
+    ensures { λ r. ⌜ r ≡ numberOf (unpackAnswer p q (now (bytes .entry)) (length (now (amounts .entry)))) ⌝ }
+    ensures { λ r. ⌜ now (answer .exit) ≡ wordsOf (unpackAnswer p q (now (bytes .entry)) (length (now (amounts .entry)))) ⌝ }
+    ensures { λ r. ⌜ now (amounts .exit) ≡ unpackAmounts p q (now (bytes .entry)) (now (amounts .entry)) ⌝ }
+{
+    let transferred = unpacking::unpack(p, q, bytes, amounts);
+    tell_sender::tell_transferred(transferred, answer)
+}
+
+// A sheet written as packed fields.
+#[no_mangle]
+pub extern "C" fn spoutbasket_pack(
+    p: usize,
+    q: usize,
+    amounts: &[u32],
+    bytes: &mut [u8],
+    answer: &mut [u64; 4],
+) -> u32
+    ensures { λ r. ⌜ r ≡ numberOf (packAnswer p q (now (amounts .entry)) (length (now (bytes .entry)))) ⌝ }
+    ensures { λ r. ⌜ now (answer .exit) ≡ wordsOf (packAnswer p q (now (amounts .entry)) (length (now (bytes .entry)))) ⌝ }
+    ensures { λ r. ⌜ now (bytes .exit) ≡ packBytes p q (now (amounts .entry)) (now (bytes .entry)) ⌝ }
+{
+    let transferred = packing::pack(p, q, amounts, bytes);
+    tell_sender::tell_transferred(transferred, answer)
 }
 
 // The choice between two files: which of them is handed back. The scratch slices are left free in content.

@@ -1,8 +1,10 @@
-// How what the sheet's sender calls answers across the C interface: compile, write and the whole path.
-ghost use Rattle.answers.specs.Answers.{compiledOf, writtenOf, figuredOf};
+// How what the sheet's sender calls answers across the C interface: compile, write, the whole path, and the fields of
+// a sheet, read or written.
+ghost use Rattle.answers.specs.Answers.{compiledOf, writtenOf, figuredOf, transferredOf};
 ghost use Rattle.tell.specs.Inner.{ToldAs};
 use answers::Compiled;
 use answers::Figured;
+use answers::Transferred;
 use answers::Written;
 use tell::tell;
 
@@ -37,5 +39,15 @@ pub fn tell_figured(figured: Figured, answer: &mut [u64; 4]) -> u32
             read,
             made,
         } => tell(0, compiled, read, made, answer),
+    }
+}
+
+// What unpack or pack answered.
+pub fn tell_transferred(transferred: Transferred, answer: &mut [u64; 4]) -> u32
+    ensures { λ r. ⌜ ToldAs (transferredOf transferred) r (now (answer .exit)) ⌝ }
+{
+    match transferred {
+        Transferred::Refused(number, place) => tell(number, place, 0, 0, answer),
+        Transferred::Fields(n) => tell(0, n, 0, 0, answer),
     }
 }

@@ -13,7 +13,7 @@ use Rattle.chain.specs.declared.Step.{Step}
 use Rattle.chain.proofs.Rules.{eq-yes, eq-no}
 use Rattle.chain.proofs.Exponents.{length-exponents}
 use Rattle.chain.proofs.Written.{past-over}
-use Rattle.chain.proofs.Outputs.{outputs-low}
+use Rattle.chain.proofs.Limits.{outputs-low}
 use Rattle.verify.specs.Verify.{earlier, earliest, firstOver, firstOther, exponentsRule, payslipsRule}
 use Rattle.verify.specs.Inner.{stepsBefore, SummedUp, takenUp, foundIn}
 use Rattle.verify.specs.declared.Found.{Found}

@@ -11,7 +11,7 @@ use Rattle.chain.specs.Chain.{mostAmount, Legal, exponents, exponentOf}
 use Rattle.chain.specs.declared.Step.{Step}
 use Rattle.chain.proofs.Rules.{then-fine, refuseAt-fine, pass}
 use Rattle.chain.proofs.Exponents.{Makes, Within, length-exponents, exponent-zero, exponent-unit, exponent-other}
-use Rattle.chain.proofs.Outputs.{outputs-low}
+use Rattle.chain.proofs.Limits.{outputs-low}
 use Rattle.sheet.specs.Sheet.{amount}
 use Rattle.verify.specs.Verify.{firstOver, scratchSize, exponentsRule, payslipsRule, verifyRule}
 use Rattle.verify.proofs.Places.{earliest-none, none-earliest}

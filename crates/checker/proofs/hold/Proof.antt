@@ -5,7 +5,7 @@ use Prim.Native.Nat.{ℕ, _+_, _/_, _-_, _≤_}
 use native.Mathlib.Omega.{arith}
 use lib.ListN.{length, drop}
 use Rattle.chain.specs.Chain.{pairs}
-use Rattle.chain.proofs.Outputs.{outputs-low}
+use Rattle.chain.proofs.Limits.{outputs-low}
 use Rattle.chain.proofs.Pairs.{length-pairs}
 use Rattle.verify.proofs.Columns.{HeldTo, held-none, held-next, held-all, summed-past}
 use Rattle.checker.proofs.hold.Statement.{statement}

@@ -6,7 +6,7 @@ use native.Mathlib.Omega.{arith}
 use lib.ListN.{length}
 use Rattle.chain.specs.Chain.{pairs}
 use Rattle.chain.proofs.Rules.{not-fine}
-use Rattle.chain.proofs.Outputs.{outputs-low}
+use Rattle.chain.proofs.Limits.{outputs-low}
 use Rattle.chain.proofs.Pairs.{length-pairs}
 use Rattle.verify.specs.Verify.{earliest}
 use Rattle.verify.proofs.Places.{earliest-next}

@@ -3,10 +3,15 @@ use crate::args::{Form, Given};
 use crate::documents::{self, refused_both, refused_file, refused_keys, refused_sheet};
 use crate::input::Source;
 use crate::json;
-use crate::messages::{counted, say, Failure};
-use crate::output::{self, Target};
+use crate::kinds::kinds;
+use crate::messages::{counted, say, Failure, Refused};
+use crate::options::{
+    chain_target, keys_source, method, not_to_terminal, one_standard, sources, target,
+};
+use crate::output;
+use crate::packed::refused_field;
 use crate::wanted::Wanted;
-use spoutbasket::{choose as choose_file, Chain, Method, Run};
+use spoutbasket::{choose as choose_file, Chain, Run, Sheet};
 use std::ffi::OsString;
 
 /// A command: what it takes and what it does.
@@ -15,12 +20,12 @@ pub struct Command {
     act: fn(&Form, &Given) -> Result<(), Failure>,
 }
 
-pub const ALL: [Command; 7] = [
+pub const ALL: [Command; 9] = [
     Command {
         form: Form {
             name: "compile",
             flags: &["--best", "--table", "--verbose"],
-            valued: &["--method", "-o"],
+            valued: &["--method", "--packed", "-o"],
             files: (0, 1),
         },
         act: compile,
@@ -29,7 +34,7 @@ pub const ALL: [Command; 7] = [
         form: Form {
             name: "check",
             flags: &["--table", "--json"],
-            valued: &[],
+            valued: &["--packed"],
             files: (2, 3),
         },
         act: check,
@@ -38,7 +43,7 @@ pub const ALL: [Command; 7] = [
         form: Form {
             name: "choose",
             flags: &["--table", "--verbose"],
-            valued: &["-o"],
+            valued: &["--packed", "-o"],
             files: (3, 3),
         },
         act: choose,
@@ -74,10 +79,28 @@ pub const ALL: [Command; 7] = [
         form: Form {
             name: "figures",
             flags: &["--table", "--json"],
-            valued: &["--keys", "--method"],
+            valued: &["--keys", "--method", "--packed"],
             files: (0, 1),
         },
         act: figures,
+    },
+    Command {
+        form: Form {
+            name: "unpack",
+            flags: &["--verbose"],
+            valued: &["--packed", "-o"],
+            files: (0, 1),
+        },
+        act: unpack,
+    },
+    Command {
+        form: Form {
+            name: "pack",
+            flags: &["--table", "--verbose"],
+            valued: &["--packed", "-o"],
+            files: (0, 1),
+        },
+        act: pack,
     },
 ];
 
@@ -100,9 +123,10 @@ fn compile(form: &Form, given: &Given) -> Result<(), Failure> {
     if method.is_some() && given.has("--best") {
         return Err(form.wrong("--best and --method are two methods"));
     }
+    let [kind] = kinds(form, given)?;
     let source = Source::new(given.file(0));
-    let target = target(form, given, &[&source], "the sheet")?;
-    let sheet = documents::sheet(&source, given.has("--table"))?;
+    let target = chain_target(form, given, &[&source], "the sheet")?;
+    let sheet = documents::sheet(&source, kind)?;
     let made = match method {
         Some(method) => sheet.compile(method).map(|chain| (method, chain)),
         None => sheet.best(),
@@ -118,15 +142,15 @@ fn compile(form: &Form, given: &Given) -> Result<(), Failure> {
 }
 
 fn check(form: &Form, given: &Given) -> Result<(), Failure> {
-    let table = given.has("--table");
     let (wanted, chain) = match given.file(2) {
         None => {
             let [sheet, chain] = sources(form, given)?;
-            (Wanted::one(&sheet, table)?, chain)
+            let [kind] = kinds(form, given)?;
+            (Wanted::one(&sheet, kind)?, chain)
         }
         Some(_) => {
             let [first, second, chain] = sources(form, given)?;
-            (Wanted::two(&first, &second, table)?, chain)
+            (Wanted::two(&first, &second, kinds(form, given)?)?, chain)
         }
     };
     let chain = wanted.made_by(&chain, &chain.chain()?)?;
@@ -141,8 +165,9 @@ fn check(form: &Form, given: &Given) -> Result<(), Failure> {
 
 fn choose(form: &Form, given: &Given) -> Result<(), Failure> {
     let [sheet, first, second] = sources(form, given)?;
-    let target = target(form, given, &[&sheet], "the sheet")?;
-    let wanted = Wanted::one(&sheet, given.has("--table"))?;
+    let [kind] = kinds(form, given)?;
+    let target = chain_target(form, given, &[&sheet], "the sheet")?;
+    let wanted = Wanted::one(&sheet, kind)?;
     let (a, b) = (first.chain()?, second.chain()?);
     let taken =
         choose_file(&wanted.sheet, &a, &b).map_err(|refusal| wanted.unlike(&first, &a, refusal))?;
@@ -157,7 +182,7 @@ fn choose(form: &Form, given: &Given) -> Result<(), Failure> {
 
 fn pool(form: &Form, given: &Given) -> Result<(), Failure> {
     let [first, second] = sources(form, given)?;
-    let target = target(form, given, &[&first, &second], "a part")?;
+    let target = chain_target(form, given, &[&first, &second], "a part")?;
     let (a, b) = (first.chain()?, second.chain()?);
     let a = documents::chain(&first, &a)?;
     let b = documents::chain(&second, &b)?;
@@ -199,9 +224,10 @@ fn run(form: &Form, given: &Given) -> Result<(), Failure> {
 fn figures(form: &Form, given: &Given) -> Result<(), Failure> {
     let method = method(form, given)?;
     let (keys, source) = (keys_source(form, given)?, Source::new(given.file(0)));
+    let [kind] = kinds(form, given)?;
     one_standard(form, &[&keys, &source])?;
     let secret = documents::keys(&keys)?;
-    let sheet = documents::sheet(&source, given.has("--table"))?;
+    let sheet = documents::sheet(&source, kind)?;
     let refused = |refusal| refused_sheet(&source, method, refusal);
     let by = match method {
         Some(method) => method,
@@ -214,53 +240,37 @@ fn figures(form: &Form, given: &Given) -> Result<(), Failure> {
     print_run(given, vec![("method", json::string(&by.to_string()))], &run)
 }
 
-/// The method named, if one is.
-fn method(form: &Form, given: &Given) -> Result<Option<Method>, Failure> {
-    let Some(name) = given.value("--method") else {
-        return Ok(None);
-    };
-    match name.to_str().and_then(|name| name.parse().ok()) {
-        Some(method) => Ok(Some(method)),
-        None => Err(form.wrong("--method takes straus:K, yao:K or partition:C")),
+fn unpack(form: &Form, given: &Given) -> Result<(), Failure> {
+    if given.value("--packed").is_none() {
+        return Err(form.wrong("--packed P,Q wanted"));
     }
+    rewrite(form, given, |_, sheet| Ok(plain(sheet).into_bytes()))
 }
 
-/// The sources of all files, in their order.
-fn sources<const N: usize>(form: &Form, given: &Given) -> Result<[Source; N], Failure> {
-    let all: [Source; N] = std::array::from_fn(|place| Source::new(given.file(place)));
-    one_standard(form, &all.each_ref())?;
-    Ok(all)
+fn pack(form: &Form, given: &Given) -> Result<(), Failure> {
+    not_to_terminal(form, given, "packed fields are", "FIELDS")?;
+    rewrite(form, given, |source, sheet| {
+        let refused = |refusal| refused_field(source, sheet.columns(), refusal);
+        sheet.to_packed().map_err(refused)
+    })
 }
 
-/// Standard input can be read once.
-fn one_standard(form: &Form, sources: &[&Source]) -> Result<(), Failure> {
-    let standard = sources
-        .iter()
-        .filter(|source| ***source == Source::Standard);
-    match standard.count() {
-        0 | 1 => Ok(()),
-        _ => Err(form.wrong("standard input for two files")),
+/// Reads a sheet and writes it in another way.
+fn rewrite(
+    form: &Form,
+    given: &Given,
+    written: impl FnOnce(&Source, &Sheet) -> Result<Vec<u8>, Refused>,
+) -> Result<(), Failure> {
+    let [kind] = kinds(form, given)?;
+    let source = Source::new(given.file(0));
+    let target = target(form, given, &[&source], "the sheet")?;
+    let sheet = documents::sheet(&source, kind)?;
+    target.write(&written(&source, &sheet)?)?;
+    if given.has("--verbose") {
+        let sizes = in_words([sheet.columns(), sheet.payslips()]);
+        say(&format!("{}: {sizes}", source.name()));
     }
-}
-
-fn keys_source(form: &Form, given: &Given) -> Result<Source, Failure> {
-    match given.value("--keys") {
-        Some(name) => Ok(Source::new(Some(name))),
-        None => Err(form.wrong("--keys FILE wanted")),
-    }
-}
-
-/// Where a chain goes: not over what it is made of, and to a terminal only if that is asked for.
-fn target(form: &Form, given: &Given, of: &[&Source], what: &str) -> Result<Target, Failure> {
-    let name = given.value("-o");
-    if name.is_none() && output::to_terminal() {
-        return Err(form.wrong("a chain is no text for a terminal: give -o CHAIN"));
-    }
-    let target = Target::new(name);
-    if of.iter().any(|source| target.is(source)) {
-        return Err(form.wrong(&format!("-o names {what} itself")));
-    }
-    Ok(target)
+    Ok(())
 }
 
 /// A chain's columns, payslips and steps.
@@ -268,12 +278,24 @@ fn sizes(chain: &Chain) -> [usize; 3] {
     [chain.columns, chain.outputs.len(), chain.n()]
 }
 
-/// A chain's sizes in words.
-fn in_words([p, q, n]: [usize; 3]) -> String {
-    let sizes = [(p, "column"), (q, "payslip"), (n, "step")];
-    sizes
-        .map(|(number, thing)| counted(number, thing))
-        .join(", ")
+/// A sheet's columns and payslips in words, or a chain's with its steps.
+fn in_words<const N: usize>(sizes: [usize; N]) -> String {
+    let things = ["column", "payslip", "step"];
+    let sizes = sizes.iter().zip(things);
+    let words: Vec<String> = sizes
+        .map(|(&number, thing)| counted(number, thing))
+        .collect();
+    words.join(", ")
+}
+
+/// A sheet as plain numbers, a line a payslip.
+fn plain(sheet: &Sheet) -> String {
+    let mut text = format!("{} {}\n", sheet.columns(), sheet.payslips());
+    for payslip in sheet.rows() {
+        let amounts: Vec<String> = payslip.iter().map(u32::to_string).collect();
+        text += &(amounts.join(" ") + "\n");
+    }
+    text
 }
 
 /// A chain's sizes as JSON fields.

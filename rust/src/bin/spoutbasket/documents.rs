@@ -1,29 +1,46 @@
 //! Sheets, chains and keys out of what is read, each by the library; and in words why one is turned down.
 use crate::input::Source;
+use crate::kinds::Kind;
 use crate::messages::{counted, Failure, Refused};
+use crate::packed::{can_only_be_fields, can_only_be_text, refused_fields};
 use spoutbasket::{list, numbers, Chain, Keys, Listing, Method, Reason, Refusal};
 use spoutbasket::{Sheet, SheetError, TextFault, TextReason};
 use spoutbasket::{LONGEST_FILE, MOST_COLUMNS, MOST_PAYSLIPS, MOST_STEPS};
 
-/// The sheet of a table, or of the plain numbers p, q and the amounts.
-pub fn sheet(source: &Source, table: bool) -> Result<Sheet, Failure> {
-    let text = source.text()?;
-    let read = if table {
-        Sheet::from_table
-    } else {
-        Sheet::from_text
+/// The sheet of a file that is written in some way.
+pub fn sheet(source: &Source, kind: Kind) -> Result<Sheet, Failure> {
+    let bytes = source.whole()?;
+    let no_text = |error| no_sheet(source, &bytes, error);
+    let read = match kind {
+        Kind::Plain => Sheet::from_text(&bytes).map_err(no_text),
+        Kind::Table => Sheet::from_table(&bytes).map_err(no_text),
+        Kind::Packed(p, q) => Sheet::from_packed(p, q, &bytes)
+            .map_err(|refusal| refused_fields(source, p, q, bytes.len(), refusal)),
     };
+    Ok(read.map_err(|refused| mistaken(kind, &bytes, refused))?)
+}
+
+/// A file that is refused as a sheet, with what it is instead where that is plain.
+fn mistaken(kind: Kind, bytes: &[u8], refused: Refused) -> Refused {
     let like_a_table = |byte: &u8| matches!(byte, b',' | b';') || byte.is_ascii_alphabetic();
-    Ok(read(&text).map_err(|error| {
-        let refused = no_sheet(source, &text, error);
-        if Chain::from_file(&text).is_ok() {
+    match kind {
+        _ if Chain::from_file(bytes).is_ok() => {
             refused.and("the file is a chain, a sheet is wanted")
-        } else if !table && text.iter().any(like_a_table) {
-            refused.and("for a table, one payslip a line, give --table")
-        } else {
-            refused
         }
-    })?)
+        Kind::Packed(..) if can_only_be_text(bytes) => {
+            refused.and("the file is a text, packed fields are wanted")
+        }
+        Kind::Packed(..) => refused,
+        // a byte that is found in them is not told
+        _ if can_only_be_fields(bytes) => refused
+            .without_detail()
+            .and("for packed fields, five bytes an amount, give --packed P,Q"),
+        // no text has a byte 0
+        Kind::Plain if bytes.iter().any(like_a_table) && !bytes.contains(&0) => {
+            refused.and("for a table, one payslip a line, give --table")
+        }
+        _ => refused,
+    }
 }
 
 /// A text that cannot be read, or whose numbers are no sheet. Those of a table always are: p and q are counted.
@@ -51,7 +68,7 @@ fn misshapen(numbers: &[u32]) -> Option<String> {
 }
 
 /// A size that is out of range, if it is, in the words for a table's.
-fn size(found: usize, most: usize) -> Option<String> {
+pub fn size(found: usize, most: usize) -> Option<String> {
     let fault = TextFault {
         line: 1,
         column: 1,
@@ -64,7 +81,7 @@ fn size(found: usize, most: usize) -> Option<String> {
 
 /// A receiver's modulus and bases.
 pub fn keys(source: &Source) -> Result<Keys, Failure> {
-    let keys = Keys::from_text(&source.text()?);
+    let keys = Keys::from_text(&source.whole()?);
     Ok(keys.map_err(|fault| Refused::in_text(source.name(), &fault))?)
 }
 
@@ -115,6 +132,10 @@ pub fn listing(source: &Source, bytes: &[u8]) -> Result<Listing, Refused> {
 /// A file that is no chain's, or whose chain is refused.
 pub fn refused_file(source: &Source, bytes: &[u8], refusal: Refusal) -> Refused {
     let detail = match refusal.reason {
+        // their first half would be told for the edition
+        Reason::Length | Reason::Edition if can_only_be_fields(bytes) => {
+            Some("the file is packed fields, a chain is wanted".to_string())
+        }
         Reason::Length if bytes.len() > LONGEST_FILE => {
             Some(format!("over {LONGEST_FILE} bytes, the longest file"))
         }

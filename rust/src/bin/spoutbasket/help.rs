@@ -14,17 +14,19 @@ Commands:
   list     read the amounts back out of a chain
   run      make the control figures of a chain
   figures  make the control figures of a sheet: compile, write, read, check, run
+  unpack   make a plain sheet of packed fields
+  pack     make packed fields of a sheet
 
 A missing name, or -, is standard input or output. -- ends the options.
 Exit status: 0 done, 1 refused, 2 wrong use, 3 input or output failed.
 ";
 
 /// The commands' texts by name.
-pub const COMMANDS: [(&str, &str); 7] = [
+pub const COMMANDS: [(&str, &str); 9] = [
     (
         "compile",
         "\
-Usage: spoutbasket compile [--best | --method METHOD] [--table] [-o CHAIN] [-v] [SHEET]
+Usage: spoutbasket compile [--best | --method METHOD] [--table | --packed P,Q] [-o CHAIN] [-v] [SHEET]
 
 Makes a sheet's chain and writes its file.
 
@@ -32,6 +34,7 @@ Makes a sheet's chain and writes its file.
   --method METHOD  straus:K, K from 1 to 5 with p times K at most 10;
                    yao:K, K from 1 to 8; partition:C, C from 1 to 8
   --table          the sheet is a table, one payslip a line
+  --packed P,Q     the sheet is packed fields, of P columns and Q payslips
   -o CHAIN         the file to write, whole or not at all; else standard output
   -v, --verbose    say the method and the steps on standard error
 
@@ -41,14 +44,16 @@ Example: spoutbasket compile week.txt -o week.chain
     (
         "check",
         "\
-Usage: spoutbasket check [--table] [--json] SHEET [SHEET2] CHAIN
+Usage: spoutbasket check [--table | --packed P,Q[,Q2]] [--json] SHEET [SHEET2] CHAIN
 
 Holds a chain against a sheet, whoever made it: passed, or refused with status 1. With
 two sheets it is held against the payslips of the first and then of the second, as a
 pool has them.
 
-  --table  the sheet is a table, one payslip a line; of two sheets, each
-  --json   the result as one JSON object
+  --table            the sheet is a table, one payslip a line; of two sheets, each
+  --packed P,Q[,Q2]  the sheet is packed fields, of P columns and Q payslips; of two
+                     sheets, each, and Q2 has the payslips of the second
+  --json             the result as one JSON object
 
 Example: spoutbasket check week.txt week.chain
 ",
@@ -56,12 +61,13 @@ Example: spoutbasket check week.txt week.chain
     (
         "choose",
         "\
-Usage: spoutbasket choose [--table] [-o CHAIN] [-v] SHEET FIRST SECOND
+Usage: spoutbasket choose [--table | --packed P,Q] [-o CHAIN] [-v] SHEET FIRST SECOND
 
 Takes, of two chains, the one that makes the sheet; if both do, the one with fewer
 steps, the first where they have as many. Writes that file byte for byte.
 
   --table        the sheet is a table, one payslip a line
+  --packed P,Q   the sheet is packed fields, of P columns and Q payslips
   -o CHAIN       the file to write, whole or not at all; else standard output
   -v, --verbose  say which was taken on standard error
 
@@ -113,7 +119,7 @@ Example: spoutbasket run --keys bank.keys week.chain
     (
         "figures",
         "\
-Usage: spoutbasket figures --keys FILE [--method METHOD] [--table] [--json] [SHEET]
+Usage: spoutbasket figures --keys FILE [--method METHOD] [--table | --packed P,Q] [--json] [SHEET]
 
 Makes the control figures of a sheet: compiles it, writes the chain, reads it, checks
 what was read, and runs it.
@@ -121,9 +127,42 @@ what was read, and runs it.
   --keys FILE      the receiver's modulus, then its bases, one for each column
   --method METHOD  as for compile; else the one with the fewest steps
   --table          the sheet is a table, one payslip a line
+  --packed P,Q     the sheet is packed fields, of P columns and Q payslips
   --json           the result as one JSON object
 
 Example: spoutbasket figures --keys bank.keys week.txt
+",
+    ),
+    (
+        "unpack",
+        "\
+Usage: spoutbasket unpack --packed P,Q [-o SHEET] [-v] [FIELDS]
+
+Reads packed fields, as a ledger host holds amounts, and writes the plain sheet: P and
+Q, then a line for each payslip. A field is five bytes, which are nine decimal digits and
+the sign, a half-byte each: C for plus, F for unsigned. D, for minus, is refused.
+
+  --packed P,Q   the fields are of P columns and Q payslips, payslip by payslip
+  -o SHEET       the file to write, whole or not at all; else standard output
+  -v, --verbose  say the sheet's sizes on standard error
+
+Example: spoutbasket unpack --packed 3,4 week.packed -o week.txt
+",
+    ),
+    (
+        "pack",
+        "\
+Usage: spoutbasket pack [--table | --packed P,Q] [-o FIELDS] [-v] [SHEET]
+
+Writes a sheet as packed fields with sign C. Of packed fields it makes the same again,
+but for a sign F, which becomes C. An amount above 999,999,999 is refused.
+
+  --table        the sheet is a table, one payslip a line
+  --packed P,Q   the sheet is packed fields, of P columns and Q payslips
+  -o FIELDS      the file to write, whole or not at all; else standard output
+  -v, --verbose  say the sheet's sizes on standard error
+
+Example: spoutbasket pack week.txt -o week.packed
 ",
     ),
 ];

@@ -7,8 +7,8 @@ use std::io::{self, Read};
 use std::os::fd::AsFd;
 use std::path::PathBuf;
 
-/// The most bytes of a text. The largest sheet has a few thousand, so this only ends the reading of what is none.
-const LONGEST_TEXT: usize = 16 << 20;
+/// The most bytes of a sheet or of keys. The largest sheet has some thousands, so this only ends the reading of what is none.
+const MOST_BYTES: usize = 16 << 20;
 
 /// The names of standard input, which can be read once.
 const STANDARD: [&str; 4] = ["-", "/dev/stdin", "/dev/fd/0", "/proc/self/fd/0"];
@@ -39,10 +39,10 @@ impl Source {
         }
     }
 
-    /// A text, whole.
-    pub fn text(&self) -> Result<Vec<u8>, Failure> {
-        let bytes = self.bytes(LONGEST_TEXT + 1)?;
-        if bytes.len() > LONGEST_TEXT {
+    /// A sheet or keys, whole.
+    pub fn whole(&self) -> Result<Vec<u8>, Failure> {
+        let bytes = self.bytes(MOST_BYTES + 1)?;
+        if bytes.len() > MOST_BYTES {
             return Err(self.failed("longer than 16 MiB"));
         }
         Ok(bytes)

@@ -7,8 +7,11 @@ mod documents;
 mod help;
 mod input;
 mod json;
+mod kinds;
 mod messages;
+mod options;
 mod output;
+mod packed;
 mod wanted;
 
 use messages::Failure;

@@ -74,6 +74,12 @@ impl Refused {
         }
     }
 
+    /// Without what was found.
+    pub fn without_detail(self) -> Refused {
+        let detail = None;
+        Refused { detail, ..self }
+    }
+
     /// With some words more.
     pub fn and(mut self, more: &str) -> Refused {
         self.detail = Some(match self.detail {

@@ -1,4 +1,4 @@
-//! What is written: results on standard output, and chain files, which appear whole or not at all.
+//! What is written: results on standard output, and files, which appear whole or not at all.
 use crate::input::Source;
 use crate::messages::{shown, Failure};
 use std::collections::hash_map::RandomState;
@@ -13,7 +13,7 @@ use std::path::{Path, PathBuf};
 /// The names of standard output. Opened by one of the system's, a file would be written from its start and not from where standard output is.
 const STANDARD: [&str; 4] = ["-", "/dev/stdout", "/dev/fd/1", "/proc/self/fd/1"];
 
-/// Where a chain goes.
+/// Where a chain or a sheet goes.
 pub enum Target {
     Standard,
     File(PathBuf),
@@ -30,7 +30,7 @@ impl Target {
         }
     }
 
-    /// Writes a chain's file.
+    /// Writes the file.
     pub fn write(&self, bytes: &[u8]) -> Result<(), Failure> {
         match self {
             Target::Standard => print(bytes),

@@ -1,6 +1,7 @@
 //! What a chain is held against: a sheet, or two of which the first stands above the second; and in words where a chain differs from it.
 use crate::documents::{self, refused_both, refused_file};
 use crate::input::Source;
+use crate::kinds::Kind;
 use crate::messages::{counted, Failure, Refused};
 use spoutbasket::{choose, list, Chain, Listing, Reason, Refusal, Sheet};
 
@@ -13,15 +14,18 @@ pub struct Wanted {
 
 impl Wanted {
     /// One sheet.
-    pub fn one(source: &Source, table: bool) -> Result<Wanted, Failure> {
-        let sheet = documents::sheet(source, table)?;
+    pub fn one(source: &Source, kind: Kind) -> Result<Wanted, Failure> {
+        let sheet = documents::sheet(source, kind)?;
         let parts = vec![(source.name(), sheet.payslips())];
         Ok(Wanted { sheet, parts })
     }
 
     /// Two sheets, the first above the second.
-    pub fn two(first: &Source, second: &Source, table: bool) -> Result<Wanted, Failure> {
-        let (above, below) = (Wanted::one(first, table)?, Wanted::one(second, table)?);
+    pub fn two(first: &Source, second: &Source, kinds: [Kind; 2]) -> Result<Wanted, Failure> {
+        let (above, below) = (
+            Wanted::one(first, kinds[0])?,
+            Wanted::one(second, kinds[1])?,
+        );
         let sheet = above.sheet.above(&below.sheet).map_err(|refusal| {
             let sizes = |sheet: &Sheet| [sheet.columns(), sheet.payslips(), 0];
             let sizes = [sizes(&above.sheet), sizes(&below.sheet)];

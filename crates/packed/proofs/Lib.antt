@@ -1,0 +1,4 @@
+pub mod Field
+pub mod Judged
+pub mod Fields
+pub mod Given

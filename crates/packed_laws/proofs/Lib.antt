@@ -1,0 +1,10 @@
+pub mod Digits
+pub mod Found
+pub mod Accepted
+pub mod Rows
+pub mod Written
+pub mod Rewritten
+pub mod Read
+pub mod ReadBack
+pub mod WrittenBack
+pub mod Path

@@ -1,0 +1,4 @@
+pub mod Kinds
+pub mod Accepted
+pub mod Back
+pub mod Path

@@ -9,7 +9,7 @@ use lib.ListN.{length, getD}
 use Rattle.chain.specs.Tests.{_<?_, _=?_, _or_}
 use Rattle.chain.specs.Verdict.{Verdict, fine, refused, _then_, refuseIf}
 use Rattle.chain.proofs.Rules.{lt-yes, lt-no, eq-no, or-left, refuse-yes, stop}
-use Rattle.packed.specs.Field.{plus, minus, unsigned, digitsOf, signOf, anyAbove9, isSign, fieldRule}
+use Rattle.packed.specs.Field.{fieldBytes, plus, minus, unsigned, digitsOf, signOf, anyAbove9, isSign, fieldRule}
 use Rattle.packed.specs.Inner.{digitPair, pairsAt, signRule, fieldAt}
 use Rattle.packed.proofs.Field.{fiveAt, five-bytes}
 
@@ -70,8 +70,7 @@ module _ (a b c d e i : ℕ) where
   -- its digits, byte by byte
   by-bytes : anyAbove9 (digitsOf field) ≡ (above a or above b or above c or above d or 9 <? e / 16)
   unfolding digitsOf
-  by-bytes =
-      both _ _ _ _ (both _ _ _ _ (both _ _ _ _ (both _ _ _ _ (or-last (9 <? e / 16)))))
+  by-bytes = both _ _ _ _ (both _ _ _ _ (both _ _ _ _ (both _ _ _ _ (or-last (9 <? e / 16)))))
 
   pub pairs-bad : pairs < 4 → refused 18 i ≡ fieldRule i field
   unfolding fieldRule
@@ -113,7 +112,7 @@ module _ (i s : ℕ) where
   sign-none a b c = rw (eq-no s plus a, eq-no s minus b, eq-no s unsigned c)
 
 -- the same of the field from a byte on
-module _ (bytes : List ℕ) (at i : ℕ) (there : at + 5 ≤ length bytes) where
+module _ (bytes : List ℕ) (at i : ℕ) (there : at + fieldBytes ≤ length bytes) where
   is-field : (v : Verdict) → v ≡ fieldRule i (fiveAt bytes at) → v ≡ fieldRule i (fieldAt bytes at)
   is-field v e = e ∙ ap (fieldRule i) (sym (five-bytes bytes at there))
 

@@ -9,12 +9,12 @@ use lib.ListN.{length, getD, take, set}
 use lib.Seq.{length-take-le, take-all, take-suc}
 use Rattle.chain.specs.Written.{over, laid}
 use Rattle.chain.proofs.Written.{laid-laid, cell-laid, cell-after, over-laid, over-length, over-take}
-use Rattle.packed.specs.Field.{fieldBytes, mostPacked, fieldOf}
+use Rattle.packed.specs.Field.{fieldBytes, mostPacked, plus, fieldOf}
 use Rattle.packed.specs.Packed.{packed}
 use Rattle.packed.proofs.Fields.{length-packed, packed-more}
 use Rattle.packing.specs.Inner.{pairOf}
 
-pub five-stored : (l : List ℕ) (at a b c d e : ℕ) → at + 5 ≤ length l
+pub five-stored : (l : List ℕ) (at a b c d e : ℕ) → at + fieldBytes ≤ length l
     → set (set (set (set (set l at a) (at + 1) b) (at + 2) c) (at + 3) d) (at + 4) e ≡ laid at (a ∷ b ∷ c ∷ d ∷ e ∷ []) l
 five-stored l at a b c d e h =
     cell-after l _ (a ∷ b ∷ c ∷ d ∷ []) at e 4
@@ -48,7 +48,7 @@ fourth-pair y = omega arith
 -- an amount's field, its digits parted two by two
 pub field-parted : (x : ℕ) → x ≤ mostPacked
     → fieldOf x ≡
-    pairOf (x / 100000 / 100) ∷ pairOf (x / 100000 % 100) ∷ pairOf (x / 10 % 10000 / 100) ∷ pairOf (x / 10 % 10000 % 100) ∷ (x % 10 * 16 + 12) ∷ []
+    pairOf (x / 100000 / 100) ∷ pairOf (x / 100000 % 100) ∷ pairOf (x / 10 % 10000 / 100) ∷ pairOf (x / 10 % 10000 % 100) ∷ (x % 10 * 16 + plus) ∷ []
 unfolding fieldOf
 field-parted x h =
     let next : (y n m : ℕ) → y / n / m ≡ y / (n * m) = div-div-eq-div-mul in

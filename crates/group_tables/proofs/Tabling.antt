@@ -63,7 +63,7 @@ module _ {s : Grouping} {members old : List ℕ} {n : ℕ} (room : TablesRoom s 
           k-some = omega arith;
           k-low = omega arith;
           places-low = omega (arith, ap length own-is, group-small (s .c) g members few);
-          outputs-low = rw own-is (omega (arith, group-parts (s .c) g members few, st .count));
+          numbers-low = rw own-is (omega (arith, group-parts (s .c) g members few, st .count));
         }
 
 pub tables-end : (s : Grouping) (members : List ℕ) (start : List Step) {old cells : List ℕ} {end : ℕ} (g : ℕ)

@@ -5,8 +5,8 @@ use Prim.Native.Nat.{ℕ, suc, _+_, _*_, _/_, _≤_, _<_}
 use native.Mathlib.Omega.{arith}
 use lib.ListN.{length, getD, take, drop}
 use lib.Seq.{drop-cons}
-use Rattle.packed.specs.Field.{fieldBytes, digitsOf, amountOf}
-use Rattle.packed.specs.Inner.{saidBy, fieldAt}
+use Rattle.packed.specs.Field.{fieldBytes, digitsOf, amountOf, fieldFrom}
+use Rattle.packed.specs.Inner.{saidBy}
 
 -- the next of a list's cells
 one-more : (n at at′ : ℕ) (l : List ℕ) → at′ ≡ suc at → at < length l → take (suc n) (drop at l) ≡ getD l at 0 ∷ take n (drop at′ l)
@@ -16,7 +16,7 @@ one-more n at at′ l e h = ap (take (suc n)) (drop-cons l at 0 h) ∙ ap (λ (k
 abbrev pub fiveAt : List ℕ → ℕ → List ℕ
 fiveAt l at = getD l at 0 ∷ getD l (at + 1) 0 ∷ getD l (at + 2) 0 ∷ getD l (at + 3) 0 ∷ getD l (at + 4) 0 ∷ []
 
-pub five-bytes : (l : List ℕ) (at : ℕ) → at + fieldBytes ≤ length l → fieldAt l at ≡ fiveAt l at
+pub five-bytes : (l : List ℕ) (at : ℕ) → at + fieldBytes ≤ length l → fieldFrom l at ≡ fiveAt l at
 five-bytes l at h =
     one-more 4 at (at + 1) l (omega arith) (omega arith)
     ∙ ap (λ (r : List ℕ). getD l at 0 ∷ r)

@@ -5,15 +5,14 @@ use Prim.Native.Nat.{ℕ, zero, suc, _+_, _*_, _<_}
 use native.Mathlib.Omega.{arith}
 use lib.ListN.{length, getD, take, drop, length-append, length-map, List·getD-map}
 use lib.Seq.{drop-drop}
-use Rattle.packed.specs.Field.{fieldBytes, digitsOf, amountOf, fieldOf, fieldsIn}
+use Rattle.packed.specs.Field.{fieldBytes, digitsOf, amountOf, fieldOf, fieldFrom, fieldsIn}
 use Rattle.packed.specs.Packed.{packed}
-use Rattle.packed.specs.Inner.{fieldAt}
 
 pub length-fields : (m : ℕ) (bytes : List ℕ) → length (fieldsIn m bytes) ≡ m
 length-fields zero bytes = refl
 length-fields (suc m) bytes = ap suc (length-fields m (drop fieldBytes bytes))
 
-pub field-is : (m : ℕ) (bytes : List ℕ) (k : ℕ) → k < m → getD (fieldsIn m bytes) k [] ≡ fieldAt bytes (fieldBytes * k)
+pub field-is : (m : ℕ) (bytes : List ℕ) (k : ℕ) → k < m → getD (fieldsIn m bytes) k [] ≡ fieldFrom bytes (fieldBytes * k)
 field-is zero bytes k h = absurd (omega arith)
 field-is (suc m) bytes zero h = refl
 field-is (suc m) bytes (suc k) h =
@@ -25,7 +24,7 @@ field-is (suc m) bytes (suc k) h =
 pub length-amounts : (m : ℕ) (bytes : List ℕ) → length (map amountOf (fieldsIn m bytes)) ≡ m
 length-amounts m bytes = length-map (fieldsIn m bytes) amountOf ∙ length-fields m bytes
 
-pub amount-is : (m : ℕ) (bytes : List ℕ) (k : ℕ) → k < m → getD (map amountOf (fieldsIn m bytes)) k 0 ≡ amountOf (fieldAt bytes (fieldBytes * k))
+pub amount-is : (m : ℕ) (bytes : List ℕ) (k : ℕ) → k < m → getD (map amountOf (fieldsIn m bytes)) k 0 ≡ amountOf (fieldFrom bytes (fieldBytes * k))
 unfolding amountOf digitsOf
 amount-is m bytes k h = List·getD-map amountOf (fieldsIn m bytes) k [] ∙ ap amountOf (field-is m bytes k h)
 

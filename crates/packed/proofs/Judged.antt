@@ -9,8 +9,8 @@ use lib.ListN.{length, getD}
 use Rattle.chain.specs.Tests.{_<?_, _=?_, _or_}
 use Rattle.chain.specs.Verdict.{Verdict, fine, refused, _then_, refuseIf}
 use Rattle.chain.proofs.Rules.{lt-yes, lt-no, eq-no, or-left, refuse-yes, stop}
-use Rattle.packed.specs.Field.{fieldBytes, plus, minus, unsigned, digitsOf, signOf, anyAbove9, isSign, fieldRule}
-use Rattle.packed.specs.Inner.{digitPair, pairsAt, signRule, fieldAt}
+use Rattle.packed.specs.Field.{fieldBytes, plus, minus, unsigned, digitsOf, signOf, anyAbove9, isSign, fieldRule, fieldFrom}
+use Rattle.packed.specs.Inner.{digitPair, pairsAt, signRule}
 use Rattle.packed.proofs.Field.{fiveAt, five-bytes}
 
 -- one of a byte's halves is above 9
@@ -113,15 +113,15 @@ module _ (i s : ℕ) where
 
 -- the same of the field from a byte on
 module _ (bytes : List ℕ) (at i : ℕ) (there : at + fieldBytes ≤ length bytes) where
-  is-field : (v : Verdict) → v ≡ fieldRule i (fiveAt bytes at) → v ≡ fieldRule i (fieldAt bytes at)
+  is-field : (v : Verdict) → v ≡ fieldRule i (fiveAt bytes at) → v ≡ fieldRule i (fieldFrom bytes at)
   is-field v e = e ∙ ap (fieldRule i) (sym (five-bytes bytes at there))
 
-  pub pairs-refused : pairsAt bytes at < 4 → refused 18 i ≡ fieldRule i (fieldAt bytes at)
+  pub pairs-refused : pairsAt bytes at < 4 → refused 18 i ≡ fieldRule i (fieldFrom bytes at)
   pairs-refused h = is-field _ (pairs-bad _ _ _ _ _ i h)
 
   module _ (good : 4 ≤ pairsAt bytes at) where
-    pub last-refused : 160 ≤ getD bytes (at + 4) 0 → refused 18 i ≡ fieldRule i (fieldAt bytes at)
+    pub last-refused : 160 ≤ getD bytes (at + 4) 0 → refused 18 i ≡ fieldRule i (fieldFrom bytes at)
     last-refused h = is-field _ (last-bad _ _ _ _ _ i good h)
 
-    pub sign-judged : (v : Verdict) → v ≡ signRule i (getD bytes (at + 4) 0 % 16) → getD bytes (at + 4) 0 < 160 → v ≡ fieldRule i (fieldAt bytes at)
+    pub sign-judged : (v : Verdict) → v ≡ signRule i (getD bytes (at + 4) 0 % 16) → getD bytes (at + 4) 0 < 160 → v ≡ fieldRule i (fieldFrom bytes at)
     sign-judged v e h = is-field _ (e ∙ sign-decides _ _ _ _ _ i good h)

@@ -81,7 +81,10 @@ fieldRule i field =
 unfoldable pub writtenBack : List ℕ → List ℕ
 writtenBack field = joined (set (halves field) fieldDigits (cond (signOf field =? unsigned) plus (signOf field)))
 
--- Spec 7.5: the first m fields of bytes, one after the other
+-- Spec 7.5: the field that begins at a byte, counted from 0, and the first m fields of bytes, one after the other
+abbrev pub fieldFrom : List ℕ → ℕ → List ℕ
+fieldFrom bytes at = take fieldBytes (drop at bytes)
+
 abbrev pub fieldsIn : ℕ → List ℕ → List (List ℕ)
 fieldsIn zero bytes = []
 fieldsIn (suc m) bytes = take fieldBytes bytes ∷ fieldsIn m (drop fieldBytes bytes)

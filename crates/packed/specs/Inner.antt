@@ -2,10 +2,10 @@
 use mathlib.Core.Bool.{cond, not}
 use mathlib.Core.List.{List}
 use Prim.Native.Nat.{ℕ, _+_, _*_, _/_, _%_}
-use lib.ListN.{getD, take, drop}
+use lib.ListN.{getD}
 use Rattle.chain.specs.Tests.{_<?_, _=?_}
 use Rattle.chain.specs.Verdict.{Verdict, _then_, refuseIf}
-use Rattle.packed.specs.Field.{fieldBytes, minus, isSign}
+use Rattle.packed.specs.Field.{minus, isSign}
 
 -- 1 for a byte of two decimal digits, else 0
 unfoldable pub digitPair : ℕ → ℕ
@@ -19,10 +19,6 @@ pairsAt bytes at =
 -- what a byte's two halves say as digits
 abbrev pub saidBy : ℕ → ℕ
 saidBy b = b / 16 * 10 + b % 16
-
--- the field from a byte on
-abbrev pub fieldAt : List ℕ → ℕ → List ℕ
-fieldAt bytes at = take fieldBytes (drop at bytes)
 
 -- what is found of the sign of field i, where its digits are good
 unfoldable pub signRule : ℕ → ℕ → Verdict

@@ -4,8 +4,8 @@ ghost use Prim.Native.Nat.{_+_, _/_, _≤_};
 ghost use lib.ListN.{length};
 ghost use Rattle.chain.specs.Judgement.{verdictOf};
 ghost use Rattle.digits.specs.Inner.{Bounded};
-ghost use Rattle.packed.specs.Field.{fieldBytes, amountOf, fieldRule};
-ghost use Rattle.packed.specs.Inner.{digitPair, pairsAt, signRule, saidBy, fieldAt};
+ghost use Rattle.packed.specs.Field.{fieldBytes, amountOf, fieldRule, fieldFrom};
+ghost use Rattle.packed.specs.Inner.{digitPair, pairsAt, signRule, saidBy};
 use chain::Judgement;
 
 // How many bytes a field has (Spec 1.4).
@@ -49,7 +49,7 @@ fn judge_sign(sign: u8, i: usize) -> Judgement
 // Field i, which begins at a byte: 18, then 19.
 pub fn judge_field(bytes: &[u8], at: usize, i: usize) -> Judgement
     requires { ⌜ at + fieldBytes ≤ length (now bytes) ⌝ }
-    ensures { λ r. ⌜ verdictOf r ≡ fieldRule i (fieldAt (now (bytes .entry)) at) ⌝ }
+    ensures { λ r. ⌜ verdictOf r ≡ fieldRule i (fieldFrom (now (bytes .entry)) at) ⌝ }
 {
     if count_pairs(bytes, at) < 4 {
         return Judgement::Refused(18, i);
@@ -80,7 +80,7 @@ fn first_said_by(byte: u8) -> u32
 // time.
 pub fn amount_at(bytes: &[u8], at: usize) -> u32
     requires { ⌜ at + fieldBytes ≤ length (now bytes) ⌝ }
-    ensures { λ r. ⌜ r ≡ amountOf (fieldAt (now (bytes .entry)) at) ⌝ }
+    ensures { λ r. ⌜ r ≡ amountOf (fieldFrom (now (bytes .entry)) at) ⌝ }
 {
     said_by(bytes[at + 3]) * 10
         + said_by(bytes[at + 2]) * 1000

@@ -8,9 +8,8 @@ use lib.ListN.{length, getD}
 use Rattle.chain.specs.Verdict.{Verdict, fine, refused, inOrder}
 use Rattle.chain.proofs.Rules.{then-fine, pass, stop, refuse-no, lt-no, ne-no}
 use Rattle.chain.proofs.InOrder.{each-fine, fine-each, first-refused}
-use Rattle.packed.specs.Field.{fieldBytes, fieldRule, fieldsIn}
+use Rattle.packed.specs.Field.{fieldBytes, fieldRule, fieldFrom, fieldsIn}
 use Rattle.packed.specs.Packed.{readableRule, unpackRule}
-use Rattle.packed.specs.Inner.{fieldAt}
 use Rattle.packed.proofs.Fields.{length-fields, field-is}
 use Rattle.packed.proofs.Given.{readable}
 use Rattle.packed_laws.specs.Kinds.{Sayable}
@@ -22,7 +21,7 @@ module _ (p q : ℕ) (bytes : List ℕ) where
   fields = fieldsIn (p * q) bytes
 
   abbrev field : ℕ → List ℕ
-  field k = fieldAt bytes (fieldBytes * k)
+  field k = fieldFrom bytes (fieldBytes * k)
 
   one-of : (k : ℕ) → k < p * q → k < length fields
   one-of k h = omega (arith, length-fields (p * q) bytes)

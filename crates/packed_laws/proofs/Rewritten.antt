@@ -10,8 +10,7 @@ use lib.ListN.{length, getD, set}
 use lib.Seq.{getD-set-same, getD-set-other}
 use Rattle.chain.specs.Tests.{_=?_}
 use Rattle.chain.proofs.Rules.{eq-yes, eq-no}
-use Rattle.packed.specs.Field.{fieldBytes, mostPacked, plus, unsigned, joined, digitsOf, signOf, amountOf, fieldOf, writtenBack}
-use Rattle.packed.specs.Inner.{fieldAt}
+use Rattle.packed.specs.Field.{fieldBytes, mostPacked, plus, unsigned, joined, digitsOf, signOf, amountOf, fieldOf, writtenBack, fieldFrom}
 use Rattle.packed.proofs.Field.{five-bytes}
 use Rattle.packed_laws.specs.Kinds.{Sayable}
 use Rattle.packed_laws.proofs.Digits.{field-low, said-low, last-said}
@@ -56,7 +55,7 @@ module _ (a b c d e : ℕ) where
 
 module _ (bytes : List ℕ) (at : ℕ) (there : at + fieldBytes ≤ length bytes) where
   abbrev field : List ℕ
-  field = fieldAt bytes at
+  field = fieldFrom bytes at
 
   pub written-anew : Sayable field → fieldOf (amountOf field) ≡ writtenBack field
   written-anew = rw (five-bytes bytes at there) (anew-five _ _ _ _ _)

@@ -5,9 +5,8 @@ use Prim.Native.Nat.{ℕ, zero, suc, _+_, _*_, _<_}
 use native.Mathlib.Omega.{arith}
 use lib.ListN.{length, getD, take, drop}
 use lib.Seq.{getD-take, getD-drop, take-at, drop-append-add}
-use Rattle.packed.specs.Field.{fieldBytes, fieldOf}
+use Rattle.packed.specs.Field.{fieldBytes, fieldOf, fieldFrom}
 use Rattle.packed.specs.Packed.{packed}
-use Rattle.packed.specs.Inner.{fieldAt}
 use Rattle.packed.proofs.Fields.{length-field}
 
 -- functions that agree on a list's members
@@ -16,10 +15,10 @@ map-same f g d [] same = refl
 map-same f g d (x ∷ l) same = ap₂ _∷_ (same 0 (omega arith)) (map-same f g d l (λ k h. same (suc k) (omega arith)))
 
 -- a field's bytes
-pub field-byte : (bytes : List ℕ) (at j : ℕ) → j < fieldBytes → getD (fieldAt bytes at) j 0 ≡ getD bytes (at + j) 0
+pub field-byte : (bytes : List ℕ) (at j : ℕ) → j < fieldBytes → getD (fieldFrom bytes at) j 0 ≡ getD bytes (at + j) 0
 field-byte bytes at j h = getD-take fieldBytes (drop at bytes) j 0 h ∙ getD-drop at bytes j 0
 
-pub packed-field : (amounts : List ℕ) (k : ℕ) → k < length amounts → fieldAt (packed amounts) (fieldBytes * k) ≡ fieldOf (getD amounts k 0)
+pub packed-field : (amounts : List ℕ) (k : ℕ) → k < length amounts → fieldFrom (packed amounts) (fieldBytes * k) ≡ fieldOf (getD amounts k 0)
 packed-field [] k h = absurd (omega arith)
 packed-field (a ∷ r) zero h = take-at (fieldOf a) (packed r) fieldBytes (length-field a)
 packed-field (a ∷ r) (suc k) h =

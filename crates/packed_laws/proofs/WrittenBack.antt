@@ -8,9 +8,8 @@ use Rattle.chain.specs.Verdict.{fine}
 use Rattle.chain.specs.Written.{over, inARow}
 use Rattle.chain.proofs.Rules.{pass, answer-done, renewed, refuse-no, lt-no}
 use Rattle.chain.proofs.Limits.{low-numbers}
-use Rattle.packed.specs.Field.{fieldBytes, mostPacked, amountOf, fieldOf, writtenBack, fieldsIn}
+use Rattle.packed.specs.Field.{fieldBytes, mostPacked, amountOf, fieldOf, writtenBack, fieldFrom, fieldsIn}
 use Rattle.packed.specs.Packed.{unpacked, packed, unpackRule, writableRule, packRule, packAnswer, packBytes}
-use Rattle.packed.specs.Inner.{fieldAt}
 use Rattle.packed.proofs.Fields.{length-fields, field-is, length-amounts, amount-is, length-packed}
 use Rattle.packed_laws.specs.Accepted.{Saying}
 use Rattle.packed_laws.specs.Back.{amountsRead, WrittenBack}
@@ -29,7 +28,7 @@ module _ (p q : ℕ) (bytes : List ℕ) (s : Saying p q bytes (p * q)) where
   abbrev at : ℕ → ℕ
   at k = fieldBytes * k
 
-  anew : (k : ℕ) → k < p * q → fieldOf (amountOf (fieldAt bytes (at k))) ≡ writtenBack (fieldAt bytes (at k))
+  anew : (k : ℕ) → k < p * q → fieldOf (amountOf (fieldFrom bytes (at k))) ≡ writtenBack (fieldFrom bytes (at k))
   anew k h = written-anew bytes (at k) (field-there p q bytes s k h) (s .fields k h)
 
   packed-unpacked : packed amounts ≡ inARow (map writtenBack fields)
@@ -41,7 +40,7 @@ module _ (p q : ℕ) (bytes : List ℕ) (s : Saying p q bytes (p * q)) where
           rw (field-is (p * q) bytes k inside) (anew k inside)
 
   -- byte j of field k
-  byte-anew : (k j : ℕ) → k < p * q → j < fieldBytes → getD (packed amounts) (at k + j) 0 ≡ getD (writtenBack (fieldAt bytes (at k))) j 0
+  byte-anew : (k j : ℕ) → k < p * q → j < fieldBytes → getD (packed amounts) (at k + j) 0 ≡ getD (writtenBack (fieldFrom bytes (at k))) j 0
   byte-anew k j h g =
       sym (field-byte (packed amounts) (at k) j g)
       ∙ ap (λ (f : List ℕ). getD f j 0)

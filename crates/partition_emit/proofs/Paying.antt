@@ -83,7 +83,7 @@ module _ {s : Grouping} {amounts bits members cells : List ℕ} (ready : Ready s
         ∙ ap₂ (λ (m : List ℕ) (g : ℕ). parts (s .p) (s .c) m squares own before g) (ready .members-are) (grouped-count (ready .grouped))
 
     pub payslip-numbered : length numbers ≡ s .groups → Numbered s members numbers
-    payslip-numbered long = record { cuts = ready .grouped .cuts; members-long = members-long; numbers-long = long; outputs-low = low }
+    payslip-numbered long = record { cuts = ready .grouped .cuts; members-long = members-long; numbers-long = long; numbers-low = low }
       where
         low : (g : ℕ) → g < s .groups → getD numbers g 0 < 2 ^ (1 * length (group (s .c) g members))
         low g h =

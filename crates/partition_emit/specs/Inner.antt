@@ -26,7 +26,7 @@ pub record Numbered (s : Grouping) (members numbers : List ℕ) : Type 0 where
   pub cuts : Cuts s
   pub members-long : length members ≡ s .inputs
   pub numbers-long : length numbers ≡ s .groups
-  pub outputs-low : (g : ℕ) → g < s .groups → countsOf numbers g < 2 ^ (1 * length (group (s .c) g members))
+  pub numbers-low : (g : ℕ) → g < s .groups → countsOf numbers g < 2 ^ (1 * length (group (s .c) g members))
 
 -- a grouped sheet, its inputs' value numbers, and a cell for each part of a payslip
 pub record Ready (s : Grouping) (amounts bits members cells : List ℕ) : Type 0 where

@@ -31,7 +31,7 @@ module _ {p q : ℕ} {amounts : List ℕ} {k : ℕ} {inputs : List ℕ} (asked :
         k-some = ranges .k-some;
         k-low = omega (arith, ranges .k-low);
         places-low = omega (arith, size-low);
-        outputs-low = omega (arith, ranges .sheet .p-low);
+        numbers-low = omega (arith, ranges .sheet .p-low);
       }
 
   -- the table as it is emitted, before any other step

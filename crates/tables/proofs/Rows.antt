@@ -73,7 +73,7 @@ module _ {k : ℕ} {inputs : List ℕ} {at d : ℕ} (asked : RowAsked k inputs a
       omega (arith, mul-le-mul-left k le, next-fits)
 
   pub unit-fits : (u : ℕ) → u ≡ 2 ^ (k * d) → u + 1 < 2 ^ 32
-  unit-fits u e = omega (arith, asked .outputs-low, asked .at-some, weights-rise k (asked .k-some) d (length inputs) (asked .inside))
+  unit-fits u e = omega (arith, asked .numbers-low, asked .at-some, weights-rise k (asked .k-some) d (length inputs) (asked .inside))
 
 -- a number of digits is below the first number that has more
 below-unit : (k d : ℕ) → 0 < k → d + 1 ≤ 2 ^ (k * d)

@@ -34,14 +34,14 @@ pub record RowAsked (k : ℕ) (inputs : List ℕ) (at d : ℕ) : Type 0 where
   pub at-some : 0 < at
   pub inside : d < length inputs
   pub places-low : k * length inputs < 32
-  pub outputs-low : at + 2 ^ (k * length inputs) ≤ 2 ^ 32
+  pub numbers-low : at + 2 ^ (k * length inputs) ≤ 2 ^ 32
 
 -- a table over these inputs after n steps, and that its numbers fit
 pub record TableAsked (p k : ℕ) (inputs : List ℕ) (n : ℕ) : Type 0 where
   pub k-some : 0 < k
   pub k-low : k < 32
   pub places-low : k * length inputs < 32
-  pub outputs-low : p + n + 2 ^ (k * length inputs) < 2 ^ 32
+  pub numbers-low : p + n + 2 ^ (k * length inputs) < 2 ^ 32
 
 -- wherever a table is stored up to entry t in cells, with s steps in all, it is stored up to entry t′ in cells′, with s′ steps
 pub record Longer (k : ℕ) (inputs : List ℕ) (at : ℕ) (cells : List ℕ) (s t : ℕ) (cells′ : List ℕ) (s′ t′ : ℕ) : Type 0 where

@@ -10,8 +10,7 @@ use Rattle.chain.specs.declared.Judgement.{Judgement}
 use Rattle.chain.specs.declared.Judgement.the-variants.{Fine, Refused}
 use Rattle.chain.proofs.Rules.{told-refused, told-fine}
 use Rattle.chain.proofs.InOrder.{left, judge-start, judge-on, judge-bad, judge-end}
-use Rattle.packed.specs.Field.{fieldBytes, fieldRule, fieldsIn}
-use Rattle.packed.specs.Inner.{fieldAt}
+use Rattle.packed.specs.Field.{fieldBytes, fieldRule, fieldFrom, fieldsIn}
 use Rattle.packed.proofs.Fields.{length-fields, field-is}
 
 -- the loop's invariant: the verdict on all fields is that on those after the first i
@@ -27,11 +26,11 @@ module _ (bytes : List ℕ) (m : ℕ) where
   fields-end i h inv = judge-end fieldRule (fieldsIn m bytes) i _ (omega (arith, length-fields m bytes)) (inv .rest)
 
   -- the field at hand, as it was judged
-  module _ (i : ℕ) (j : Judgement) (h : i < m) (judged : verdictOf j ≡ fieldRule (i + 1) (fieldAt bytes (fieldBytes * i))) (inv : FieldsLeft bytes m i) where
+  module _ (i : ℕ) (j : Judgement) (h : i < m) (judged : verdictOf j ≡ fieldRule (i + 1) (fieldFrom bytes (fieldBytes * i))) (inv : FieldsLeft bytes m i) where
     within : i < length (fieldsIn m bytes)
     within = omega (arith, length-fields m bytes)
 
-    of-list : fieldRule (i + 1) (fieldAt bytes (fieldBytes * i)) ≡ fieldRule (i + 1) (getD (fieldsIn m bytes) i [])
+    of-list : fieldRule (i + 1) (fieldFrom bytes (fieldBytes * i)) ≡ fieldRule (i + 1) (getD (fieldsIn m bytes) i [])
     of-list = ap (fieldRule (i + 1)) (sym (field-is m bytes i h))
 
     pub fields-on : j ≡ Fine → FieldsLeft bytes m (i + 1)

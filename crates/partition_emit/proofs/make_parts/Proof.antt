@@ -39,7 +39,7 @@ part-value-requires : tie.Need-part-value-requires Inv-loop μ-loop
 part-value-requires c κs =
     let start = c .before .before .before in
     let pre = start .before .before .before .before .pre .asked in
-    record { cuts = pre .cuts; long = pre .members-long; inside = search needs; part = pre .outputs-low (start .loop .g) (search needs) }
+    record { cuts = pre .cuts; long = pre .members-long; inside = search needs; part = pre .numbers-low (start .loop .g) (search needs) }
 
 times-requires : tie.Need-times-requires Inv-loop μ-loop
 times-requires c κs =

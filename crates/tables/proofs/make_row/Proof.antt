@@ -67,7 +67,7 @@ put-entry-requires c κs =
               k-some = asked .k-some;
               k-low = asked .k-low;
               at-some = asked .at-some;
-              number-low = omega (arith, r .inside, asked .outputs-low);
+              number-low = omega (arith, r .inside, asked .numbers-low);
               inside = r .inside;
             };
         t-some = r .some;

@@ -4,6 +4,8 @@ use Prim.Native.Nat.{ℕ}
 use Rattle.chain.specs.Verdict.{Answer, done, refusal}
 use Rattle.answers.specs.declared.Compiled.{Compiled}
 use Rattle.answers.specs.declared.Compiled.the-variants as compiled
+use Rattle.answers.specs.declared.Measured.{Measured}
+use Rattle.answers.specs.declared.Measured.the-variants as measured
 use Rattle.answers.specs.declared.Written.{Written}
 use Rattle.answers.specs.declared.Written.the-variants as written
 use Rattle.answers.specs.declared.Reading.{Reading}
@@ -25,6 +27,11 @@ use Rattle.answers.specs.declared.Figured.the-variants as figured
 abbrev pub compiledOf : Compiled → Answer
 compiledOf (compiled.Steps n) = done (n ∷ [])
 compiledOf (compiled.Refused number place) = refusal number place
+
+-- extent: W and the number of bytes
+abbrev pub measuredOf : Measured → Answer
+measuredOf (measured.File width bytes) = done (width ∷ bytes ∷ [])
+measuredOf (measured.Refused number place) = refusal number place
 
 -- write: the number of bytes
 abbrev pub writtenOf : Written → Answer

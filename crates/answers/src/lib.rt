@@ -6,6 +6,12 @@ pub enum Compiled {
     Refused(u32, usize),
 }
 
+// The extent: how many bits a number of the file has, and the bytes of the file.
+pub enum Measured {
+    File { width: usize, bytes: usize },
+    Refused(u32, usize),
+}
+
 // Write: the bytes of the file.
 pub enum Written {
     Bytes(usize),

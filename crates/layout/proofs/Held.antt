@@ -4,7 +4,7 @@ use mathlib.Core.List.{List}
 use Prim.Native.Nat.{ℕ, _≤_}
 use lib.ListN.{length}
 use Rattle.chain.specs.Verdict.{fine}
-use Rattle.chain.specs.Chain.{chainRule}
+use Rattle.chain.specs.Chain.{shapeRule, chainRule}
 use Rattle.chain.specs.declared.Step.{Step}
 use Rattle.chain.proofs.Rules.{then-fine, pass}
 use Rattle.chain.proofs.Sizes.{Sizes, shape-fits, fits-shape}
@@ -16,6 +16,12 @@ pub record HeldChain (L : Layout) (p : ℕ) (steps : List Step) (outputs : List 
   pub sizes : Sizes p (length outputs)
   pub few : length steps ≤ L .limit
   pub chain : chainRule p steps outputs ≡ fine
+
+-- sizes that the shape's rule lets through
+pub shape-sized : (L : Layout) (p q n : ℕ) → shapeRule (L .limit) p q n ≡ fine → Sized L p q n
+shape-sized L p q n ok =
+    let s = shape-fits (L .limit) p q n ok in
+    record { p-some = s .sizes .p-some; p-low = s .sizes .p-low; q-low = s .sizes .q-low; n-low = s .few }
 
 module _ (L : Layout) (p : ℕ) (steps : List Step) (outputs : List ℕ) where
   pub held-parts : Held L p steps outputs → HeldChain L p steps outputs

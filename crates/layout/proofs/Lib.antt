@@ -5,4 +5,5 @@ pub mod Numbers
 pub mod Readable
 pub mod ReadingBack
 pub mod OneFile
+pub mod Widths
 pub mod Lent

@@ -55,6 +55,10 @@ module _ (L : Layout) where
   abbrev pub byteCount : ℕ → ℕ → ℕ → ℕ
   byteCount p q n = bytesFor (bitCount p q n)
 
+  -- Spec 7.6, 10.2, 10.6: the extent of a file, told from its sizes: 1, 4 by the edition's limit; W and the number of bytes
+  unfoldable pub extentAnswer : ℕ → ℕ → ℕ → Answer
+  extentAnswer p q n = answer (shapeRule (L .limit) p q n) (width p n ∷ byteCount p q n ∷ [])
+
   -- Spec 5.5: the chain's one file
   unfoldable pub fileOf : ℕ → List Step → List ℕ → List ℕ
   fileOf p steps outputs = pack (byteCount p (length outputs) (length steps)) (fileBits p steps outputs)

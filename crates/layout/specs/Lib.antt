@@ -1,3 +1,4 @@
 pub mod Layout
 pub mod File
+pub mod Widths
 pub mod Inner

@@ -55,7 +55,7 @@ pub fn extent_of(layout: Layout, p: usize, q: usize, n: usize) -> Extent
     requires { ⌜ LayoutHolds layout p q n ⌝ }
     ensures { λ r. ⌜ r ≡ extentOf layout p q n ⌝ }
 {
-    let width = width::bit_length(p + n);
+    let width = width::by_cases(p + n);
     let start = SIZES_BITS + layout.bits;
     Extent {
         p: p,

@@ -11,10 +11,12 @@ use Rattle.chain.proofs.Legal.{legal-parts, parts-legal}
 use Rattle.bits.proofs.Pack.{Bytes}
 use Rattle.layout.specs.Layout.{edition1}
 use Rattle.layout.specs.File.{fileOf, byteCount, longestFile, columnsOf, stepsOf, outputsOf, Held, readRule}
+use Rattle.layout.specs.Widths.{WidthsByCases}
 use Rattle.layout.proofs.Editions.{edition1-sound}
 use Rattle.layout.proofs.Held.{held-parts, parts-held}
 use Rattle.layout.proofs.ReadingBack.{ReadBack, Same, reading-gives, reading-back, file-low, one-chain}
 use Rattle.layout.proofs.OneFile.{reading-is-a-file, others-refused}
+use Rattle.layout.proofs.Widths.{widths-by-cases}
 
 -- the two limits: the one place where they are held against each other
 chain-within : mostSteps ≤ edition1 .limit
@@ -51,6 +53,10 @@ module _ (p : ℕ) (steps : List Step) (outputs : List ℕ) (legal : Legal p ste
 
   pub legal-low : byteCount edition1 p (length outputs) (length steps) ≤ longestFile
   legal-low = file-low edition1 edition1-sound p steps outputs (legal-held p steps outputs legal)
+
+  -- and in it every width is found by cases and is the bit length of p + n (Req 03)
+  pub legal-widths : WidthsByCases edition1 p steps outputs (fileOf edition1 p steps outputs)
+  legal-widths = widths-by-cases edition1 edition1-sound p steps outputs (legal-held p steps outputs legal)
 
 -- "and every other string of bytes is refused"
 module _ (bytes : List ℕ) (ok : Bytes bytes) (pairsLent outputsLent : ℕ) where

@@ -8,7 +8,7 @@ ghost use Rattle.chain.specs.Chain.{pairs};
 ghost use Rattle.chain.specs.Written.{over};
 ghost use Rattle.compile.specs.Compile.{compileAnswer, compileSteps, compileOutputs};
 ghost use Rattle.layout.specs.Layout.{edition1};
-ghost use Rattle.layout.specs.File.{writeAnswer, writeBytes, readAnswer, readSteps, readOutputs};
+ghost use Rattle.layout.specs.File.{extentAnswer, writeAnswer, writeBytes, readAnswer, readSteps, readOutputs};
 ghost use Rattle.verify.specs.Verify.{verifyAnswer, verifyScratch};
 ghost use Rattle.run.specs.Run.{runAnswer, runValues, runFigures};
 ghost use Rattle.pool.specs.Pool.{part, poolAnswer, poolSteps, poolOutputs};
@@ -39,6 +39,16 @@ pub extern "C" fn spoutbasket_compile(
 {
     let compiled = compile::compile(p, q, amounts, method, k, steps, outputs);
     tell_sender::tell_compiled(compiled, answer)
+}
+
+// The width of a file's numbers and its bytes, from the sizes of its chain.
+#[no_mangle]
+pub extern "C" fn spoutbasket_extent(p: usize, q: usize, n: usize, answer: &mut [u64; 4]) -> u32
+    ensures { λ r. ⌜ r ≡ numberOf (extentAnswer edition1 p q n) ⌝ }
+    ensures { λ r. ⌜ now (answer .exit) ≡ wordsOf (extentAnswer edition1 p q n) ⌝ }
+{
+    let measured = extent::extent(p, q, n);
+    tell_files::tell_measured(measured, answer)
 }
 
 // The file of a chain, written.

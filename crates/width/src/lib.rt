@@ -1,14 +1,12 @@
-// How wide a field is: the bit length of the largest number in it.
+// How wide the numbers of a file are.
 ghost use mathlib.Core.Path.{_≡_};
-ghost use Prim.Native.Nat.{_^_, _≤_, _<_};
-ghost use Rattle.digits.specs.Digits.{bitLength};
+ghost use Rattle.width.specs.Cases.{widthByCases};
 
-// The bit length of a number from 1 to 16,383, by cases.
-pub fn bit_length(top: usize) -> usize
-    requires { ⌜ (1 ≤ top) × (top < 2 ^ 14) ⌝ }
-    ensures { λ r. ⌜ r ≡ bitLength top ⌝ }
+// W by cases, as the receivers' manual has them, for the number of the chain's last value, p + n; 0 where it is in none.
+pub fn by_cases(last: usize) -> usize
+    ensures { λ r. ⌜ r ≡ widthByCases last ⌝ }
 {
-    match top {
+    match last {
         1 => 1,
         2..=3 => 2,
         4..=7 => 3,
@@ -22,6 +20,7 @@ pub fn bit_length(top: usize) -> usize
         1024..=2047 => 11,
         2048..=4095 => 12,
         4096..=8191 => 13,
-        _ => 14,
+        8192..=16383 => 14,
+        _ => 0,
     }
 }

@@ -12,11 +12,11 @@ use Rattle.chain.specs.declared.Judgement.{Judgement}
 use Rattle.chain.specs.declared.Judgement.the-variants.{Fine, Refused}
 use Rattle.chain.proofs.Rules.{stop, pass, then-assoc, told-fine, told-refused, answer-refused, answer-done, kept, renewed}
 use Rattle.chain.proofs.Pairs.{length-pairs}
-use Rattle.chain.proofs.Sizes.{shape-fits}
 use Rattle.layout.specs.declared.Layout.{Layout}
 use Rattle.layout.specs.declared.Extent.{Extent}
 use Rattle.layout.specs.File.{byteCount, fileOf, heldRule, writeRule, writeAnswer, writeBytes}
 use Rattle.layout.specs.Inner.{SoundLayout, Sized, extentOf}
+use Rattle.layout.proofs.Held.{shape-sized}
 use Rattle.writing.specs.Inner.{ToWrite, Wrote}
 
 module _ (L : Layout) (p : ℕ) (l o old : List ℕ) where
@@ -57,9 +57,7 @@ module _ (L : Layout) (p : ℕ) (l o old : List ℕ) where
 
     module _ (ok : j ≡ Fine) where
       pub sized : Sized L p q n
-      sized =
-          let s = shape-fits (L .limit) p q n (sym (told-fine j _ told ok)) in
-          record { p-some = s .sizes .p-some; p-low = s .sizes .p-low; q-low = s .sizes .q-low; n-low = s .few }
+      sized = shape-sized L p q n (sym (told-fine j _ told ok))
 
       module _ (count : ℕ) (is : count ≡ byteCount L p q n) (i : Judgement)
           (told-rest : verdictOf i ≡ (chainRule p (pairs l) o then refuseIf (length old <? count) 5 0)) where

@@ -25,9 +25,9 @@ extern "C" {
 
 /* The version of this header and of the library. */
 #define SPOUTBASKET_VERSION_MAJOR 0
-#define SPOUTBASKET_VERSION_MINOR 5
+#define SPOUTBASKET_VERSION_MINOR 6
 #define SPOUTBASKET_VERSION_PATCH 0
-#define SPOUTBASKET_VERSION "0.5.0"
+#define SPOUTBASKET_VERSION "0.6.0"
 
 /* The bytes of stack that are enough for a call, whatever it is given. */
 #define SPOUTBASKET_STACK (64 * 1024)
@@ -63,16 +63,6 @@ extern "C" {
 #define SPOUTBASKET_VALUES(p, n) ((size_t)(p) + (size_t)(n) + 1)
 #define SPOUTBASKET_MOST_VALUES (SPOUTBASKET_MOST_COLUMNS + SPOUTBASKET_MOST_STEPS + 1)
 #define SPOUTBASKET_MOST_VALUES_EDITION_1 (SPOUTBASKET_MOST_COLUMNS + SPOUTBASKET_MOST_STEPS_EDITION_1 + 1)
-
-/* The bytes of the file of a legal chain with p columns, q payslips and n steps. */
-static inline size_t spoutbasket_file_length(size_t p, size_t q, size_t n)
-{
-    size_t width = 0;
-    size_t last;
-    for (last = p + n; last > 0; last /= 2)
-        width++;
-    return (SPOUTBASKET_HEADER_BITS + width * (2 * n + q) + 7) / 8;
-}
 
 /* The methods, by number, and the range of each one's parameter. */
 enum spoutbasket_method {
@@ -121,6 +111,17 @@ enum spoutbasket_fault {
  * Needs 2n cells of steps and q outputs, n being the method's count; 2 * SPOUTBASKET_MOST_STEPS cells are always enough. Answers n. */
 uint32_t spoutbasket_compile(size_t p, size_t q, const uint32_t *amounts, size_t amounts_len, size_t method, size_t parameter,
                              uint32_t *steps, size_t steps_len, uint32_t *outputs, size_t outputs_len, uint64_t answer[4]);
+
+/* Measures the file of a chain with p columns, q payslips and n steps, whatever its steps and outputs are. Answers the width of its numbers in bits,
+ * which is W in docs/FORMAT.md, and its number of bytes. */
+uint32_t spoutbasket_extent(size_t p, size_t q, size_t n, uint64_t answer[4]);
+
+/* The bytes of that file; 0 where no file has such sizes. */
+static inline size_t spoutbasket_file_length(size_t p, size_t q, size_t n)
+{
+    uint64_t answer[4];
+    return spoutbasket_extent(p, q, n, answer) == SPOUTBASKET_DONE ? (size_t)answer[1] : 0;
+}
 
 /* Writes the file of a chain. Needs spoutbasket_file_length(p, q, n) bytes. Answers the number of bytes written. */
 uint32_t spoutbasket_write(size_t p, const uint32_t *steps, size_t steps_len, const uint32_t *outputs, size_t outputs_len,

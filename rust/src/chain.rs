@@ -1,6 +1,6 @@
 use crate::refusal::answer;
-use crate::{slices, Reason, Refusal, Sheet};
-use crate::{HEADER_BITS, LONGEST_FILE, MOST_PAYSLIPS, MOST_STEPS, MOST_VALUES};
+use crate::{slices, Extent, Reason, Refusal, Sheet};
+use crate::{MOST_PAYSLIPS, MOST_STEPS, MOST_VALUES};
 
 /// A multiplication chain, whoever made it.
 ///
@@ -58,13 +58,34 @@ impl Chain {
     /// assert_eq!(chain.to_file(), Ok(vec![0x11, 0x00, 0x00, 0x34, 0x5b, 0x86, 0x80]));
     /// ```
     pub fn to_file(&self) -> Result<Vec<u8>, Refusal> {
-        let mut bytes = vec![0; self.file_length()];
+        let mut bytes = vec![0; self.extent()?.bytes];
         let [written, ..] = answer(|words| {
             let steps = self.steps.as_flattened();
             slices::write(self.columns, steps, &self.outputs, &mut bytes, words)
         })?;
         bytes.truncate(written);
         Ok(bytes)
+    }
+
+    /// The extent of the chain's file, which follows from its sizes alone.
+    ///
+    /// # Errors
+    ///
+    /// 1 and 4 where no file has such sizes.
+    ///
+    /// ```
+    /// use spoutbasket::Chain;
+    ///
+    /// # fn main() -> Result<(), spoutbasket::Refusal> {
+    /// let chain = Chain { columns: 2, steps: vec![[2, 1], [3, 3], [4, 1]], outputs: vec![5] };
+    /// let extent = chain.extent()?;
+    /// // p + n is 5, in the case from 4 to 7
+    /// assert_eq!((extent.width, extent.bytes), (3, 7));
+    /// # Ok(())
+    /// # }
+    /// ```
+    pub fn extent(&self) -> Result<Extent, Refusal> {
+        Extent::of(self.columns, self.outputs.len(), self.n())
     }
 
     /// The chain of a file.
@@ -218,14 +239,6 @@ impl Chain {
     /// The number of values. A chain with more than the most is refused before its values are looked for.
     fn values(&self) -> usize {
         self.columns.saturating_add(self.n() + 1).min(MOST_VALUES)
-    }
-
-    /// The bytes of the file: the header, then each operand and output in as many bits as the last value's number has. A chain with a longer file is
-    /// refused before its bytes are looked for.
-    fn file_length(&self) -> usize {
-        let width = (usize::BITS - (self.values() - 1).leading_zeros()) as usize;
-        let bits = HEADER_BITS + width * (2 * self.n() + self.outputs.len());
-        bits.div_ceil(8).min(LONGEST_FILE)
     }
 }
 

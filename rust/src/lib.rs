@@ -43,6 +43,7 @@ macro_rules! error_in_words {
 
 mod chain;
 mod choose;
+mod extent;
 mod fault;
 mod keys;
 mod listing;
@@ -56,6 +57,7 @@ pub mod slices;
 
 pub use chain::{Chain, Run};
 pub use choose::choose;
+pub use extent::Extent;
 pub use fault::{numbers, SheetError, TextFault};
 pub use keys::Keys;
 pub use listing::{list, list_text, Listing};

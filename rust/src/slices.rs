@@ -71,6 +71,14 @@ functions! {
         answer: &mut [u64; 4],
     );
 
+    /// Measures the file of a chain with p columns, q payslips and n steps; answers the width of its numbers in bits, W, and its number of bytes.
+    fn extent(
+        p: usize,
+        q: usize,
+        n: usize,
+        answer: &mut [u64; 4],
+    );
+
     /// Writes the file of a chain; answers the number of bytes.
     fn write(
         p: usize,

@@ -70,6 +70,10 @@ pub fn run_pairs(
     })
 }
 
+pub fn extent(p: usize, q: usize, n: usize) -> Answer {
+    answer(2, |words| slices::extent(p, q, n, words))
+}
+
 pub fn write(p: usize, steps: &[u32], outputs: &[u32], bytes: &mut [u8]) -> Answer {
     answer(1, |words| slices::write(p, steps, outputs, bytes, words))
 }

@@ -1,17 +1,12 @@
 //! The C header's macros, as a C compiler has them.
+use crate::sources::{self, project};
 use std::collections::BTreeMap;
-use std::path::{Path, PathBuf};
 use std::process::Command;
 use std::sync::OnceLock;
 
-/// A path from the project's root.
-pub fn project(path: &str) -> PathBuf {
-    Path::new(env!("CARGO_MANIFEST_DIR")).join("..").join(path)
-}
-
 /// The header's text.
 pub fn text() -> String {
-    std::fs::read_to_string(project("include/spoutbasket.h")).expect("the header is there")
+    sources::text("include/spoutbasket.h")
 }
 
 /// The number behind each macro of the header that stands for one, without the prefix.

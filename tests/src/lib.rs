@@ -5,4 +5,5 @@ pub mod ffi;
 pub mod header;
 pub mod random;
 pub mod reference;
+pub mod sources;
 pub mod texts;

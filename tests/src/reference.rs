@@ -192,6 +192,16 @@ pub fn file_length(p: usize, q: usize, n: usize) -> usize {
     (HEADER_BITS + bit_length(p + n) * (2 * n + q)).div_ceil(8)
 }
 
+/// W and the bytes of the file of a chain with n steps.
+pub fn extent(p: usize, q: usize, n: usize) -> Answer {
+    sizes(p, q)?;
+    length(EDITION_STEPS, n)?;
+    Ok(vec![
+        bit_length(p + n) as u64,
+        file_length(p, q, n) as u64,
+    ])
+}
+
 /// The file of a legal chain, as a list of bits.
 fn file_bits(p: usize, steps: &[(u32, u32)], outputs: &[u32]) -> Vec<bool> {
     let mut bits = vec![];

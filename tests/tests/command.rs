@@ -153,6 +153,12 @@ fn from_sheets_to_figures() {
         // the amounts read back
         let listed = spoutbasket(&["list", &chain], b"").done();
         assert_eq!(listed, reference::listing(&file));
+        let verbose = spoutbasket(&["list", "-v", &chain], b"");
+        let width = reference::extent(p, q, n).unwrap()[0];
+        let bytes = count(file.len(), "byte");
+        let told = format!("{chain}: p + n is {}, W is {width}, {bytes}", p + n);
+        assert_eq!((verbose.status, verbose.line()), (0, told));
+        assert_eq!(verbose.said, listed.as_bytes());
 
         // a receiver's run
         let m = modulus(&mut r);

@@ -1,6 +1,7 @@
 //! What the header and the pages say, against the library.
 use spoutbasket::{Reason, TextReason};
 use spoutbasket_tests::header;
+use spoutbasket_tests::sources::text;
 use std::collections::BTreeMap;
 
 #[test]
@@ -69,7 +70,7 @@ fn phrases_of_the_header() {
 
 /// The rows of a page's table of phrases by number: the cell behind each number.
 fn table_of(page: &str) -> BTreeMap<u32, String> {
-    let page = std::fs::read_to_string(header::project(page)).unwrap();
+    let page = text(page);
     let lines = page.lines();
     let table = lines.skip_while(|line| !line.starts_with("| number | phrase"));
     let rows = table.skip(2).take_while(|line| line.starts_with('|'));

@@ -1,11 +1,7 @@
 //! What the pages say of the command is what it does: synopses, the example, objects, messages, the night's script, the sample. What they say of the
 //! sources is there: files, contracts, edits.
 use spoutbasket_tests::command::{spoutbasket, Folder, COMMANDS, KEYS, WEEK};
-
-fn page(name: &str) -> String {
-    let path = format!("{}/../{name}", env!("CARGO_MANIFEST_DIR"));
-    std::fs::read_to_string(path).unwrap()
-}
+use spoutbasket_tests::sources::{project, text as page};
 
 /// The lines of the block of code after some words, without their indent.
 fn block<'a>(page: &'a str, words: &str) -> Vec<&'a str> {
@@ -75,6 +71,8 @@ fn the_example_of_the_manual() {
     assert_eq!(folder.script(same).done(), "");
     let same = "spoutbasket check --table week.csv best.chain";
     folder.script(same).done();
+    let told = folder.script("spoutbasket list -v best.chain").told;
+    assert_eq!(told, shown(&manual, "Staff who look W up"));
 }
 
 /// Two sheets and the pool of their chains, and what is said where they do not go together.
@@ -196,9 +194,10 @@ fn the_examples_of_the_read_me() {
     let readme = page("README.md");
     let main = block(&readme, "## Two commands")[0];
     let (_, command) = main.rsplit_once("rust/target/release/").unwrap();
-    let root = concat!(env!("CARGO_MANIFEST_DIR"), "/..");
+    let root = project("");
     let folder = Folder::new("read-me");
-    let said = folder.script(&format!("cd {root} && {command}")).done();
+    let said = folder.script(&format!("cd {} && {command}", root.display()));
+    let said = said.done();
     let said: Vec<&str> = said.lines().collect();
     let shown = block(&readme, "It prints the 48 control figures");
     assert_eq!((said.len(), said[0], said[48]), (49, shown[0], shown[2]));
@@ -236,8 +235,7 @@ fn every_source_that_a_page_names() {
         let page = page(&format!("docs/{name}.md"));
         let whole = |path: &&str| path.starts_with("crates/") && !path.contains(['*', '…']);
         for path in quoted(&page).into_iter().filter(whole) {
-            let there = format!("{}/../{path}", env!("CARGO_MANIFEST_DIR"));
-            assert!(std::path::Path::new(&there).exists(), "{name}: {path}");
+            assert!(project(path).exists(), "{name}: {path}");
             named += 1;
         }
     }

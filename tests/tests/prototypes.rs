@@ -1,5 +1,5 @@
 //! `tools/prototypes` passes the header and the Rust list as they are, and tells every kind of difference in a line.
-use spoutbasket_tests::header::project;
+use spoutbasket_tests::sources::project;
 use std::path::PathBuf;
 use std::process::Command;
 

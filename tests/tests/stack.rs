@@ -40,6 +40,9 @@ fn largest() -> Largest {
     assert_eq!(answer[0], MOST_STEPS as u64);
     let mut file = vec![0; LONGEST_FILE];
     on_stack("STACK", |words| {
+        slices::extent(job.p, job.q, MOST_STEPS, words)
+    });
+    on_stack("STACK", |words| {
         slices::write(job.p, &steps, &outputs, &mut file, words)
     });
     let bases = (0..MOST_COLUMNS as u32)

@@ -11,7 +11,7 @@ use crate::options::{
 use crate::output;
 use crate::packed::refused_field;
 use crate::wanted::Wanted;
-use spoutbasket::{choose as choose_file, Chain, Run, Sheet};
+use spoutbasket::{choose as choose_file, Chain, Extent, Run, Sheet};
 use std::ffi::OsString;
 
 /// A command: what it takes and what it does.
@@ -60,7 +60,7 @@ pub const ALL: [Command; 9] = [
     Command {
         form: Form {
             name: "list",
-            flags: &["--json"],
+            flags: &["--json", "--verbose"],
             valued: &[],
             files: (0, 1),
         },
@@ -198,13 +198,24 @@ fn pool(form: &Form, given: &Given) -> Result<(), Failure> {
 
 fn list(_: &Form, given: &Given) -> Result<(), Failure> {
     let source = Source::new(given.file(0));
-    let listing = documents::listing(&source, &source.chain()?)?;
-    if !given.has("--json") {
-        return output::print(listing.text().as_bytes());
+    let bytes = source.chain()?;
+    let listing = documents::listing(&source, &bytes)?;
+    let [columns, payslips, steps] = [listing.columns(), listing.payslips(), listing.steps()];
+    if given.has("--json") {
+        let mut fields = shape([columns, payslips, steps]);
+        fields.push(("amounts", json::array(listing.rows().map(json::numbers))));
+        print(json::object(&fields))?;
+    } else {
+        output::print(listing.text().as_bytes())?;
     }
-    let mut fields = shape([listing.columns(), listing.payslips(), listing.steps()]);
-    fields.push(("amounts", json::array(listing.rows().map(json::numbers))));
-    print(json::object(&fields))
+    if given.has("--verbose") {
+        let extent = Extent::of(columns, payslips, steps);
+        let extent = extent.map_err(|refusal| refused_file(&source, &bytes, refusal))?;
+        let (name, last, width) = (source.name(), columns + steps, extent.width);
+        let long = counted(extent.bytes, "byte");
+        say(&format!("{name}: p + n is {last}, W is {width}, {long}"));
+    }
+    Ok(())
 }
 
 fn run(form: &Form, given: &Given) -> Result<(), Failure> {

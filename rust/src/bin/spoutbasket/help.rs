@@ -92,12 +92,13 @@ Example: spoutbasket pool staff.chain hourly.chain -o pool.chain
     (
         "list",
         "\
-Usage: spoutbasket list [--json] [CHAIN]
+Usage: spoutbasket list [--json] [-v] [CHAIN]
 
 Reads the amounts back out of a chain: a line with its columns, payslips and steps, then
 for each payslip a line with its number and its amounts.
 
-  --json  the result as one JSON object
+  --json         the result as one JSON object
+  -v, --verbose  say p + n, the width W of the file's numbers and its bytes on standard error
 
 Example: spoutbasket list week.chain
 ",

@@ -28,8 +28,7 @@ impl Extent {
     /// # }
     /// ```
     pub fn of(columns: usize, payslips: usize, steps: usize) -> Result<Extent, Refusal> {
-        let [width, bytes, ..] =
-            answer(|words| slices::extent(columns, payslips, steps, words))?;
+        let [width, bytes, ..] = answer(|words| slices::extent(columns, payslips, steps, words))?;
         Ok(Extent { width, bytes })
     }
 }

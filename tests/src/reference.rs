@@ -196,10 +196,7 @@ pub fn file_length(p: usize, q: usize, n: usize) -> usize {
 pub fn extent(p: usize, q: usize, n: usize) -> Answer {
     sizes(p, q)?;
     length(EDITION_STEPS, n)?;
-    Ok(vec![
-        bit_length(p + n) as u64,
-        file_length(p, q, n) as u64,
-    ])
+    Ok(vec![bit_length(p + n) as u64, file_length(p, q, n) as u64])
 }
 
 /// The file of a legal chain, as a list of bits.

@@ -82,7 +82,11 @@ fn bit_lengths() {
 
 /// What the library tells of a file from its sizes is what the reference finds.
 fn same_extent(p: usize, q: usize, n: usize) {
-    assert_eq!(ffi::extent(p, q, n), reference::extent(p, q, n), "{p} {q} {n}");
+    assert_eq!(
+        ffi::extent(p, q, n),
+        reference::extent(p, q, n),
+        "{p} {q} {n}"
+    );
 }
 
 /// All columns and payslips at both ends of each case, sizes around their limits, and any at all.
@@ -98,7 +102,9 @@ fn extents() {
             }
         }
     }
-    let edges = [0, 1, 2, 15, 16, 17, 63, 64, 65, 15_999, 16_000, 16_001, 200_000];
+    let edges = [
+        0, 1, 2, 15, 16, 17, 63, 64, 65, 15_999, 16_000, 16_001, 200_000,
+    ];
     let edges = edges.into_iter().chain([1 << 31, 1 << 32, usize::MAX]);
     for p in edges.clone() {
         for q in edges.clone() {

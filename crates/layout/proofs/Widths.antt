@@ -21,7 +21,7 @@ use Rattle.layout.proofs.OneFile.{flat-stepsOf}
 
 -- for sizes that the layout holds, W by cases is W
 pub width-by-cases : (L : Layout) → SoundLayout L → (p q n : ℕ) → Sized L p q n → widthByCases (p + n) ≡ width p n
-width-by-cases L sound p q n sized = by-cases-is (p + n) (omega (arith, sized .p-some)) (top-low L sound p q n sized)
+width-by-cases L sound p q n sized = by-cases-is (p + n) (omega (arith, sized .p-some)) (omega (arith, top-low L sound p q n sized))
 
 module _ (L : Layout) (sound : SoundLayout L) (p : ℕ) (steps : List Step) (outputs : List ℕ) (held : Held L p steps outputs) where
   abbrev file : List ℕ

@@ -8,9 +8,9 @@ use Rattle.chain.specs.Chain.{flat}
 use Rattle.chain.specs.declared.Step.{Step}
 use Rattle.width.specs.Cases.{widthByCases}
 use Rattle.width.proofs.Cases.{by-cases-is}
-use Rattle.bits.specs.Bits.{bytesFor, fieldsAt}
+use Rattle.bits.specs.Bits.{fieldsAt}
 use Rattle.layout.specs.declared.Layout.{Layout}
-use Rattle.layout.specs.File.{fileOf, headerSize, width, columnsOf, payslipsOf, lengthOf, widthOf, outputsOf, Held}
+use Rattle.layout.specs.File.{fileOf, headerSize, width, lengthOf, widthOf, outputsOf, Held}
 use Rattle.layout.specs.Widths.{widthStated, WidthsByCases}
 use Rattle.layout.specs.Inner.{SoundLayout, Sized}
 use Rattle.layout.proofs.Lengths.{top-low, length-file}

@@ -2,6 +2,7 @@
 use spoutbasket::Extent;
 use spoutbasket_tests::command::{count, spoutbasket};
 use spoutbasket_tests::ffi;
+use spoutbasket_tests::header;
 use spoutbasket_tests::random::Random;
 use spoutbasket_tests::reference::{self, EDITION_STEPS, LONGEST_FILE};
 use spoutbasket_tests::reference::{MOST_COLUMNS, MOST_PAYSLIPS};
@@ -116,6 +117,26 @@ fn extents() {
         let n = r.below(17_000);
         same_extent(r.below(18), r.below(67), n);
     }
+}
+
+/// The header's own function: the bytes at both ends of each case, and 0 where no file has such sizes.
+#[test]
+fn lengths_of_the_header() {
+    let ends = page().into_iter().flat_map(|case| [case.first, case.last]);
+    let held = ends.map(|last| [1, 1, last.min(1 + EDITION_STEPS) - 1]);
+    let held: Vec<[usize; 3]> = held.chain([[16, 64, 16_000]]).collect();
+    let lengths = held
+        .iter()
+        .map(|&[p, q, n]| reference::file_length(p, q, n));
+    assert!(header::file_lengths(&held).into_iter().eq(lengths));
+    let none = [
+        [0, 1, 0],
+        [17, 1, 0],
+        [1, 0, 0],
+        [1, 65, 0],
+        [16, 64, 16_001],
+    ];
+    assert_eq!(header::file_lengths(&none), [0; 5]);
 }
 
 /// The numbers in bits from `at` on, `width` each.

@@ -17,7 +17,7 @@ pub fn extent(p: usize, q: usize, n: usize) -> Measured
             let s = layout::extent_of(layout, p, q, n);
             Measured::File {
                 width: s.width,
-                bytes: (s.total + 7) / 8,
+                bytes: s.bytes,
             }
         }
     }

@@ -3,7 +3,7 @@ use Prim.Native.Nat.{ℕ, _+_, _*_, _^_, _≤_, _<_}
 use Rattle.chain.specs.Chain.{mostColumns, mostPayslips}
 use Rattle.layout.specs.declared.Layout.{Layout}
 use Rattle.layout.specs.declared.Extent.{Extent}
-use Rattle.layout.specs.File.{width, widest, headerSize, bitCount}
+use Rattle.layout.specs.File.{width, widest, headerSize, bitCount, byteCount}
 
 -- a layout that can be written and read back: its numbers fit their fields, its header takes four bytes and no more, and its widths are found by cases
 pub record SoundLayout (L : Layout) : Type 0 where
@@ -25,7 +25,7 @@ pub record LayoutHolds (L : Layout) (p q n : ℕ) : Type 0 where
   pub sound : SoundLayout L
   pub sized : Sized L p q n
 
--- sizes, with what they come to: the width of a field, where the steps begin, and the bits before the filling
+-- sizes, with what they come to: the width of a field, where the steps begin, the bits before the filling, and the bytes with it
 abbrev pub extentOf : Layout → ℕ → ℕ → ℕ → Extent
 extentOf L p q n =
-    record { p = p; q = q; n = n; width = width p n; start = headerSize L; total = bitCount L p q n }
+    record { p = p; q = q; n = n; width = width p n; start = headerSize L; total = bitCount L p q n; bytes = byteCount L p q n }

@@ -15,7 +15,7 @@ use Rattle.layout.specs.File.{columnsOf, lengthOf, headerSize}
 abbrev pub widthStated : Layout → List ℕ → ℕ
 widthStated L file = widthByCases (columnsOf file + lengthOf L file)
 
--- every width in the file of a chain is the bit length of p + n
+-- Req 03: every width in the file of a chain remains the bit length of p + n
 pub record WidthsByCases (L : Layout) (p : ℕ) (steps : List Step) (outputs file : List ℕ) : Type 0 where
   -- Spec 5.2: the width found is the bit length
   pub is-bit-length : widthStated L file ≡ bitLength (p + length steps)

@@ -41,7 +41,7 @@ pub fn first_edition() -> Layout
     }
 }
 
-// A chain's sizes in a file: the width of its fields, where its steps begin, and its bits before the filling.
+// A chain's sizes in a file: the width of its fields, where its steps begin, its bits before the filling, and its bytes with it.
 pub struct Extent {
     pub p: usize,
     pub q: usize,
@@ -49,6 +49,7 @@ pub struct Extent {
     pub width: usize,
     pub start: usize,
     pub total: usize,
+    pub bytes: usize,
 }
 
 pub fn extent_of(layout: Layout, p: usize, q: usize, n: usize) -> Extent
@@ -57,12 +58,14 @@ pub fn extent_of(layout: Layout, p: usize, q: usize, n: usize) -> Extent
 {
     let width = width::by_cases(p + n);
     let start = SIZES_BITS + layout.bits;
+    let total = start + (2 * n + q) * width;
     Extent {
         p: p,
         q: q,
         n: n,
         width: width,
         start: start,
-        total: start + (2 * n + q) * width,
+        total: total,
+        bytes: (total + 7) / 8,
     }
 }

@@ -15,7 +15,7 @@ use Rattle.chain.proofs.Rules.{stop, pass, then-fine, then-assoc, refuseIf-fine
 use Rattle.chain.proofs.Rules.{answer-done, kept, renewed}
 use Rattle.chain.proofs.Pairs.{length-pairs, flat-pairs}
 use Rattle.chain.proofs.Sizes.{length-fits}
-use Rattle.bits.specs.Bits.{bytesFor, fieldAt, fieldsAt}
+use Rattle.bits.specs.Bits.{fieldAt, fieldsAt}
 use Rattle.bits.specs.Inner.{FieldRoom}
 use Rattle.bits.proofs.Fields.{length-fieldsAt}
 use Rattle.fields.specs.Inner.{FieldsRoom}
@@ -64,6 +64,7 @@ module _ (L : Layout) (bytes : List ℕ) (r : Heading) (told : headed L bytes r)
         narrow = omega (arith, width-low L sound _ _ _ s);
         parts = count-parts L (columnsOf bytes) (payslipsOf bytes) (lengthOf L bytes);
         low = count-fits L sound _ _ _ s;
+        whole = refl;
         top = omega (arith, top-low L sound _ _ _ s);
       })
 
@@ -91,17 +92,17 @@ module _ (bytes : List ℕ) (x : Extent) where
 
   module _ (ok : Proper x) where
     -- bytes of the right length hold the extent, and end in less than a byte of filling
-    module _ (long : length bytes ≡ (x .total + 7) / 8) where
+    module _ (long : length bytes ≡ x .bytes) where
       pub contained : Contained bytes x
-      contained = record { proper = ok; within = omega (arith, long) }
+      contained = record { proper = ok; within = omega (arith, long, ok .whole) }
 
       pub filling-room : FieldRoom bytes (x .total) (8 * length bytes - x .total)
-      filling-room = record { narrow = omega (arith, long); within = omega (arith, long); fits = omega (arith, long, ok .low) }
+      filling-room = record { narrow = omega (arith, long, ok .whole); within = omega (arith, long, ok .whole); fits = omega (arith, long, ok .whole, ok .low) }
 
     -- the rules, in terms of the filling that was read
     pub body-is : (f room places : ℕ) → f ≡ fieldAt bytes (x .total) (8 * length bytes - x .total) → (v : Verdict)
         → v
-        ≡ (refuseIf (length bytes ≠? bytesFor (x .total)) 6 0
+        ≡ (refuseIf (length bytes ≠? x .bytes) 6 0
         then refuseIf (room <? x .n or places <? x .q) 5 0
         then refuseIf (f ≠? 0) 8 0
         then chainRule (x .p) (fileSteps bytes x) (fileOutputs bytes x))

@@ -48,6 +48,7 @@ pub record Proper (x : Extent) : Type 0 where
   pub narrow : x .width ≤ widestNumber
   pub parts : x .total ≡ x .start + 2 * x .n * x .width + x .q * x .width
   pub low : x .total < 2 ^ 32
+  pub whole : x .bytes ≡ bytesFor (x .total)
   pub top : x .p + x .n < 2 ^ 32
 
 -- and bytes that hold it
@@ -66,7 +67,7 @@ module _ (bytes : List ℕ) (x : Extent) where
   -- the reader's rules after the header's: 6, 5, 8, steps, 12
   unfoldable pub bodyRule : ℕ → ℕ → Verdict
   bodyRule pairsLent outputsLent =
-      refuseIf (length bytes ≠? bytesFor (x .total)) 6 0
+      refuseIf (length bytes ≠? x .bytes) 6 0
       then refuseIf (pairsLent <? x .n or outputsLent <? x .q) 5 0
       then refuseIf (fieldAt bytes (x .total) (8 * length bytes - x .total) ≠? 0) 8 0
       then chainRule (x .p) fileSteps fileOutputs

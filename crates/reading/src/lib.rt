@@ -136,7 +136,7 @@ fn judge_body(bytes: &[u8], x: Extent, room: usize, places: usize) -> Judgement
     ensures { λ r. ⌜ verdictOf r ≡ bodyRule (now (bytes .entry)) x room places ⌝ }
 {
     let total = x.total;
-    if bytes.len() != (total + 7) / 8 {
+    if bytes.len() != x.bytes {
         return Judgement::Refused(6, 0);
     }
     if room < x.n {

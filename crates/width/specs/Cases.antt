@@ -33,7 +33,7 @@ cases =
     ∷ 8192 to 16383 gives 14
     ∷ []
 
--- the width in the case that a number is in; 0 where it is in none
+-- Spec 5.2: the width in the case that a number is in; 0 where it is in none, as no file's p + n is
 abbrev pub widthIn : List Case → ℕ → ℕ
 widthIn [] x = 0
 widthIn (c ∷ rest) x = cond (c .first ≤? x && x ≤? c .last) (c .width) (widthIn rest x)

@@ -69,12 +69,11 @@ fn write_as(layout: Layout, p: usize, steps: &[u32], outputs: &[u32], bytes: &mu
         Judgement::Fine => {}
     }
     let s = layout::extent_of(layout, p, outputs.len(), steps.len() / 2);
-    let count = (s.total + 7) / 8;
-    match judge_rest(p, steps, outputs, count, bytes.len()) {
+    match judge_rest(p, steps, outputs, s.bytes, bytes.len()) {
         Judgement::Refused(number, place) => Written::Refused(number, place),
         Judgement::Fine => {
             put_chain(layout, s, steps, outputs, bytes);
-            Written::Bytes(count)
+            Written::Bytes(s.bytes)
         }
     }
 }

@@ -1,7 +1,5 @@
--- Edition 1 is sound, and sizes that pass are sizes that it holds; so the extent found is that of a file, and its bits are far from the end of a usize.
-use native.Mathlib.Omega.{arith}
+-- Edition 1 is sound, and sizes that pass are sizes that it holds; so the extent found is that of a file.
 use mathlib.Core.Path.{_≡_, sym}
-use Prim.Native.Nat.{_^_, _<_}
 use Rattle.chain.specs.Verdict.{fine}
 use Rattle.chain.specs.Judgement.{verdictOf}
 use Rattle.chain.specs.Chain.{shapeRule}
@@ -11,7 +9,6 @@ use Rattle.layout.specs.File.{extentAnswer}
 use Rattle.layout.specs.Inner.{Sized, extentOf}
 use Rattle.layout.proofs.Editions.{edition1-sound}
 use Rattle.layout.proofs.Held.{shape-sized}
-use Rattle.layout.proofs.Lengths.{count-fits}
 use borrow.Author.Needs.{needs}
 use Rattle.extent.proofs.extent.Statement.{statement}
 use Rattle.extent.proofs.extent.Tie as tie
@@ -36,21 +33,15 @@ found : (c : tie.After-extent-of) → let a = c .before .before .before .before 
     c .extent-of .result ≡ extentOf edition1 (a .p) (a .q) (a .n)
 found c = rw (c .before .before .before .before .first-edition .ensures) at (c .extent-of .ensures)
 
-add-t10 : tie.Need-add-t10
-add-t10 c =
-    let x = c .before in
-    let low : x .extent-of .result .total < 2 ^ 32 = rw (found x) (count-fits edition1 edition1-sound _ _ _ (sized (x .before))) in
-    record { fits = omega (arith, low) }
-
 returns : tie.Need-returns
 unfolding extentAnswer
 returns c = answer-refused _ _ _ _ (told-refused _ _ _ _ (judged (c .before .before .before)) (c .before .number .given .1))
 
 returns-2 : tie.Need-returns-2
 unfolding extentAnswer
-returns-2 c = rw (found (c .before)) (answer-done _ _ (passed (c .before .before)))
+returns-2 c = rw (found c) (answer-done _ _ (passed (c .before)))
 
 pub extent-spec : {M : Type 1} → statement M
 extent-spec =
     tie.close
-    (tie.spec (λ c κs. search needs) (λ c κs. search needs) (λ c. search needs) (λ c. search needs) extent-of-requires add-t10 returns returns-2)
+    (tie.spec (λ c κs. search needs) (λ c κs. search needs) (λ c. search needs) (λ c. search needs) extent-of-requires returns returns-2)

@@ -6,9 +6,6 @@ use borrow.Author.Needs.{needs}
 use Rattle.reading.proofs.judge_body.Statement.{statement}
 use Rattle.reading.proofs.judge_body.Tie as tie
 
-add-if1 : tie.Need-add-if1
-add-if1 c = search needs
-
 returns : tie.Need-returns
 unfolding bodyRule
 returns c = search judging depth 8
@@ -30,32 +27,31 @@ sub-take c = search needs
 take-requires : tie.Need-take-requires
 take-requires c κs =
     let e = c .before .before .before .before in
-    filling-room _ _ (e .before .before .pre) (e .if1 .left)
+    filling-room _ _ (e .before .before .before .pre) (e .if1 .left)
 
 returns-4 : tie.Need-returns-4
 returns-4 c =
     let t = c .before .before in
     let e = t .before .before .before .before .before in
-    let s = e .before .before in
+    let s = e .before .before .before in
     body-is _ (s .args .x) (s .pre) _ _ _ (t .take .ensures .is) _ (search judging depth 12)
 
 judge-chain-requires : tie.Need-judge-chain-requires
 judge-chain-requires c κs =
     let e = c .before .before .before .before .before .before .before in
-    contained _ _ (e .before .before .pre) (e .if1 .left)
+    contained _ _ (e .before .before .before .pre) (e .if1 .left)
 
 returns-5 : tie.Need-returns-5
 returns-5 c =
     let t = c .before .before .before in
     let e = t .before .before .before .before .before in
-    let s = e .before .before in
+    let s = e .before .before .before in
     body-is _ (s .args .x) (s .pre) _ _ _ (t .take .ensures .is) _ (search judging depth 12)
 
 pub judge-body-spec : {M : Type 1} → statement M
 judge-body-spec =
     tie.close
     (tie.spec
-    add-if1
     returns
     returns-2
     returns-3

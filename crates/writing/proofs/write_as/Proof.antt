@@ -1,7 +1,6 @@
 -- Each return is one law of `WriteAnswers`: refused by the shape, refused by the rest, or written; the extent that was measured in between is the file's.
-use native.Mathlib.Omega.{arith}
 use mathlib.Core.Path.{_≡_, ap, _∙_}
-use Prim.Native.Nat.{_+_, _/_, _^_, _<_}
+use Prim.Native.Nat.{_/_}
 use lib.ListN.{length}
 use denote.Ref.{now}
 use Rattle.chain.specs.Written.{over}
@@ -9,7 +8,6 @@ use Rattle.chain.specs.Chain.{pairs}
 use Rattle.layout.specs.declared.Extent.{Extent}
 use Rattle.layout.specs.File.{byteCount, fileOf}
 use Rattle.layout.specs.Inner.{Sized}
-use Rattle.layout.proofs.Lengths.{count-fits}
 use Rattle.writing.proofs.WriteAnswers.{shape-refused, sized, rest-refused, to-write, all-written}
 use borrow.Author.Needs.{needs}
 use Rattle.writing.proofs.write_as.Statement.{statement}
@@ -41,15 +39,8 @@ held c =
 extent-of-requires : tie.Need-extent-of-requires
 extent-of-requires c κs = record { sound = c .before .before .before .before .before .before .pre; sized = held c }
 
-add-count : tie.Need-add-count
-add-count c =
-    let x = c .before in
-    let s = x .before .before .before .before .before .before .before in
-    let low : x .extent-of .result .total < 2 ^ 32 = rw (x .extent-of .ensures) (count-fits (s .args .layout) (s .pre) _ _ _ (held (x .before))) in
-    record { fits = omega (arith, low) }
-
 judge-rest-requires : tie.Need-judge-rest-requires
-judge-rest-requires c κs = held (c .before .before) .p-low
+judge-rest-requires c κs = held (c .before) .p-low
 
 enum-known-number-2 : tie.Need-enum-known-number-2
 enum-known-number-2 c = search needs
@@ -59,14 +50,14 @@ enum-told-2 c = search needs
 
 -- the bytes counted
 counts : (c : tie.After-extent-of) → let a = c .before .before .before .before .before .before .before .args in
-    (c .extent-of .result .total + 7) / 8 ≡ byteCount (a .layout) (a .p) (length (now (a .outputs))) (length (now (a .steps)) / 2)
-counts c = ap (λ (x : Extent). (x .total + 7) / 8) (c .extent-of .ensures)
+    c .extent-of .result .bytes ≡ byteCount (a .layout) (a .p) (length (now (a .outputs))) (length (now (a .steps)) / 2)
+counts c = ap (λ (x : Extent). x .bytes) (c .extent-of .ensures)
 
 put-chain-requires : tie.Need-put-chain-requires
 put-chain-requires c κs =
     let f = c .before in
     let i = f .before .before in
-    let x = i .before .before in
+    let x = i .before in
     let e = x .before in
     let j = e .before .before in
     let s = j .before .before .before .before in
@@ -77,7 +68,7 @@ put-chain-requires c κs =
 returns-2 : tie.Need-returns-2
 returns-2 c =
     let i = c .before .before .before in
-    let x = i .before .before in
+    let x = i .before in
     let e = x .before in
     let j = e .before .before in
     let a = j .before .before .before .before .args in
@@ -92,7 +83,7 @@ returns-3 c =
     let u = c .before .before in
     let f = u .before .before in
     let i = f .before .before in
-    let x = i .before .before in
+    let x = i .before in
     let e = x .before in
     let j = e .before .before in
     let a = j .before .before .before .before .args in
@@ -110,7 +101,6 @@ write-as-spec =
     returns
     enum-told
     extent-of-requires
-    add-count
     judge-rest-requires
     enum-known-number-2
     enum-told-2

@@ -201,6 +201,8 @@ fn list(_: &Form, given: &Given) -> Result<(), Failure> {
     let bytes = source.chain()?;
     let listing = documents::listing(&source, &bytes)?;
     let [columns, payslips, steps] = [listing.columns(), listing.payslips(), listing.steps()];
+    let extent = Extent::of(columns, payslips, steps);
+    let extent = extent.map_err(|refusal| refused_file(&source, &bytes, refusal))?;
     if given.has("--json") {
         let mut fields = shape([columns, payslips, steps]);
         fields.push(("amounts", json::array(listing.rows().map(json::numbers))));
@@ -209,8 +211,6 @@ fn list(_: &Form, given: &Given) -> Result<(), Failure> {
         output::print(listing.text().as_bytes())?;
     }
     if given.has("--verbose") {
-        let extent = Extent::of(columns, payslips, steps);
-        let extent = extent.map_err(|refusal| refused_file(&source, &bytes, refusal))?;
         let (name, last, width) = (source.name(), columns + steps, extent.width);
         let long = counted(extent.bytes, "byte");
         say(&format!("{name}: p + n is {last}, W is {width}, {long}"));

@@ -2,6 +2,8 @@
 use mathlib.Core.List.{[], _∷_}
 use Prim.Native.Nat.{ℕ}
 use Rattle.chain.specs.Verdict.{Answer, done, refusal}
+use Rattle.answers.specs.declared.Quoted.{Quoted}
+use Rattle.answers.specs.declared.Quoted.the-variants as quoted
 use Rattle.answers.specs.declared.Compiled.{Compiled}
 use Rattle.answers.specs.declared.Compiled.the-variants as compiled
 use Rattle.answers.specs.declared.Measured.{Measured}
@@ -22,6 +24,11 @@ use Rattle.answers.specs.declared.Chosen.{Chosen}
 use Rattle.answers.specs.declared.Chosen.the-variants as chosen
 use Rattle.answers.specs.declared.Figured.{Figured}
 use Rattle.answers.specs.declared.Figured.the-variants as figured
+
+-- ceiling: the count and the ceiling
+abbrev pub quotedOf : Quoted → Answer
+quotedOf (quoted.Steps count ceiling) = done (count ∷ ceiling ∷ [])
+quotedOf (quoted.Refused number place) = refusal number place
 
 -- compile: n
 abbrev pub compiledOf : Compiled → Answer

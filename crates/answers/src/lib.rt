@@ -1,5 +1,11 @@
 // What each call answers: its values, or a refusal with its number and its place, 0 for none (Spec 10.6).
 
+// The ceiling: how many steps the chain has, and the most that its method takes for such a sheet.
+pub enum Quoted {
+    Steps { count: usize, ceiling: usize },
+    Refused(u32, usize),
+}
+
 // Compile: the steps of the chain.
 pub enum Compiled {
     Steps(usize),

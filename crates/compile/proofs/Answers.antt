@@ -9,19 +9,16 @@ use Rattle.chain.specs.Judgement.{verdictOf}
 use Rattle.chain.specs.Chain.{mostSteps, lengthRule}
 use Rattle.chain.specs.declared.Judgement.{Judgement}
 use Rattle.chain.specs.declared.Judgement.the-variants as judgement
-use Rattle.chain.proofs.Rules.{not-fine, told-fine, told-refused, pass, stop, refuse-yes, refuse-no, lt-yes, lt-no, or-left, or-right, or-none, answer-refused, answer-done, kept, renewed}
+use Rattle.chain.proofs.Rules.{told-fine, told-refused, pass, stop, refuse-yes, refuse-no, lt-yes, lt-no, or-left, or-right, or-none, answer-refused, answer-done, kept, renewed}
 use Rattle.chain.proofs.Told.{verdictIn, told, told-values}
-use Rattle.sheet.specs.Sheet.{sheetRule}
 use Rattle.methods.specs.Inner.{ChainStored}
-use Rattle.parameters.specs.Parameters.{methodRule}
-use Rattle.compile.specs.Compile.{chainOf, count, acceptedRule, compileRule, compileAnswer, compileSteps, compileOutputs}
-use Rattle.answers.specs.Answers.{compiledOf}
+use Rattle.quote.specs.ByMethod.{chainOf, count, countRule, ceilingAnswer}
+use Rattle.compile.specs.Compile.{acceptedRule, compileRule, compileAnswer, compileSteps, compileOutputs}
+use Rattle.answers.specs.Answers.{compiledOf, quotedOf}
+use Rattle.answers.specs.declared.Quoted.{Quoted}
+use Rattle.answers.specs.declared.Quoted.the-variants as quoted
 use Rattle.answers.specs.declared.Compiled.{Compiled}
 use Rattle.answers.specs.declared.Compiled.the-variants.{Steps, Refused}
-
--- what is refused is answered so, and whatever was to follow from its being fine follows
-pub stopped : (v : Verdict) (values : List ℕ) (number place : ℕ) {M : Type 0} → refused number place ≡ v → (refusal number place ≡ answer v values) × (v ≡ fine → M)
-stopped v values number place e = (answer-refused v values number place e, λ f. absurd (not-fine (e ∙ f)))
 
 module _ (p q : ℕ) (amounts : List ℕ) (method k : ℕ) where
   abbrev count′ : ℕ
@@ -30,18 +27,35 @@ module _ (p q : ℕ) (amounts : List ℕ) (method k : ℕ) where
   abbrev accepted : Verdict
   accepted = acceptedRule p q amounts method k
 
-  -- n steps are counted for a sheet, a method and a parameter that fit
-  module _ (sheet-fits : fine ≡ sheetRule p q amounts) (method-fits : fine ≡ methodRule p method k) (n : ℕ) (is : n ≡ count′) (j : Judgement)
-      (judged : verdictOf j ≡ lengthRule mostSteps n) where
-    length-judged : verdictOf j ≡ accepted
+  -- what was answered before the length is judged
+  module _ (t : Quoted) (told-quote : quotedOf t ≡ ceilingAnswer p q amounts method k) where
+    quote-judged : verdictIn (quotedOf t) ≡ countRule p q amounts method k
+    unfolding ceilingAnswer
+    quote-judged = told _ _ _ told-quote
+
+    pub quote-refused : (number place : ℕ) → t ≡ quoted.Refused number place → refused number place ≡ accepted
     unfolding acceptedRule
-    length-judged = pass _ _ _ sheet-fits (pass _ _ _ method-fits (judged ∙ ap (lengthRule mostSteps) is))
+    quote-refused number place e = stop _ _ number place (sym (ap (λ (x : Quoted). verdictIn (quotedOf x)) e) ∙ quote-judged)
 
-    pub too-long : (number place : ℕ) → j ≡ judgement.Refused number place → refused number place ≡ accepted
-    too-long number place e = told-refused j _ number place length-judged e
+    -- n steps were counted
+    module _ (n most : ℕ) (is : t ≡ quoted.Steps n most) where
+      pub quote-passed : fine ≡ countRule p q amounts method k
+      quote-passed = sym (ap (λ (x : Quoted). verdictIn (quotedOf x)) is) ∙ quote-judged
 
-    pub all-accepted : j ≡ judgement.Fine → done (n ∷ []) ≡ answer accepted (count′ ∷ [])
-    all-accepted e = ap (λ (m : ℕ). done (m ∷ [])) is ∙ answer-done _ _ (told-fine j _ length-judged e)
+      quote-counted : n ≡ count′
+      unfolding ceilingAnswer
+      quote-counted = ap (λ (l : List ℕ). getD l 0 0) (told-values _ _ _ (sym (ap quotedOf is) ∙ told-quote))
+
+      module _ (j : Judgement) (judged : verdictOf j ≡ lengthRule mostSteps n) where
+        length-judged : verdictOf j ≡ accepted
+        unfolding acceptedRule
+        length-judged = pass _ _ _ quote-passed (judged ∙ ap (lengthRule mostSteps) quote-counted)
+
+        pub too-long : (number place : ℕ) → j ≡ judgement.Refused number place → refused number place ≡ accepted
+        too-long number place e = told-refused j _ number place length-judged e
+
+        pub all-accepted : j ≡ judgement.Fine → done (n ∷ []) ≡ answer accepted (count′ ∷ [])
+        all-accepted e = ap (λ (m : ℕ). done (m ∷ [])) quote-counted ∙ answer-done _ _ (told-fine j _ length-judged e)
 
   module _ (r : Compiled) (answered : compiledOf r ≡ answer accepted (count′ ∷ [])) (steps outputs : List ℕ) where
     -- the answer of compile and what it leaves in the two slices

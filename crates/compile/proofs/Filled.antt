@@ -11,12 +11,13 @@ use Rattle.chain.proofs.Rules.{then-fine, refuseIf-fine, neither, not-lt, renew
 use Rattle.chain.proofs.Told.{verdictIn, told, told-values}
 use Rattle.chain.proofs.Pairs.{pairs-flat, length-flat}
 use Rattle.chain.proofs.Written.{take-over, over-length}
-use Rattle.compile.specs.Compile.{chainOf, count, compileRule, compileAnswer, compileSteps, compileOutputs}
+use Rattle.quote.specs.ByMethod.{chainOf, count}
+use Rattle.quote.proofs.Right.{compiled-right}
+use Rattle.compile.specs.Compile.{compileRule, compileAnswer, compileSteps, compileOutputs}
 use Rattle.answers.specs.Answers.{compiledOf}
 use Rattle.answers.specs.declared.Compiled.{Compiled}
 use Rattle.answers.specs.declared.Compiled.the-variants.{Steps, Refused}
 use Rattle.compile.proofs.Fits.{accepted}
-use Rattle.compile.proofs.Right.{compiled-right}
 
 -- a chain compiled: its n steps and q outputs stand at the front of the two slices
 pub record Filled (p q : ℕ) (amounts : List ℕ) (method k : ℕ) (steps outputs : List ℕ) (n : ℕ) : Type 0 where

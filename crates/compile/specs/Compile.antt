@@ -1,40 +1,17 @@
 -- Compile (Spec 3, 7.1): from a sheet to a chain by a method's number and its parameter.
-use mathlib.Core.Bool.{cond}
 use mathlib.Core.List.{List, [], _∷_}
 use Prim.Native.Nat.{ℕ, _/_}
 use lib.ListN.{length}
-use Rattle.chain.specs.Tests.{_<?_, _=?_, _or_}
+use Rattle.chain.specs.Tests.{_<?_, _or_}
 use Rattle.chain.specs.Verdict.{Verdict, _then_, refuseIf, Answer, answer, onFine}
 use Rattle.chain.specs.Written.{over}
-use Rattle.chain.specs.Chain.{Chain, mostSteps, flat, lengthRule}
-use Rattle.sheet.specs.Sheet.{sheetRule}
-use Rattle.methods.specs.Method.{Method}
-use Rattle.straus.specs.Straus.{strausMethod}
-use Rattle.yao.specs.Yao.{yaoMethod}
-use Rattle.partition.specs.Method.{partitionMethod}
-use Rattle.parameters.specs.Parameters.{methodRule}
-
--- the method of a number, for a sheet and a parameter; `methodRule` lets no number but 1, 2 and 3 pass
-unfoldable pub methodOf : ℕ → ℕ → List ℕ → ℕ → ℕ → Method
-methodOf p q amounts method k =
-    cond (method =? 1) (strausMethod p q amounts k)
-    (cond (method =? 2) (yaoMethod p q amounts k)
-    (partitionMethod p q amounts k))
-
-abbrev pub chainOf : ℕ → ℕ → List ℕ → ℕ → ℕ → Chain
-chainOf p q amounts method k = methodOf p q amounts method k .chain
-
-abbrev pub count : ℕ → ℕ → List ℕ → ℕ → ℕ → ℕ
-count p q amounts method k = methodOf p q amounts method k .count
-
-abbrev pub ceiling : ℕ → ℕ → List ℕ → ℕ → ℕ → ℕ
-ceiling p q amounts method k = methodOf p q amounts method k .ceiling
+use Rattle.chain.specs.Chain.{mostSteps, flat, lengthRule}
+use Rattle.quote.specs.ByMethod.{chainOf, count, countRule}
 
 -- Spec 7.1: accepted together, if 1, 2, 3 and 4 do not apply; n is the method's count
 unfoldable pub acceptedRule : ℕ → ℕ → List ℕ → ℕ → ℕ → Verdict
 acceptedRule p q amounts method k =
-    sheetRule p q amounts
-    then methodRule p method k
+    countRule p q amounts method k
     then lengthRule mostSteps (count p q amounts method k)
 
 -- Spec 10.2: and then 5; the last two arguments are how many pairs and outputs are lent

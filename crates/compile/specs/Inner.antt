@@ -3,22 +3,10 @@ use mathlib.Core.Path.{_≡_}
 use mathlib.Core.List.{List}
 use Prim.Native.Nat.{ℕ}
 use Rattle.chain.specs.Verdict.{fine}
-use Rattle.sheet.specs.Sheet.{sheetRule}
-use Rattle.methods.specs.Inner.{Largest}
-use Rattle.parameters.specs.Parameters.{methodRule}
+use Rattle.quote.specs.Inner.{MeasuredFor}
 use Rattle.compile.specs.Compile.{acceptedRule}
 
--- cells that hold the columns' largest amounts, for every method that goes by them: all but method 1
-pub record MeasuredFor (method p q : ℕ) (amounts cells : List ℕ) : Type 0 where
-  pub columns : (method ≡ 1 → ⊥) → Largest p q amounts cells
-
--- what counting the steps asks: that the sheet, the method and the parameter keep to their rules
-pub record StepCountAsked (p q : ℕ) (amounts : List ℕ) (method k : ℕ) (cells : List ℕ) : Type 0 where
-  pub sheet-fine : sheetRule p q amounts ≡ fine
-  pub method-fine : methodRule p method k ≡ fine
-  pub measured : MeasuredFor method p q amounts cells
-
--- what emitting the chain asks: that they are accepted together
+-- what emitting the chain asks: that the sheet, the method and the parameter are accepted together
 pub record EmitAsked (p q : ℕ) (amounts : List ℕ) (method k : ℕ) (cells : List ℕ) : Type 0 where
   pub accepted : acceptedRule p q amounts method k ≡ fine
   pub measured : MeasuredFor method p q amounts cells

@@ -1,46 +1,20 @@
 // From a sheet to a chain by one of the methods.
 ghost use mathlib.Core.Path.{_≡_};
 ghost use mathlib.Core.List.{[], _∷_};
-ghost use Prim.Native.Nat.{_*_, _/_, _≤_};
+ghost use Prim.Native.Nat.{_/_, _≤_};
 ghost use lib.ListN.{length};
 ghost use Rattle.chain.specs.Chain.{mostColumns};
 ghost use Rattle.chain.specs.Verdict.{fine, answer};
 ghost use Rattle.products.specs.Inner.{WithRoom};
 ghost use Rattle.methods.specs.Inner.{LentRoom, ChainStored};
-ghost use Rattle.compile.specs.Compile.{chainOf, count, acceptedRule, compileAnswer, compileSteps, compileOutputs};
-ghost use Rattle.compile.specs.Inner.{MeasuredFor, StepCountAsked, EmitAsked};
+ghost use Rattle.quote.specs.ByMethod.{chainOf, count};
+ghost use Rattle.quote.specs.Inner.{MeasuredFor};
+ghost use Rattle.compile.specs.Compile.{acceptedRule, compileAnswer, compileSteps, compileOutputs};
+ghost use Rattle.compile.specs.Inner.{EmitAsked};
 ghost use Rattle.answers.specs.Answers.{compiledOf};
 use answers::Compiled;
+use answers::Quoted;
 use chain::Judgement;
-
-// The largest amount of each column, for the methods that go by it: all but Straus.
-fn measure(p: usize, q: usize, amounts: &[u32], method: usize, largest: &mut [u32])
-    requires { ⌜ (p ≤ length (now largest)) × (length (now amounts) ≡ p * q) ⌝ }
-    ensures { λ r. ⌜ MeasuredFor method p q (now (amounts .entry)) (now (largest .exit)) ⌝ }
-{
-    if method != 1 {
-        measuring::measure_columns(p, q, amounts, largest);
-    }
-}
-
-// The number of steps of the chain, by its method.
-fn step_count(
-    p: usize,
-    q: usize,
-    amounts: &[u32],
-    method: usize,
-    k: usize,
-    largest: &[u32],
-) -> usize
-    requires { ⌜ StepCountAsked p q (now amounts) method k (now largest) ⌝ }
-    ensures { λ r. ⌜ r ≡ count p q (now (amounts .entry)) method k ⌝ }
-{
-    match method {
-        1 => straus_count::count(p, q, amounts, k),
-        2 => yao_count::count(p, q, amounts, k, largest),
-        _ => partition_count::count(p, q, amounts, k, largest),
-    }
-}
 
 // 1, 2, 3, 4: the number of steps where the sheet, the method and the parameter are accepted together; then the columns are measured too.
 fn judge_accepted(
@@ -55,23 +29,14 @@ fn judge_accepted(
     ensures { λ r. ⌜ compiledOf r ≡ answer (acceptedRule p q (now (amounts .entry)) method k) (count p q (now (amounts .entry)) method k ∷ []) ⌝ }
     ensures { λ r. ⌜ (acceptedRule p q (now (amounts .entry)) method k ≡ fine → MeasuredFor method p q (now (amounts .entry)) (now (largest .exit))) ⌝ }
 {
-    match sheet::judge_sheet(p, q, amounts) {
-        Judgement::Refused(number, place) => {
-            return Compiled::Refused(number, place);
+    match quote::judge_quote(p, q, amounts, method, k, largest) {
+        Quoted::Refused(number, place) => Compiled::Refused(number, place),
+        Quoted::Steps { count: n, ceiling } => {
+            match shape::judge_length(chain::MOST_STEPS, n) {
+                Judgement::Refused(number, place) => Compiled::Refused(number, place),
+                Judgement::Fine => Compiled::Steps(n),
+            }
         }
-        Judgement::Fine => {}
-    }
-    match parameters::judge_method(p, method, k) {
-        Judgement::Refused(number, place) => {
-            return Compiled::Refused(number, place);
-        }
-        Judgement::Fine => {}
-    }
-    measure(p, q, amounts, method, largest);
-    let n = step_count(p, q, amounts, method, k, largest);
-    match shape::judge_length(chain::MOST_STEPS, n) {
-        Judgement::Refused(number, place) => Compiled::Refused(number, place),
-        Judgement::Fine => Compiled::Steps(n),
     }
 }
 

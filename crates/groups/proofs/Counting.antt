@@ -9,7 +9,7 @@ use native.Mathlib.Omega.{arith}
 use lib.Pow.{pow-mono}
 use Rattle.digits.specs.Range.{sumTo}
 use Rattle.digits.proofs.Range.{sum-on, sum-low}
-use Rattle.groups.specs.Groups.{groupCeiling, groupCount, groupSize, mostInputs, mostMembers, tablesCount}
+use Rattle.groups.specs.Groups.{groupCount, groupSize, mostInputs, mostMembers, tablesCount}
 use Rattle.groups.specs.Inner.{bitsLess}
 use Rattle.groups.proofs.Groups.{inputs-below}
 
@@ -67,6 +67,7 @@ table-more g (suc c) h = by-size (table-more g c) (decLe g c)
     by-size ih (yes le) = rw (pow-suc 2 c) (omega (arith, ih le, inputs-below c))
     by-size ih (no gt) = let e : g ≡ suc c = omega arith in rw e (le-refl _)
 
-pub tables-ceiling : (c w : ℕ) → tablesCount c w (groupCount c w) ≤ groupCeiling c w
-tables-ceiling c w =
-    sum-low (groupCount c w) (λ g. 2 ^ groupSize c w g - groupSize c w g - 1) (2 ^ c - c - 1) (λ g h. table-more (groupSize c w g) c (omega arith))
+-- no group has a longer table than a full one
+pub tables-full : (c w n : ℕ) → tablesCount c w n ≤ n * (2 ^ c - c - 1)
+tables-full c w n =
+    sum-low n (λ g. 2 ^ groupSize c w g - groupSize c w g - 1) (2 ^ c - c - 1) (λ g h. table-more (groupSize c w g) c (omega arith))

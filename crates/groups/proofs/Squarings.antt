@@ -10,18 +10,14 @@ use Rattle.digits.proofs.Count.{count-zero, bits-some}
 use Rattle.digits.proofs.Range.{sum-same, sum-add, max-none}
 use Rattle.sheet.specs.Sheet.{amount}
 use Rattle.methods.specs.Powers.{largestIn}
-use Rattle.groups.specs.Groups.{columnBits, columnSquarings, inputCount, squaringCount}
+use Rattle.groups.specs.Groups.{columnBits, columnSquarings, columnsUsed, inputCount, squaringCount}
 
 module _ (p q : ℕ) (amounts : List ℕ) where
   -- a column is all 0 exactly if its largest amount is 0
   pub zero-column : (col : ℕ) → largestIn p q amounts col ≡ 0 ↔ ((i : ℕ) → i < q → amount p amounts i col ≡ 0)
   zero-column col = max-none q (λ i. amount p amounts i col)
 
-  -- how many columns are not all 0
-  abbrev pub columnsUsed : ℕ
-  columnsUsed = sumTo p (λ col. sign (largestIn p q amounts col))
-
-  pub squarings-less : squaringCount p q amounts + columnsUsed ≡ inputCount p q amounts
+  pub squarings-less : squaringCount p q amounts + columnsUsed p q amounts ≡ inputCount p q amounts
   unfolding columnBits bitLength
   squarings-less = sym (sum-add p _ _) ∙ sum-same p _ _ (λ col h. of-column col)
     where
@@ -33,5 +29,5 @@ module _ (p q : ℕ) (amounts : List ℕ) where
       of-column col = of-largest (largestIn p q amounts col)
 
   -- as the specification says it
-  pub squarings-are : squaringCount p q amounts ≡ inputCount p q amounts - columnsUsed
+  pub squarings-are : squaringCount p q amounts ≡ inputCount p q amounts - columnsUsed p q amounts
   squarings-are = omega (arith, squarings-less)

@@ -5,7 +5,7 @@ use lib.ListN.{length, take, drop}
 use Rattle.chain.specs.Chain.{mostColumns}
 use Rattle.chain.specs.declared.Step.{Step}
 use Rattle.digits.specs.Digits.{bitLength, digit}
-use Rattle.digits.specs.Range.{sumTo, listTo}
+use Rattle.digits.specs.Range.{sumTo, listTo, sign}
 use Rattle.sheet.specs.Sheet.{amount}
 use Rattle.tables.specs.Table.{table}
 use Rattle.methods.specs.Powers.{largestIn, squarings, powerOf}
@@ -45,13 +45,9 @@ groupTables p c members before (suc g) =
     let r = groupTables p c members before g in
     r ++ table 1 (group c g members) (p + length r + 1) (2 ^ length (group c g members))
 
--- Spec 3.7: the steps of the tables of the first n groups of w inputs
+-- Spec 3.7: the steps of the tables of the first n groups of w inputs, each group at its own size
 abbrev pub tablesCount : ℕ → ℕ → ℕ → ℕ
 tablesCount c w n = sumTo n (λ g. 2 ^ groupSize c w g - groupSize c w g - 1)
-
--- Spec 3.7: the tables' part of the ceiling
-abbrev pub groupCeiling : ℕ → ℕ → ℕ
-groupCeiling c w = groupCount c w * (2 ^ c - c - 1)
 
 -- of a sheet
 module _ (p q : ℕ) (amounts : List ℕ) where
@@ -84,6 +80,10 @@ module _ (p q : ℕ) (amounts : List ℕ) where
 
   abbrev pub sheetTables : ℕ → List Step
   sheetTables c = groupTables p c inputs sheetSquarings (groupCount c inputCount)
+
+  -- Spec 3.7: how many columns are not all 0
+  abbrev pub columnsUsed : ℕ
+  columnsUsed = sumTo p (λ col. sign (largestIn p q amounts col))
 
   -- Spec 3.7: the squarings; that they are w less the columns that are not all 0 is a law
   abbrev pub squaringCount : ℕ

@@ -7,8 +7,11 @@ use Rattle.chain.specs.Chain.{Chain, mostColumns, mostPayslips, mostSteps, flat
 use Rattle.chain.specs.Written.{over}
 use Rattle.chain.specs.declared.Step.{Step}
 use Rattle.digits.specs.Digits.{digitCount}
+use Rattle.digits.specs.Inner.{Bounded}
 use Rattle.products.specs.Inner.{StepsRoom}
+use Rattle.methods.specs.Method.{Method}
 use Rattle.methods.specs.Powers.{largestIn}
+use Rattle.methods.specs.declared.Quote.{Quote}
 
 -- a sheet whose sizes keep to their ranges
 pub record SheetSized (p q : ℕ) (amounts : List ℕ) : Type 0 where
@@ -36,6 +39,16 @@ pub record AskedByLargest (most p q : ℕ) (amounts : List ℕ) (k : ℕ) (cells
 -- the digits of one of some numbers in base 2^k
 abbrev pub digitsAt : ℕ → List ℕ → ℕ → ℕ
 digitsAt k numbers c = digitCount k (getD numbers c 0)
+
+-- a quote is that of a method
+pub record QuoteOf (t : Quote) (m : Method) : Type 0 where
+  pub count-is : t .count ≡ m .count
+  pub ceiling-is : t .ceiling ≡ m .ceiling
+
+-- a quote has these two numbers, neither of them large
+pub record QuoteWithin (t : Quote) (count ceiling most : ℕ) : Type 0 where
+  pub counted : Bounded (t .count) count most
+  pub ceiled : Bounded (t .ceiling) ceiling most
 
 -- room for so many steps and q outputs
 pub record LentRoom (q count : ℕ) (steps outputs : List ℕ) : Type 0 where

@@ -1,4 +1,4 @@
-// What the methods share: powers of the bases.
+// What the methods share: what they tell of a chain before it is made, and powers of the bases.
 ghost use mathlib.Core.Path.{_≡_};
 ghost use Prim.Native.Nat.{_+_, _^_, _≤_, _<_};
 ghost use lib.ListN.{length};
@@ -6,6 +6,12 @@ ghost use Rattle.chain.specs.Chain.{mostColumns};
 ghost use Rattle.products.specs.Inner.{WithRoom, StepsRoom, StepsStored};
 ghost use Rattle.methods.specs.Powers.{countsOf, squarings, powerAt};
 use products::PartialProduct;
+
+// How many steps a chain has, and the most that its method takes for such a sheet.
+pub struct Quote {
+    pub count: usize,
+    pub ceiling: usize,
+}
 
 // The value number of the base of column c after j squarings, which are made after value first.
 pub fn power_at(c: usize, first: usize, j: usize) -> u32

@@ -15,7 +15,6 @@ use Rattle.products.proofs.Product.{Result, result-like}
 use Rattle.methods.proofs.Powers.{squarings-count}
 use Rattle.methods.proofs.Payslips.{Pays, payslips-make, payslips-count}
 use Rattle.groups.specs.Groups.{columnSquarings, group, groupCount, inputCount, inputs, selection, sheetSquarings, sheetTables, squaringCount, tablesCount, weigh}
-use Rattle.groups.proofs.Counting.{tables-ceiling}
 use Rattle.groups.proofs.Members.{exponentIn, members-count, members-some, selection-sum, selection-two}
 use Rattle.groups.proofs.Parts.{uses}
 use Rattle.groups.proofs.Prepared.{selected, selection-long, sheet-tables}
@@ -27,9 +26,7 @@ use Rattle.partition.proofs.Parts.{parts-count, parts-make}
 pub partition-ceiling : (p q : ℕ) (amounts : List ℕ) (c : ℕ) → partitionCount p q amounts c ≤ partitionCeiling p q amounts c
 unfolding partitionCount partitionCeiling
 partition-ceiling p q amounts c =
-    let w : ℕ = inputCount p q amounts in
-    let G : ℕ = groupCount c w in
-    let tables = tables-ceiling c w in
+    let G : ℕ = groupCount c (inputCount p q amounts) in
     let joins =
     sum-low q (joinCount p q amounts c G) (G - 1) (λ i h. omega (arith, signs-low G (λ g. weigh (group c g (selection p q amounts i))))) in
     omega arith

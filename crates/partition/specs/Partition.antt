@@ -8,7 +8,7 @@ use Rattle.chain.specs.declared.Step.{Step}
 use Rattle.digits.specs.Range.{sumTo, sign}
 use Rattle.products.specs.Product.{Made, made, times, payslips}
 use Rattle.tables.specs.Table.{entry}
-use Rattle.groups.specs.Groups.{group, groupCeiling, groupCount, groupTables, inputCount, inputs, selection, sheetSquarings, sheetTables, squaringCount, tablesCount, weigh}
+use Rattle.groups.specs.Groups.{group, groupCount, groupTables, inputCount, inputs, selection, sheetSquarings, sheetTables, squaringCount, tablesCount, weigh}
 
 -- Spec 3.7: a payslip's product after the parts of the first g groups; an empty part changes nothing
 abbrev pub parts : ℕ → ℕ → List ℕ → List Step → List ℕ → List Step → ℕ → Made
@@ -37,8 +37,8 @@ module _ (p q : ℕ) (amounts : List ℕ) (c : ℕ) where
       let w = inputCount p q amounts in
       squaringCount p q amounts + tablesCount c w (groupCount c w) + sumTo q (joinCount (groupCount c w))
 
-  -- Spec 3.7: the ceiling; where w is 0, so are the squarings and the groups
+  -- Spec 3.7, Req 04: the ceiling, with each group's table at the group's own size; where w is 0, so are the squarings and the groups
   unfoldable pub partitionCeiling : ℕ
   partitionCeiling =
       let w = inputCount p q amounts in
-      squaringCount p q amounts + groupCeiling c w + q * (groupCount c w - 1)
+      squaringCount p q amounts + tablesCount c w (groupCount c w) + q * (groupCount c w - 1)

@@ -1,17 +1,22 @@
 -- The steps of a payslip are counted by the signs of its parts' numbers, one less than they add up to; the payslips' are added up.
 use mathlib.Core.Path.{_≡_, sym, ap, ap₂, _∙_}
 use mathlib.Core.List.{List}
-use Prim.Native.Nat.{ℕ, _+_, _-_, _≤_}
+use Prim.Native.Nat.{ℕ, _+_, _-_, _*_, _≤_}
+use native.Mathlib.Nat.{mul-le-mul}
 use native.Mathlib.Omega.{arith}
 use lib.ListN.{length, getD, take}
+use Rattle.chain.specs.Chain.{mostPayslips}
 use Rattle.chain.specs.Written.{over}
 use Rattle.digits.specs.Range.{sumTo, sign}
 use Rattle.digits.proofs.Range.{sum-on, sum-same, sign-low}
+use Rattle.methods.specs.Inner.{QuoteOf}
+use Rattle.methods.specs.declared.Quote.{Quote}
 use Rattle.groups.specs.declared.Grouping.{Grouping}
-use Rattle.groups.specs.Groups.{tablesCount}
+use Rattle.groups.specs.Groups.{mostInputs, tablesCount}
 use Rattle.groups.specs.Inner.{Grouped, GroupedFor, partNumbers}
 use Rattle.groups.proofs.Measured.{as-given, grouped-count, numbers-at, numbers-long}
-use Rattle.partition.specs.Partition.{joinCount, partitionCount}
+use Rattle.partition.specs.Partition.{joinCount, partitionCount, partitionCeiling}
+use Rattle.partition.specs.Method.{partitionMethod}
 
 -- how many parts are not empty, of the first n
 abbrev pub signsTo : List ℕ → ℕ → ℕ
@@ -42,17 +47,26 @@ joins-told s amounts i old cells e r is =
     ∙ ap (λ (n : ℕ). signsTo (take (s .groups) cells) n - 1) (sym (numbers-long s amounts i old cells e))
     ∙ ap (λ (n : ℕ). n - 1) (sum-same (s .groups) _ _ (λ g h. ap sign (numbers-at s amounts i old cells e g h)))
 
--- the squarings, the tables and the payslips of a grouped sheet
-pub count-all : (s : Grouping) (amounts bits : List ℕ) → Grouped s amounts bits → (b r : ℕ) → b ≡ tablesCount (s .c) (s .inputs) (s .groups)
-    → r ≡ sumTo (s .q) (joinCount (s .p) (s .q) amounts (s .c) (s .groups)) → s .squarings + b + r ≡ partitionCount (s .p) (s .q) amounts (s .c)
-unfolding partitionCount
-count-all s amounts bits grouped b r tables joins =
+-- the squarings, the tables and the payslips of a grouped sheet; for the ceiling a payslip has a part of every group
+pub quote-all : (s : Grouping) (amounts bits : List ℕ) → Grouped s amounts bits → (b r l : ℕ) → b ≡ tablesCount (s .c) (s .inputs) (s .groups)
+    → r ≡ sumTo (s .q) (joinCount (s .p) (s .q) amounts (s .c) (s .groups)) → l ≡ s .groups - 1
+    → QuoteOf (record { count = s .squarings + b + r; ceiling = s .squarings + b + s .q * l }) (partitionMethod (s .p) (s .q) amounts (s .c))
+unfolding partitionCount partitionCeiling
+quote-all s amounts bits grouped b r l tables joins most =
     let G = grouped-count grouped in
-    ap₂ _+_
-    (ap₂ _+_ (grouped .squarings-are) (tables ∙ ap₂ (tablesCount (s .c)) (grouped .inputs-are) G))
-    (joins ∙ ap (λ (n : ℕ). sumTo (s .q) (joinCount (s .p) (s .q) amounts (s .c) n)) G)
+    let before = ap₂ _+_ (grouped .squarings-are) (tables ∙ ap₂ (tablesCount (s .c)) (grouped .inputs-are) G) in
+    record {
+      count-is = ap₂ _+_ before (joins ∙ ap (λ (n : ℕ). sumTo (s .q) (joinCount (s .p) (s .q) amounts (s .c) n)) G);
+      ceiling-is = ap₂ _+_ before (ap (λ (n : ℕ). s .q * n) (most ∙ ap (λ (n : ℕ). n - 1) G));
+    }
+
+-- few payslips with few parts each
+pub most-fits : (s : Grouping) (amounts bits : List ℕ) → Grouped s amounts bits → (l : ℕ) → l ≡ s .groups - 1 → s .q * l ≤ mostPayslips * mostInputs
+most-fits s amounts bits grouped l e =
+    let low : l ≤ mostInputs = omega (arith, grouped .cuts .groups-few) in
+    mul-le-mul (grouped .sheet .q-low) low
 
 -- a sheet's grouping stands for what was given
-pub count-given : {p q : ℕ} {amounts : List ℕ} {c : ℕ} {bits : List ℕ} {s : Grouping} → GroupedFor p q amounts c bits s
-    → {r : ℕ} → r ≡ partitionCount (s .p) (s .q) amounts (s .c) → r ≡ partitionCount p q amounts c
-count-given {amounts = amounts} told e = e ∙ as-given (λ p q c. partitionCount p q amounts c) told
+pub quote-given : {p q : ℕ} {amounts : List ℕ} {c : ℕ} {bits : List ℕ} {s : Grouping} → GroupedFor p q amounts c bits s
+    → {t : Quote} → QuoteOf t (partitionMethod (s .p) (s .q) amounts (s .c)) → QuoteOf t (partitionMethod p q amounts c)
+quote-given {amounts = amounts} told e = rw (← as-given (λ p q c. partitionMethod p q amounts c) told) e

@@ -1,16 +1,17 @@
-// Method 3, partition: the number of steps, without making them.
-ghost use mathlib.Core.Path.{_≡_};
+// Method 3, partition: the number of steps and its ceiling, without making the steps.
 ghost use Prim.Native.Nat.{_-_, _*_, _≤_};
 ghost use lib.ListN.{length};
 ghost use Rattle.digits.specs.Range.{sumTo, sign};
 ghost use Rattle.methods.specs.Powers.{countsOf};
-ghost use Rattle.methods.specs.Inner.{AskedByLargest};
+ghost use Rattle.methods.specs.Inner.{AskedByLargest, QuoteOf};
 ghost use Rattle.groups.specs.Groups.{mostInputs, mostMembers};
 ghost use Rattle.digits.specs.Inner.{Bounded};
 ghost use Rattle.groups.specs.Inner.{Grouped, PartsRoom};
-ghost use Rattle.partition.specs.Partition.{joinCount, partitionCount};
+ghost use Rattle.partition.specs.Partition.{joinCount};
+ghost use Rattle.partition.specs.Method.{partitionMethod};
 ghost use Rattle.partition_count.specs.Inner.{TallyRoom};
 use groups::Grouping;
+use methods::Quote;
 
 // The steps of a payslip with these parts: those that are not empty less 1.
 fn joins(numbers: &[u32]) -> usize
@@ -53,22 +54,27 @@ fn payslips_count(s: Grouping, amounts: &[u32], bits: &[u32], cells: &mut [u32])
     n
 }
 
-// The steps of the squarings, of the groups' tables and of the payslips.
-fn chain_count(s: Grouping, amounts: &[u32], bits: &[u32]) -> usize
+// The steps of the squarings and of the groups' tables, and those of the payslips or, for the ceiling, as many as there are groups but one for each.
+fn chain_quote(s: Grouping, amounts: &[u32], bits: &[u32]) -> Quote
     requires { ⌜ Grouped s (now amounts) (now bits) ⌝ }
-    ensures { λ r. ⌜ r ≡ partitionCount (s .p) (s .q) (now (amounts .entry)) (s .c) ⌝ }
+    ensures { λ r. ⌜ QuoteOf r (partitionMethod (s .p) (s .q) (now (amounts .entry)) (s .c)) ⌝ }
 {
-    let n = s.squarings + subsets::tables_count(s);
+    let before = s.squarings + subsets::tables_count(s);
     let mut cells = [0u32; groups::MOST_INPUTS];
-    n + payslips_count(s, amounts, bits, &mut cells)
+    let count = before + payslips_count(s, amounts, bits, &mut cells);
+    let ceiling = before + s.q * counting::lessened(s.groups, 1);
+    Quote {
+        count: count,
+        ceiling: ceiling,
+    }
 }
 
-// The number of steps of the chain.
-pub fn count(p: usize, q: usize, amounts: &[u32], c: usize, largest: &[u32]) -> usize
+// The number of steps of the chain, and its ceiling.
+pub fn quote(p: usize, q: usize, amounts: &[u32], c: usize, largest: &[u32]) -> Quote
     requires { ⌜ AskedByLargest mostMembers p q (now amounts) c (now largest) ⌝ }
-    ensures { λ r. ⌜ r ≡ partitionCount p q (now (amounts .entry)) c ⌝ }
+    ensures { λ r. ⌜ QuoteOf r (partitionMethod p q (now (amounts .entry)) c) ⌝ }
 {
     let mut bits = [0u32; chain::MOST_COLUMNS];
     let s = groups::group_columns(p, q, c, largest, &mut bits);
-    chain_count(s, amounts, &bits[..p])
+    chain_quote(s, amounts, &bits[..p])
 }

@@ -16,7 +16,8 @@ use Rattle.verify.specs.Verify.{verifyRule}
 use Rattle.run.specs.Run.{residues, runRule, runFigures}
 use Rattle.layout.specs.Layout.{edition1}
 use Rattle.layout.specs.File.{lengthOf, stepsOf, columnsOf, outputsOf}
-use Rattle.compile.specs.Compile.{count, ceiling, acceptedRule}
+use Rattle.quote.specs.ByMethod.{count, ceiling}
+use Rattle.compile.specs.Compile.{acceptedRule}
 use Rattle.path.specs.Path.{Lent, compiled, written, compiles, writes, reads, checks, beforeRun, runs, pathAnswer, pathLeaves}
 use Rattle.path.specs.Demand3.{LongEnough, Receivable, Demand3}
 use Rattle.path.proofs.Promised.{Promised, promised}

@@ -19,10 +19,11 @@ use Rattle.run.proofs.Residues.{figure-law}
 use Rattle.layout.specs.Layout.{edition1}
 use Rattle.layout.specs.File.{byteCount, fileOf, Held, writeRule, readRule}
 use Rattle.layout.proofs.ReadingBack.{ReadBack}
-use Rattle.compile.specs.Compile.{methodOf, chainOf, count, ceiling, acceptedRule, compileRule}
+use Rattle.quote.specs.ByMethod.{methodOf, chainOf, count, ceiling}
+use Rattle.compile.specs.Compile.{acceptedRule, compileRule}
 use Rattle.compile.proofs.Fits.{Accepted, accepted}
 use Rattle.methods.proofs.Right.{Right}
-use Rattle.compile.proofs.Right.{compiled-right}
+use Rattle.quote.proofs.Right.{compiled-right}
 use Rattle.path.proofs.Demand2.{legal-held, legal-reads, legal-gives}
 
 -- what is promised of the chain c of an accepted sheet, with n its count and most its ceiling

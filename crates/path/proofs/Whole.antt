@@ -16,7 +16,8 @@ use Rattle.layout.specs.File.{columnsOf, lengthOf, stepsOf, outputsOf, writeByt
 use Rattle.answers.specs.declared.Reading.{Reading}
 use Rattle.answers.specs.declared.Reading.the-variants as reading
 use Rattle.reading.proofs.Told.{ChainTaken, taken}
-use Rattle.compile.specs.Compile.{count, compileSteps, compileOutputs}
+use Rattle.quote.specs.ByMethod.{count}
+use Rattle.compile.specs.Compile.{compileSteps, compileOutputs}
 use Rattle.dispatch.specs.Inner.{dispatchAnswer, dispatchSteps, dispatchOutputs, Dispatched}
 use Rattle.dispatch.proofs.Dispatching.{after-answer}
 use Rattle.receive.specs.Inner.{receiveAnswer, receiveValues, receiveFigures, Received}

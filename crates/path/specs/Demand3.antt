@@ -8,7 +8,8 @@ use Rattle.residue.specs.Residue.{figure}
 use Rattle.verify.specs.Verify.{scratchSize}
 use Rattle.layout.specs.Layout.{edition1}
 use Rattle.layout.specs.File.{byteCount}
-use Rattle.compile.specs.Compile.{count, ceiling, acceptedRule}
+use Rattle.quote.specs.ByMethod.{count, ceiling}
+use Rattle.compile.specs.Compile.{acceptedRule}
 use Rattle.path.specs.Path.{Lent, beforeRun}
 
 -- Spec 10.4: every slice has a cell for what its call puts there, for p columns, q payslips and n steps

@@ -8,7 +8,8 @@ use Rattle.verify.specs.Verify.{verifyRule, verifyScratch}
 use Rattle.run.specs.Run.{runRule, runValues, runFigures}
 use Rattle.layout.specs.Layout.{edition1}
 use Rattle.layout.specs.File.{columnsOf, lengthOf, stepsOf, outputsOf, fileOf, writeRule, writeBytes, readRule, readSteps, readOutputs}
-use Rattle.compile.specs.Compile.{chainOf, count, compileRule, compileSteps, compileOutputs}
+use Rattle.quote.specs.ByMethod.{chainOf, count}
+use Rattle.compile.specs.Compile.{compileRule, compileSteps, compileOutputs}
 
 -- the slices lent for results and scratch, steps in turn: those of compile, write, read, check and run
 pub record Lent : Type 0 where

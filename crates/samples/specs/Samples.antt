@@ -11,7 +11,7 @@ use Rattle.verify.specs.Verify.{verifyRule}
 use Rattle.layout.specs.Layout.{edition1}
 use Rattle.layout.specs.File.{fileOf, stepsOf, outputsOf, readRule}
 use Rattle.parameters.specs.Parameters.{methodRule}
-use Rattle.compile.specs.Compile.{chainOf, count, ceiling}
+use Rattle.quote.specs.ByMethod.{chainOf, count, ceiling}
 use Rattle.trials.specs.Rows.{Row, _gives_, Holds, rows-hold, same, definitions}
 
 -- a code where something is wrong

@@ -6,6 +6,7 @@ ghost use Prim.Native.Nat.{_/_};
 ghost use lib.ListN.{length};
 ghost use Rattle.chain.specs.Chain.{pairs};
 ghost use Rattle.chain.specs.Written.{over};
+ghost use Rattle.quote.specs.ByMethod.{ceilingAnswer};
 ghost use Rattle.compile.specs.Compile.{compileAnswer, compileSteps, compileOutputs};
 ghost use Rattle.layout.specs.Layout.{edition1};
 ghost use Rattle.layout.specs.File.{extentAnswer, writeAnswer, writeBytes, readAnswer, readSteps, readOutputs};
@@ -18,6 +19,23 @@ ghost use Rattle.listing.specs.Listing.{listing};
 ghost use Rattle.path.specs.Path.{lent, pathAnswer, pathLeaves};
 ghost use Rattle.tell.specs.Told.{numberOf, wordsOf, choiceAnswer};
 use chain::Step;
+
+// The number of steps of the chain that a method makes of a sheet, and its ceiling.
+#[no_mangle]
+pub extern "C" fn spoutbasket_ceiling(
+    p: usize,
+    q: usize,
+    amounts: &[u32],
+    method: usize,
+    k: usize,
+    answer: &mut [u64; 4],
+) -> u32
+    ensures { λ r. ⌜ r ≡ numberOf (ceilingAnswer p q (now (amounts .entry)) method k) ⌝ }
+    ensures { λ r. ⌜ now (answer .exit) ≡ wordsOf (ceilingAnswer p q (now (amounts .entry)) method k) ⌝ }
+{
+    let quoted = quote::ceiling(p, q, amounts, method, k);
+    tell_sender::tell_quoted(quoted, answer)
+}
 
 // A sheet compiled by the method of a number and its parameter.
 #[no_mangle]

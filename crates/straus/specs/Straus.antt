@@ -52,6 +52,10 @@ module _ (p : ℕ) (amounts : List ℕ) (k : ℕ) where
       let J = strausDigits i in
       (J - 1) * k + sumTo (J - 1) (λ j. sign (digitVector i j))
 
+  -- Spec 3.5: the ceiling's part for payslip i
+  abbrev pub strausPayslipCeiling : ℕ → ℕ
+  strausPayslipCeiling i = (strausDigits i - 1) * (k + 1)
+
 module _ (p q : ℕ) (amounts : List ℕ) (k : ℕ) where
   unfoldable pub straus : Chain
   straus = payslips (strausPayslip p amounts k) (strausTable p k) q
@@ -62,7 +66,7 @@ module _ (p q : ℕ) (amounts : List ℕ) (k : ℕ) where
 
   -- Spec 3.5: the ceiling
   unfoldable pub strausCeiling : ℕ
-  strausCeiling = 2 ^ (p * k) - p - 1 + sumTo q (λ i. (strausDigits p amounts k i - 1) * (k + 1))
+  strausCeiling = 2 ^ (p * k) - p - 1 + sumTo q (strausPayslipCeiling p amounts k)
 
   abbrev pub strausMethod : Method
   strausMethod = record { chain = straus; count = strausCount; ceiling = strausCeiling }

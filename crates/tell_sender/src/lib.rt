@@ -1,12 +1,23 @@
-// How what the sheet's sender calls answers across the C interface: compile, write, the whole path, and the fields of
-// a sheet, read or written.
-ghost use Rattle.answers.specs.Answers.{compiledOf, writtenOf, figuredOf, transferredOf};
+// How what the sheet's sender calls answers across the C interface: the ceiling, compile, write, the whole path, and the
+// fields of a sheet, read or written.
+ghost use Rattle.answers.specs.Answers.{quotedOf, compiledOf, writtenOf, figuredOf, transferredOf};
 ghost use Rattle.tell.specs.Inner.{ToldAs};
 use answers::Compiled;
 use answers::Figured;
+use answers::Quoted;
 use answers::Transferred;
 use answers::Written;
 use tell::tell;
+
+// What was answered to who asked for the ceiling.
+pub fn tell_quoted(quoted: Quoted, answer: &mut [u64; 4]) -> u32
+    ensures { λ r. ⌜ ToldAs (quotedOf quoted) r (now (answer .exit)) ⌝ }
+{
+    match quoted {
+        Quoted::Refused(number, place) => tell(number, place, 0, 0, answer),
+        Quoted::Steps { count, ceiling } => tell(0, count, ceiling, 0, answer),
+    }
+}
 
 // What a compile answered.
 pub fn tell_compiled(compiled: Compiled, answer: &mut [u64; 4]) -> u32

@@ -24,7 +24,8 @@ use Rattle.yao.specs.Yao.{yaoDigits, gatherOne, yao, yaoCount, yaoCeiling}
 use Rattle.groups.specs.Groups.{columnBits, inputs, selection}
 use Rattle.partition.specs.Partition.{partition, partitionCount, partitionCeiling}
 use Rattle.parameters.specs.Parameters.{methodRule}
-use Rattle.compile.specs.Compile.{methodOf, acceptedRule, compileRule, compileAnswer, compileSteps, compileOutputs}
+use Rattle.quote.specs.ByMethod.{methodOf, countRule, ceilingAnswer}
+use Rattle.compile.specs.Compile.{acceptedRule, compileRule, compileAnswer, compileSteps, compileOutputs}
 use Rattle.choose.specs.Choose.{fileRule, better, unless, chooseRule, choice}
 use Rattle.answers.specs.Answers.{Choice, first, second, neither}
 use Rattle.decimal.specs.Decimal.{decimal}
@@ -114,7 +115,7 @@ unfolding times entry tableNext strausDigits straus strausCount strausCeiling ya
 methodDefinitions = tt
 
 unfoldable pub compileDefinitions : Unit {0}
-unfolding partition partitionCount partitionCeiling methodRule methodOf acceptedRule compileRule compileAnswer compileSteps compileOutputs
+unfolding partition partitionCount partitionCeiling methodRule methodOf countRule ceilingAnswer acceptedRule compileRule compileAnswer compileSteps compileOutputs
 compileDefinitions = tt
 
 -- the chooser and the lister

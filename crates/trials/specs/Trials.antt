@@ -9,7 +9,8 @@ use Rattle.verify.specs.Verify.{verifyAnswer, verifyScratch}
 use Rattle.run.specs.Run.{runAnswer, runValues, runFigures}
 use Rattle.layout.specs.Layout.{edition1}
 use Rattle.layout.specs.File.{writeAnswer, writeBytes, readAnswer, readSteps, readOutputs}
-use Rattle.compile.specs.Compile.{count, ceiling, compileAnswer, compileSteps, compileOutputs}
+use Rattle.quote.specs.ByMethod.{count, ceiling}
+use Rattle.compile.specs.Compile.{compileAnswer, compileSteps, compileOutputs}
 use Rattle.listing.specs.Listing.{listing}
 use Rattle.trials.specs.Rows.{Row, _gives_, Holds, rows-hold, answered, definitions}
 

@@ -6,7 +6,8 @@ use lib.ListN.{length, getD, drop}
 use Rattle.chain.specs.Chain.{Chain, flat, pick, stepsRule}
 use Rattle.run.specs.Run.{residues}
 use Rattle.straus.specs.Straus.{strausTable}
-use Rattle.compile.specs.Compile.{chainOf, count, ceiling, acceptedRule}
+use Rattle.quote.specs.ByMethod.{chainOf, count, ceiling}
+use Rattle.compile.specs.Compile.{acceptedRule}
 use Rattle.trials.specs.Rows.{Row, _gives_, Holds, rows-hold, verdict, definitions}
 
 -- the count, the ceiling, the steps in turn and the outputs
@@ -34,13 +35,13 @@ methodRows =
     ∷ compiles 3 1 (0 ∷ 9 ∷ 2 ∷ []) 2 1 gives (6 ∷ 9 ∷ 2 ∷ 2 ∷ 4 ∷ 4 ∷ 5 ∷ 5 ∷ 3 ∷ 3 ∷ 6 ∷ 2 ∷ 8 ∷ 7 ∷ 9 ∷ [])
     -- partition: (7,12) with c = 2, where group 2 holds 4 of column 1 and the base of column 2
     ∷ compiles 2 1 (7 ∷ 12 ∷ []) 3 2
-    gives (11 ∷ 12 ∷ 1 ∷ 1 ∷ 3 ∷ 3 ∷ 2 ∷ 2 ∷ 5 ∷ 5 ∷ 6 ∷ 6 ∷ 3 ∷ 1 ∷ 4 ∷ 2 ∷ 6 ∷ 5 ∷ 8 ∷ 4 ∷ 11 ∷ 6 ∷ 12 ∷ 7 ∷ 13 ∷ [])
+    gives (11 ∷ 11 ∷ 1 ∷ 1 ∷ 3 ∷ 3 ∷ 2 ∷ 2 ∷ 5 ∷ 5 ∷ 6 ∷ 6 ∷ 3 ∷ 1 ∷ 4 ∷ 2 ∷ 6 ∷ 5 ∷ 8 ∷ 4 ∷ 11 ∷ 6 ∷ 12 ∷ 7 ∷ 13 ∷ [])
     -- a short last group: five inputs, c = 4
     ∷ compiles 1 2 (19 ∷ 8 ∷ []) 3 4
-    gives (16 ∷ 28 ∷ 1 ∷ 1 ∷ 2 ∷ 2 ∷ 3 ∷ 3 ∷ 4 ∷ 4 ∷ 2 ∷ 1 ∷ 3 ∷ 1 ∷ 3 ∷ 2 ∷ 8 ∷ 1 ∷ 4 ∷ 1 ∷ 4 ∷ 2 ∷ 11 ∷ 1 ∷ 4 ∷ 3 ∷ 13 ∷ 1 ∷ 13 ∷ 2 ∷ 15
+    gives (16 ∷ 17 ∷ 1 ∷ 1 ∷ 2 ∷ 2 ∷ 3 ∷ 3 ∷ 4 ∷ 4 ∷ 2 ∷ 1 ∷ 3 ∷ 1 ∷ 3 ∷ 2 ∷ 8 ∷ 1 ∷ 4 ∷ 1 ∷ 4 ∷ 2 ∷ 11 ∷ 1 ∷ 4 ∷ 3 ∷ 13 ∷ 1 ∷ 13 ∷ 2 ∷ 15
     ∷ 1 ∷ 6 ∷ 5 ∷ 17 ∷ 4 ∷ [])
     -- zero columns, giving no input
-    ∷ compiles 3 2 (0 ∷ 3 ∷ 0 ∷ 0 ∷ 1 ∷ 4 ∷ []) 3 2 gives (6 ∷ 10 ∷ 2 ∷ 2 ∷ 3 ∷ 3 ∷ 5 ∷ 5 ∷ 4 ∷ 2 ∷ 5 ∷ 3 ∷ 6 ∷ 2 ∷ 7 ∷ 9 ∷ [])
+    ∷ compiles 3 2 (0 ∷ 3 ∷ 0 ∷ 0 ∷ 1 ∷ 4 ∷ []) 3 2 gives (6 ∷ 9 ∷ 2 ∷ 2 ∷ 3 ∷ 3 ∷ 5 ∷ 5 ∷ 4 ∷ 2 ∷ 5 ∷ 3 ∷ 6 ∷ 2 ∷ 7 ∷ 9 ∷ [])
     -- Spec 3.6: equal digits, the lowest power first: three of them, and two on both sides of another digit
     ∷ compiles 1 1 (7 ∷ []) 2 1 gives (4 ∷ 4 ∷ 1 ∷ 1 ∷ 2 ∷ 2 ∷ 2 ∷ 1 ∷ 4 ∷ 3 ∷ 5 ∷ [])
     ∷ compiles 1 1 (55 ∷ []) 2 2 gives (8 ∷ 8 ∷ 1 ∷ 1 ∷ 2 ∷ 2 ∷ 3 ∷ 3 ∷ 4 ∷ 4 ∷ 5 ∷ 1 ∷ 6 ∷ 6 ∷ 6 ∷ 3 ∷ 8 ∷ 7 ∷ 9 ∷ [])
@@ -54,7 +55,7 @@ methodRows =
     -- Spec 3.2: a payslip of zeros between others makes no step and has output 0; its place in the ceilings of 3.5 to 3.7
     ∷ compiles 1 3 (5 ∷ 0 ∷ 3 ∷ []) 1 1 gives (5 ∷ 6 ∷ 1 ∷ 1 ∷ 2 ∷ 2 ∷ 3 ∷ 1 ∷ 1 ∷ 1 ∷ 5 ∷ 1 ∷ 4 ∷ 0 ∷ 6 ∷ [])
     ∷ compiles 1 3 (5 ∷ 0 ∷ 3 ∷ []) 2 1 gives (4 ∷ 6 ∷ 1 ∷ 1 ∷ 2 ∷ 2 ∷ 3 ∷ 1 ∷ 2 ∷ 1 ∷ 4 ∷ 0 ∷ 5 ∷ [])
-    ∷ compiles 1 3 (5 ∷ 0 ∷ 3 ∷ []) 3 2 gives (4 ∷ 7 ∷ 1 ∷ 1 ∷ 2 ∷ 2 ∷ 2 ∷ 1 ∷ 3 ∷ 1 ∷ 5 ∷ 0 ∷ 4 ∷ [])
+    ∷ compiles 1 3 (5 ∷ 0 ∷ 3 ∷ []) 3 2 gives (4 ∷ 6 ∷ 1 ∷ 1 ∷ 2 ∷ 2 ∷ 2 ∷ 1 ∷ 3 ∷ 1 ∷ 5 ∷ 0 ∷ 4 ∷ [])
     ∷ compiles 2 3 (3 ∷ 1 ∷ 0 ∷ 0 ∷ 2 ∷ 5 ∷ []) 1 1 gives (7 ∷ 7 ∷ 2 ∷ 1 ∷ 1 ∷ 1 ∷ 4 ∷ 3 ∷ 2 ∷ 2 ∷ 6 ∷ 1 ∷ 7 ∷ 7 ∷ 8 ∷ 2 ∷ 5 ∷ 0 ∷ 9 ∷ [])
     ∷ compiles 2 3 (3 ∷ 1 ∷ 0 ∷ 0 ∷ 2 ∷ 5 ∷ []) 2 2 gives (8 ∷ 14 ∷ 2 ∷ 2 ∷ 3 ∷ 3 ∷ 1 ∷ 1 ∷ 5 ∷ 1 ∷ 6 ∷ 2 ∷ 1 ∷ 1 ∷ 4 ∷ 2 ∷ 9 ∷ 8 ∷ 7 ∷ 0 ∷ 10 ∷ [])
     ∷ compiles 2 3 (3 ∷ 1 ∷ 0 ∷ 0 ∷ 2 ∷ 5 ∷ []) 3 1 gives (7 ∷ 15 ∷ 1 ∷ 1 ∷ 2 ∷ 2 ∷ 4 ∷ 4 ∷ 3 ∷ 1 ∷ 6 ∷ 2 ∷ 3 ∷ 2 ∷ 8 ∷ 5 ∷ 7 ∷ 0 ∷ 9 ∷ [])
@@ -92,14 +93,14 @@ methodRows =
     ∷ compiles 1 1 (42 ∷ []) 2 3 gives (8 ∷ 10 ∷ 1 ∷ 1 ∷ 2 ∷ 2 ∷ 3 ∷ 3 ∷ 4 ∷ 4 ∷ 5 ∷ 4 ∷ 4 ∷ 1 ∷ 7 ∷ 6 ∷ 8 ∷ 7 ∷ 9 ∷ [])
     -- Spec 3.7: a group's table in rising t, of one column and over the border of two
     ∷ compiles 1 1 (7 ∷ []) 3 3 gives (6 ∷ 6 ∷ 1 ∷ 1 ∷ 2 ∷ 2 ∷ 2 ∷ 1 ∷ 3 ∷ 1 ∷ 3 ∷ 2 ∷ 6 ∷ 1 ∷ 7 ∷ [])
-    ∷ compiles 2 1 (3 ∷ 3 ∷ []) 3 3 gives (7 ∷ 11 ∷ 1 ∷ 1 ∷ 2 ∷ 2 ∷ 3 ∷ 1 ∷ 2 ∷ 1 ∷ 3 ∷ 2 ∷ 7 ∷ 1 ∷ 8 ∷ 4 ∷ 9 ∷ [])
+    ∷ compiles 2 1 (3 ∷ 3 ∷ []) 3 3 gives (7 ∷ 7 ∷ 1 ∷ 1 ∷ 2 ∷ 2 ∷ 3 ∷ 1 ∷ 2 ∷ 1 ∷ 3 ∷ 2 ∷ 7 ∷ 1 ∷ 8 ∷ 4 ∷ 9 ∷ [])
     -- Spec 3.7: groups are cut from the first input on, the last one shorter: five inputs in groups of two and of three
-    ∷ compiles 1 1 (31 ∷ []) 3 2 gives (8 ∷ 9 ∷ 1 ∷ 1 ∷ 2 ∷ 2 ∷ 3 ∷ 3 ∷ 4 ∷ 4 ∷ 2 ∷ 1 ∷ 4 ∷ 3 ∷ 7 ∷ 6 ∷ 8 ∷ 5 ∷ 9 ∷ [])
-    ∷ compiles 1 1 (31 ∷ []) 3 3 gives (10 ∷ 13 ∷ 1 ∷ 1 ∷ 2 ∷ 2 ∷ 3 ∷ 3 ∷ 4 ∷ 4 ∷ 2 ∷ 1 ∷ 3 ∷ 1 ∷ 3 ∷ 2 ∷ 8 ∷ 1 ∷ 5 ∷ 4 ∷ 10 ∷ 9 ∷ 11 ∷ [])
+    ∷ compiles 1 1 (31 ∷ []) 3 2 gives (8 ∷ 8 ∷ 1 ∷ 1 ∷ 2 ∷ 2 ∷ 3 ∷ 3 ∷ 4 ∷ 4 ∷ 2 ∷ 1 ∷ 4 ∷ 3 ∷ 7 ∷ 6 ∷ 8 ∷ 5 ∷ 9 ∷ [])
+    ∷ compiles 1 1 (31 ∷ []) 3 3 gives (10 ∷ 10 ∷ 1 ∷ 1 ∷ 2 ∷ 2 ∷ 3 ∷ 3 ∷ 4 ∷ 4 ∷ 2 ∷ 1 ∷ 3 ∷ 1 ∷ 3 ∷ 2 ∷ 8 ∷ 1 ∷ 5 ∷ 4 ∷ 10 ∷ 9 ∷ 11 ∷ [])
     -- Spec 3.7: payslips with one part that is not empty, in the first group, in the second, and with both in the order of the groups
     ∷ compiles 1 3 (12 ∷ 3 ∷ 15 ∷ []) 3 2 gives (6 ∷ 8 ∷ 1 ∷ 1 ∷ 2 ∷ 2 ∷ 3 ∷ 3 ∷ 2 ∷ 1 ∷ 4 ∷ 3 ∷ 6 ∷ 5 ∷ 6 ∷ 5 ∷ 7 ∷ [])
     ∷ compiles 2 2 (9 ∷ 1 ∷ 0 ∷ 3 ∷ []) 3 4
-    gives (17 ∷ 28 ∷ 1 ∷ 1 ∷ 3 ∷ 3 ∷ 4 ∷ 4 ∷ 2 ∷ 2 ∷ 3 ∷ 1 ∷ 4 ∷ 1 ∷ 4 ∷ 3 ∷ 9 ∷ 1 ∷ 5 ∷ 1 ∷ 5 ∷ 3 ∷ 12 ∷ 1 ∷ 5 ∷ 4 ∷ 14 ∷ 1 ∷ 14 ∷ 3 ∷ 16
+    gives (17 ∷ 18 ∷ 1 ∷ 1 ∷ 3 ∷ 3 ∷ 4 ∷ 4 ∷ 2 ∷ 2 ∷ 3 ∷ 1 ∷ 4 ∷ 1 ∷ 4 ∷ 3 ∷ 9 ∷ 1 ∷ 5 ∷ 1 ∷ 5 ∷ 3 ∷ 12 ∷ 1 ∷ 5 ∷ 4 ∷ 14 ∷ 1 ∷ 14 ∷ 3 ∷ 16
     ∷ 1 ∷ 6 ∷ 2 ∷ 11 ∷ 2 ∷ 19 ∷ 18 ∷ [])
     -- J: 1323, 75, 49, 4725 by all methods
     ∷ figures (chainOf 3 4 sheetJ 1 2) gives (1323 ∷ 75 ∷ 49 ∷ 4725 ∷ [])

@@ -8,7 +8,8 @@ use Rattle.verify.specs.Verify.{verifyAnswer}
 use Rattle.run.specs.Run.{runAnswer}
 use Rattle.layout.specs.Layout.{edition1}
 use Rattle.layout.specs.File.{longestFile, byteCount, writeAnswer, readAnswer}
-use Rattle.compile.specs.Compile.{chainOf, count, compileAnswer}
+use Rattle.quote.specs.ByMethod.{chainOf, count}
+use Rattle.compile.specs.Compile.{compileAnswer}
 use Rattle.choose.specs.Choose.{choice, mostScratch}
 use Rattle.listing.specs.Listing.{listing}
 use Rattle.trials.specs.Rows.{Row, _gives_, Holds, rows-hold, verdict, answered, chosen, definitions}

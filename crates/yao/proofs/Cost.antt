@@ -13,7 +13,7 @@ use Rattle.digits.proofs.Range.{sum-same, sum-zero, sum-add, sum-sign, max-sign
 use Rattle.digits.proofs.Vector.{digit-low, digit-zero, vector-own}
 use Rattle.products.specs.Product.{Made, made}
 use Rattle.products.proofs.Product.{times-cost, times-spent}
-use Rattle.yao.specs.Yao.{gather, Sweep, sweep, amountCount}
+use Rattle.yao.specs.Yao.{gather, Sweep, sweep, amountCount, amountCeiling}
 use Rattle.yao.proofs.Gather.{gather-count}
 use Rattle.yao.proofs.Rounds.{rounds, rounds-none, rounds-all, rounds-next, rounds-match, max-rounds, each, in-b, joins}
 
@@ -113,7 +113,7 @@ pub zero-amount : (k J : ℕ) → amountCount k J 0 ≡ 0
 zero-amount k J = no-digits k J 0 (λ j h. digit-zero k j)
 
 -- the cost of an amount keeps to its ceiling
-pub amount-ceiling : (k J x : ℕ) → amountCount k J x ≤ sign x * (J + 2 ^ k - 3)
+pub amount-ceiling : (k J x : ℕ) → amountCount k J x ≤ amountCeiling k J x
 amount-ceiling k J zero = omega (arith, zero-amount k J)
 amount-ceiling k J (suc x) =
     omega (arith, signs-low J (digit k (suc x)), largest-low k (suc x) J, one-mul (J + 2 ^ k - 3))

@@ -45,6 +45,10 @@ sweep p k power J x before (suc n) =
 abbrev pub amountCount : ℕ → ℕ → ℕ → ℕ
 amountCount k J x = sumTo J (λ j. sign (digit k x j)) + maxTo J (λ j. digit k x j) - 2
 
+-- Spec 3.6: the ceiling's part for an amount of a column of J digits; 0 has none
+abbrev pub amountCeiling : ℕ → ℕ → ℕ → ℕ
+amountCeiling k J x = sign x * (J + 2 ^ k - 3)
+
 -- Spec 3.6: the amounts of a payslip that are not 0, less 1
 abbrev pub yaoJoins : ℕ → List ℕ → ℕ → ℕ
 yaoJoins p amounts i = sumTo p (λ c. sign (amount p amounts i c)) - 1
@@ -74,9 +78,12 @@ module _ (p q : ℕ) (amounts : List ℕ) (k : ℕ) where
   unfoldable pub yao : Chain
   yao = payslips (λ i before. yaoPayslip i before p) (squarings p yaoSquarings p) q
 
-  -- the steps of payslip i: those of its amounts, and its products
+  -- the steps of payslip i: those of its amounts, and its products; and the same for the ceiling
   abbrev pub yaoPayslipCount : ℕ → ℕ
   yaoPayslipCount i = sumTo p (λ c. amountCount k (yaoDigits c) (amount p amounts i c)) + yaoJoins p amounts i
+
+  abbrev pub yaoPayslipCeiling : ℕ → ℕ
+  yaoPayslipCeiling i = sumTo p (λ c. amountCeiling k (yaoDigits c) (amount p amounts i c)) + yaoJoins p amounts i
 
   -- Spec 3.6: the count
   unfoldable pub yaoCount : ℕ
@@ -84,9 +91,7 @@ module _ (p q : ℕ) (amounts : List ℕ) (k : ℕ) where
 
   -- Spec 3.6: the ceiling
   unfoldable pub yaoCeiling : ℕ
-  yaoCeiling =
-      sumTo p yaoSquarings
-      + sumTo q (λ i. sumTo p (λ c. sign (amount p amounts i c) * (yaoDigits c + 2 ^ k - 3)) + yaoJoins p amounts i)
+  yaoCeiling = sumTo p yaoSquarings + sumTo q yaoPayslipCeiling
 
   abbrev pub yaoMethod : Method
   yaoMethod = record { chain = yao; count = yaoCount; ceiling = yaoCeiling }

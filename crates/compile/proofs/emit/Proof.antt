@@ -5,9 +5,10 @@ use native.Mathlib.Omega.{arith}
 use denote.Ref.{now}
 use Rattle.methods.specs.Method.{Method}
 use Rattle.methods.specs.Inner.{ChainRoom}
-use Rattle.compile.specs.Compile.{methodOf}
-use Rattle.compile.proofs.Fits.{Accepted, accepted, first-asks, other-asks}
-use Rattle.compile.proofs.ByMethod.{is-straus, is-yao, is-partition, same-count, emitted}
+use Rattle.quote.specs.ByMethod.{methodOf}
+use Rattle.quote.proofs.Fits.{first-asks, other-asks}
+use Rattle.compile.proofs.Fits.{Accepted, accepted}
+use Rattle.quote.proofs.ByMethod.{is-straus, is-yao, is-partition, same-count, emitted}
 use Rattle.compile.proofs.emit.Statement.{statement}
 use Rattle.compile.proofs.emit.Tie as tie
 

@@ -10,7 +10,7 @@ use Rattle.answers.proofs.Clauses.{answer-clause, first-slice-clause, second-sl
 use Rattle.chain.specs.Verdict.{fine}
 use Rattle.chain.specs.Chain.{mostAmount, pairs}
 use Rattle.chain.proofs.Pairs.{pairs-flat}
-use Rattle.compile.specs.Compile.{count}
+use Rattle.quote.specs.ByMethod.{count}
 use Rattle.compile.proofs.Filled.{Filled, filled, compile-stops, compile-passes, compile-counts}
 use Rattle.reading.proofs.Told.{ChainTaken}
 use Rattle.layout.specs.Layout.{edition1}

@@ -1,0 +1,5 @@
+pub mod Fits
+pub mod ByMethod
+pub mod Right
+pub mod Tariff
+pub mod Answers

@@ -1,0 +1,3 @@
+pub mod ByMethod
+pub mod Tariff
+pub mod Inner

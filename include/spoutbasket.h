@@ -25,9 +25,9 @@ extern "C" {
 
 /* The version of this header and of the library. */
 #define SPOUTBASKET_VERSION_MAJOR 0
-#define SPOUTBASKET_VERSION_MINOR 6
+#define SPOUTBASKET_VERSION_MINOR 7
 #define SPOUTBASKET_VERSION_PATCH 0
-#define SPOUTBASKET_VERSION "0.6.0"
+#define SPOUTBASKET_VERSION "0.7.0"
 
 /* The bytes of stack that are enough for a call, whatever it is given. */
 #define SPOUTBASKET_STACK (64 * 1024)
@@ -111,6 +111,12 @@ enum spoutbasket_fault {
  * Needs 2n cells of steps and q outputs, n being the method's count; 2 * SPOUTBASKET_MOST_STEPS cells are always enough. Answers n. */
 uint32_t spoutbasket_compile(size_t p, size_t q, const uint32_t *amounts, size_t amounts_len, size_t method, size_t parameter,
                              uint32_t *steps, size_t steps_len, uint32_t *outputs, size_t outputs_len, uint64_t answer[4]);
+
+/* Reckons the steps of the chain that a method makes of a sheet, without making it, and the method's ceiling, which they never exceed. A receivers' tariff
+ * bills by the ceiling, and a short last group of the partition method counts there at its own size. Refused 1, 2 and 3 as compile is, but not 4: a chain
+ * that is too long to compile is counted too. Answers the count, which is compile's n, and the ceiling. */
+uint32_t spoutbasket_ceiling(size_t p, size_t q, const uint32_t *amounts, size_t amounts_len, size_t method, size_t parameter,
+                             uint64_t answer[4]);
 
 /* Measures the file of a chain with p columns, q payslips and n steps, whatever its steps and outputs are. Answers the width of its numbers in bits,
  * which is W in docs/FORMAT.md, and its number of bytes. */

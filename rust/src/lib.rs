@@ -1,6 +1,7 @@
 //! Payslip sheets compiled into multiplication chains, their files, their check and their control figures: a safe wrapper over the proved library.
 //!
 //! A [`Sheet`] becomes a [`Chain`] by a [`Method`]; a chain has one file, is checked against a sheet and is run over a receiver's bases and modulus.
+//! What a method takes for a sheet is [reckoned](Sheet::ceiling) beforehand: its steps, and the ceiling by which a tariff bills.
 //! Two chains over the same columns [pool](Chain::pool) into one.
 //! A sheet is read from packed decimal, as ledger hosts hold amounts, and [written](Sheet::to_packed) as that.
 //! What a call turns down it tells as a [`Refusal`], by reason and place; a text that cannot be read, as a [`TextFault`].
@@ -54,6 +55,7 @@ mod refusal;
 mod sheet;
 #[allow(unsafe_code)]
 pub mod slices;
+mod tally;
 
 pub use chain::{Chain, Run};
 pub use choose::choose;
@@ -65,6 +67,7 @@ pub use method::Method;
 pub use reason::{Reason, TextReason};
 pub use refusal::Refusal;
 pub use sheet::Sheet;
+pub use tally::Tally;
 
 /// The version of this package and of the header.
 pub const VERSION: &str = env!("CARGO_PKG_VERSION");

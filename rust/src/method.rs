@@ -4,7 +4,8 @@ use std::str::FromStr;
 
 /// A method that makes a chain of a sheet, with its parameter.
 ///
-/// It is written `straus:1`, `yao:3` or `partition:4`. Whether the parameter will do is for [`Sheet::compile`](crate::Sheet::compile) to say.
+/// It is written `straus:1`, `yao:3` or `partition:4`. Whether the parameter will do is for [`Sheet::compile`](crate::Sheet::compile) and
+/// [`Sheet::ceiling`](crate::Sheet::ceiling) to say.
 ///
 /// ```
 /// use spoutbasket::{Method, Reason, Sheet};

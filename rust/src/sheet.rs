@@ -1,6 +1,6 @@
 use crate::chain::Lent;
 use crate::refusal::answer;
-use crate::{fault, numbers, slices, Chain, Method, Reason, Refusal, Run, SheetError};
+use crate::{fault, numbers, slices, Chain, Method, Reason, Refusal, Run, SheetError, Tally};
 use crate::{LONGEST_FILE, MOST_COLUMNS, MOST_PAYSLIPS, MOST_VALUES};
 use std::slice::ChunksExact;
 
@@ -221,6 +221,43 @@ impl Sheet {
             )
         })?;
         Ok(lent.chain(self.columns, self.payslips, n))
+    }
+
+    /// The steps that a method takes for the sheet, and its ceiling, without making the chain: one that is too long to compile is counted too. In the
+    /// partition method's ceiling a short last group counts at its own size.
+    ///
+    /// # Errors
+    ///
+    /// 3 for a parameter out of range.
+    ///
+    /// ```
+    /// use spoutbasket::{Method, Reason, Sheet, Tally};
+    ///
+    /// # fn main() -> Result<(), spoutbasket::Refusal> {
+    /// let tally = Sheet::new(2, 1, [3, 2])?.ceiling(Method::Yao(1))?;
+    /// assert_eq!(tally, Tally { count: 4, ceiling: 5 });
+    ///
+    /// // 5 bits in groups of 4 and of 1: 4 squarings, 11 steps for the first group, none for the last, and in the ceiling one to join them
+    /// let sheet = Sheet::new(1, 1, [16])?;
+    /// let tally = sheet.ceiling(Method::Partition(4))?;
+    /// assert_eq!(tally, Tally { count: 15, ceiling: 16 });
+    /// assert_eq!(sheet.ceiling(Method::Partition(9)).unwrap_err().reason, Reason::Method);
+    /// # Ok(())
+    /// # }
+    /// ```
+    pub fn ceiling(&self, method: Method) -> Result<Tally, Refusal> {
+        let (number, parameter) = method.numbers();
+        let [count, ceiling, ..] = answer(|words| {
+            slices::ceiling(
+                self.columns,
+                self.payslips,
+                &self.amounts,
+                number,
+                parameter,
+                words,
+            )
+        })?;
+        Ok(Tally { count, ceiling })
     }
 
     /// The chain with the fewest steps over every method and parameter, and the method that makes it: of several the first, in the order of

@@ -71,6 +71,16 @@ functions! {
         answer: &mut [u64; 4],
     );
 
+    /// Reckons the steps of a method's chain of a sheet and the method's ceiling; answers the count, which is the n of [`compile`], and the ceiling.
+    fn ceiling(
+        p: usize,
+        q: usize,
+        amounts: &[u32],
+        method: usize,
+        parameter: usize,
+        answer: &mut [u64; 4],
+    );
+
     /// Measures the file of a chain with p columns, q payslips and n steps; answers the width of its numbers in bits, W, and its number of bytes.
     fn extent(
         p: usize,

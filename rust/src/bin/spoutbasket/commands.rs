@@ -11,7 +11,7 @@ use crate::options::{
 use crate::output;
 use crate::packed::refused_field;
 use crate::wanted::Wanted;
-use spoutbasket::{choose as choose_file, Chain, Extent, Run, Sheet};
+use spoutbasket::{choose as choose_file, Chain, Extent, Method, Run, Sheet, Tally};
 use std::ffi::OsString;
 
 /// A command: what it takes and what it does.
@@ -20,7 +20,7 @@ pub struct Command {
     act: fn(&Form, &Given) -> Result<(), Failure>,
 }
 
-pub const ALL: [Command; 9] = [
+pub const ALL: [Command; 10] = [
     Command {
         form: Form {
             name: "compile",
@@ -29,6 +29,15 @@ pub const ALL: [Command; 9] = [
             files: (0, 1),
         },
         act: compile,
+    },
+    Command {
+        form: Form {
+            name: "ceiling",
+            flags: &["--table", "--json"],
+            valued: &["--method", "--packed"],
+            files: (0, 1),
+        },
+        act: ceiling,
     },
     Command {
         form: Form {
@@ -139,6 +148,40 @@ fn compile(form: &Form, given: &Given) -> Result<(), Failure> {
         say(&format!("{}: {method}, {steps}", source.name()));
     }
     Ok(())
+}
+
+fn ceiling(form: &Form, given: &Given) -> Result<(), Failure> {
+    let method = method(form, given)?;
+    let [kind] = kinds(form, given)?;
+    let source = Source::new(given.file(0));
+    let sheet = documents::sheet(&source, kind)?;
+    let tallies: Vec<(Method, Tally)> = match method {
+        Some(named) => {
+            let refused = |refusal| refused_sheet(&source, method, refusal);
+            vec![(named, sheet.ceiling(named).map_err(refused)?)]
+        }
+        // what is refused are parameters that do not go with as many columns
+        None => Method::all()
+            .filter_map(|method| Some((method, sheet.ceiling(method).ok()?)))
+            .collect(),
+    };
+    if given.has("--json") {
+        let mut fields = shape([sheet.columns(), sheet.payslips()]);
+        let methods = tallies.iter().map(|(method, tally)| {
+            json::object(&[
+                ("method", json::string(&method.to_string())),
+                ("count", tally.count.to_string()),
+                ("ceiling", tally.ceiling.to_string()),
+            ])
+        });
+        fields.push(("methods", json::array(methods)));
+        return print(json::object(&fields));
+    }
+    let lines: Vec<String> = tallies
+        .iter()
+        .map(|(method, tally)| format!("{method} {} {}", tally.count, tally.ceiling))
+        .collect();
+    print(lines.join("\n"))
 }
 
 fn check(form: &Form, given: &Given) -> Result<(), Failure> {
@@ -299,6 +342,15 @@ fn in_words<const N: usize>(sizes: [usize; N]) -> String {
     words.join(", ")
 }
 
+/// The same sizes as JSON fields.
+fn shape<const N: usize>(sizes: [usize; N]) -> Vec<(&'static str, String)> {
+    let names = ["columns", "payslips", "steps"];
+    let sizes = sizes.iter().zip(names);
+    sizes
+        .map(|(number, name)| (name, number.to_string()))
+        .collect()
+}
+
 /// A sheet as plain numbers, a line a payslip.
 fn plain(sheet: &Sheet) -> String {
     let mut text = format!("{} {}\n", sheet.columns(), sheet.payslips());
@@ -307,15 +359,6 @@ fn plain(sheet: &Sheet) -> String {
         text += &(amounts.join(" ") + "\n");
     }
     text
-}
-
-/// A chain's sizes as JSON fields.
-fn shape([p, q, n]: [usize; 3]) -> Vec<(&'static str, String)> {
-    vec![
-        ("columns", p.to_string()),
-        ("payslips", q.to_string()),
-        ("steps", n.to_string()),
-    ]
 }
 
 /// A run's figures, a line each, and its multiplications; or all of it as an object.

@@ -8,6 +8,7 @@ Usage: spoutbasket COMMAND ..
 
 Commands:
   compile  make a sheet's chain, the shortest unless a method is named
+  ceiling  reckon the steps and the ceiling, by which a tariff bills, of each method
   check    hold a chain against a sheet, or against two
   choose   take the better of two chains for a sheet
   pool     make one chain of the chains of two sheets
@@ -22,7 +23,7 @@ Exit status: 0 done, 1 refused, 2 wrong use, 3 input or output failed.
 ";
 
 /// The commands' texts by name.
-pub const COMMANDS: [(&str, &str); 9] = [
+pub const COMMANDS: [(&str, &str); 10] = [
     (
         "compile",
         "\
@@ -39,6 +40,24 @@ Makes a sheet's chain and writes its file.
   -v, --verbose    say the method and the steps on standard error
 
 Example: spoutbasket compile week.txt -o week.chain
+",
+    ),
+    (
+        "ceiling",
+        "\
+Usage: spoutbasket ceiling [--method METHOD] [--table | --packed P,Q] [--json] [SHEET]
+
+Reckons what a receivers' tariff bills for a sheet: for each method and parameter that
+its columns allow a line METHOD COUNT CEILING, the steps of its chain and the ceiling
+that they never exceed. A short last group of partition counts at its own size. A chain
+over 16,000 steps has a line too, but compile refuses it.
+
+  --method METHOD  as for compile: that one alone
+  --table          the sheet is a table, one payslip a line
+  --packed P,Q     the sheet is packed fields, of P columns and Q payslips
+  --json           the result as one JSON object
+
+Example: spoutbasket ceiling week.txt
 ",
     ),
     (

@@ -12,8 +12,8 @@ pub const KEYS: &str = "10000\n3 5 7\n";
 pub const PASSED: &str = "passed: 3 columns, 4 payslips, 9 steps\n";
 
 /// The commands, in the order of the help.
-pub const COMMANDS: [&str; 9] = [
-    "compile", "check", "choose", "pool", "list", "run", "figures", "unpack", "pack",
+pub const COMMANDS: [&str; 10] = [
+    "compile", "ceiling", "check", "choose", "pool", "list", "run", "figures", "unpack", "pack",
 ];
 
 /// A sheet as a plain text or as a table.

@@ -356,10 +356,23 @@ pub fn ceiling(p: usize, q: usize, amounts: &[u32], method: usize, k: usize) -> 
             if w == 0 {
                 return 0;
             }
-            let groups = w.div_ceil(k);
-            partition_squarings(&bits) + groups * table_count(1, k) + q * (groups - 1)
+            let groups = groups(w, k);
+            let tables: usize = groups.iter().map(|&size| table_count(1, size)).sum();
+            partition_squarings(&bits) + tables + q * (groups.len() - 1)
         }
     }
+}
+
+/// The sizes of the groups of c, of which the last has what is left.
+fn groups(inputs: usize, c: usize) -> Vec<usize> {
+    let mut sizes = vec![];
+    let mut left = inputs;
+    while left > 0 {
+        let size = left.min(c);
+        sizes.push(size);
+        left -= size;
+    }
+    sizes
 }
 
 /// (J − 1)k for each column that is not zero.
@@ -380,6 +393,29 @@ fn partition_squarings(bits: &[usize]) -> usize {
     bits.iter().sum::<usize>() - bits.iter().filter(|&&b| b > 0).count()
 }
 
+/// 1, 2 and 3, of what compile is asked for.
+fn judge(
+    p: usize,
+    q: usize,
+    amounts: &[u32],
+    method: usize,
+    parameter: usize,
+) -> Result<(), (u32, u64)> {
+    sizes(p, q)?;
+    if amounts.len() != p * q {
+        return Err((2, 0));
+    }
+    judge_method(p, method, parameter)
+}
+
+/// Ceiling: 1, 2, 3; of what is left the count and the ceiling, however large.
+pub fn tally(p: usize, q: usize, amounts: &[u32], method: usize, parameter: usize) -> Answer {
+    judge(p, q, amounts, method, parameter)?;
+    let count = count(p, q, amounts, method, parameter);
+    let ceiling = ceiling(p, q, amounts, method, parameter);
+    Ok(vec![count as u64, ceiling as u64])
+}
+
 /// Compile: 1, 2, 3, 4, 5, and only then a lent cell is written.
 pub fn compile(
     p: usize,
@@ -390,11 +426,7 @@ pub fn compile(
     steps: &mut [u32],
     outputs: &mut [u32],
 ) -> Answer {
-    sizes(p, q)?;
-    if amounts.len() != p * q {
-        return Err((2, 0));
-    }
-    judge_method(p, method, parameter)?;
+    judge(p, q, amounts, method, parameter)?;
     let n = count(p, q, amounts, method, parameter);
     length(MOST_STEPS, n)?;
     if steps.len() / 2 < n || outputs.len() < q {

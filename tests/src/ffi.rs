@@ -149,6 +149,12 @@ pub fn compile(
     })
 }
 
+pub fn ceiling(p: usize, q: usize, amounts: &[u32], method: usize, parameter: usize) -> Answer {
+    answer(2, |words| {
+        slices::ceiling(p, q, amounts, method, parameter, words)
+    })
+}
+
 /// The length of a file's listing, over the front of the text.
 pub fn list(bytes: &[u8], text: &mut [u8; LONGEST_LISTING]) -> Answer {
     answer(1, |words| slices::list(bytes, text, words))

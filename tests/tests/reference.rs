@@ -181,8 +181,20 @@ fn counts_and_ceilings() {
         (1, 1, &[16], 1, 2, 6, 8),
         // squarings 4; 16 has one digit: 0; the ceiling has 3 + 4 − 3
         (1, 1, &[16], 2, 2, 4, 8),
-        // w = 5, squarings 4; groups of 2, 2 and 1: 1 + 1 + 0; one part each: 0; ceiling 4 + 3·1 + 1·2
-        (1, 1, &[16], 3, 2, 6, 9),
+        // w = 5, squarings 4; groups of 2, 2 and 1: 1 + 1 + 0; one part: 0; the ceiling has 1·2
+        (1, 1, &[16], 3, 2, 6, 8),
+        // groups of 4 and 1: 11 + 0; one part, then two; the ceiling has 1·1
+        (1, 1, &[16], 3, 4, 15, 16),
+        (1, 1, &[31], 3, 4, 16, 16),
+        // w = 7, squarings 6; groups of 4 and 3: 11 + 4; one part; the ceiling has 1·1
+        (1, 1, &[64], 3, 4, 21, 22),
+        // w = 8, squarings 7; two groups of 4: 11 + 11; one part; the ceiling has 1·1
+        (1, 1, &[128], 3, 4, 29, 30),
+        // w = 4 and w = 3, squarings 3 and 2; the one group has 4 or 3: 11 or 4
+        (1, 1, &[8], 3, 4, 14, 14),
+        (1, 1, &[4], 3, 8, 6, 6),
+        // w = 3 + 2, squarings 2 + 1; groups of 4, over both columns, and 1: 11 + 0; parts 1, none and 2: 1; the ceiling has 3·1
+        (2, 3, &[7, 0, 0, 0, 4, 3], 3, 4, 15, 17),
         // the second column and the second payslip are zero
         (2, 2, &[7, 0, 0, 0], 1, 1, 5, 5),
         (2, 2, &[7, 0, 0, 0], 2, 1, 4, 4),

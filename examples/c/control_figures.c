@@ -1,5 +1,5 @@
-/* The control figures of a small sheet from C: compile, write, read, check and run, then the same by the one call for the whole path, and the choice
- * between two files. The figures are compared with a plain loop. Ends with status 1 if anything is refused or differs. */
+/* The control figures of a small sheet from C: compile, write, read, check and run, then the same by the one call for the whole path, the choice between
+ * two files, and the ceiling by which a tariff bills. The figures are compared with a plain loop. Ends with status 1 if anything is refused or differs. */
 #include "spoutbasket.h"
 
 #include <inttypes.h>
@@ -47,6 +47,17 @@ static int make(size_t method, size_t parameter, struct chain *c)
     number = spoutbasket_write(c->p, c->steps, 2 * c->n, c->outputs, c->q, c->bytes, spoutbasket_file_length(c->p, c->q, c->n), answer);
     c->length = (size_t)answer[0];
     return refused("write", number, answer);
+}
+
+/* Whether a chain has as many steps as its method takes for the sheet, and no more than the ceiling. */
+static int keeps_to_ceiling(size_t method, size_t parameter, const struct chain *c)
+{
+    uint64_t answer[4];
+    uint32_t number = spoutbasket_ceiling(P, Q, amounts, P * Q, method, parameter, answer);
+    if (refused("ceiling", number, answer))
+        return 0;
+    printf("%zu steps, billed as %" PRIu64 "\n", c->n, answer[1]);
+    return answer[0] == c->n && answer[0] <= answer[1];
 }
 
 /* A receiver's side: the file read, the chain checked against the sheet and run. 0, or 1 if refused. */
@@ -118,6 +129,8 @@ int main(void)
     uint32_t figures[Q], again[Q];
     size_t payslip;
     if (make(SPOUTBASKET_YAO, 2, &other) || make(SPOUTBASKET_STRAUS, 1, &sent))
+        return 1;
+    if (!keeps_to_ceiling(SPOUTBASKET_YAO, 2, &other) || !keeps_to_ceiling(SPOUTBASKET_STRAUS, 1, &sent))
         return 1;
     if (!choose_shorter(&other, &sent) || receive(&sent, &received, figures))
         return 1;

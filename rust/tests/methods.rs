@@ -1,5 +1,5 @@
 //! Methods by name and number, and the best of them for a sheet.
-use spoutbasket::{Method, Reason, Refusal, Sheet};
+use spoutbasket::{Method, Reason, Refusal, Sheet, Tally};
 use spoutbasket::{MOST_COLUMNS, MOST_PAYSLIPS};
 
 #[test]
@@ -62,6 +62,29 @@ fn parameters() -> Result<(), Refusal> {
     Ok(())
 }
 
+/// The tally has the steps that compile makes, within the ceiling, and is refused the parameters that compile is.
+#[test]
+fn tallies() -> Result<(), Refusal> {
+    for sheet in [
+        Sheet::new(1, 1, [0])?,
+        Sheet::new(3, 2, [3, 0, 2, 1, 200, 0])?,
+        Sheet::new(11, 1, [1; 11])?,
+    ] {
+        for method in Method::all().chain([Method::Straus(0), Method::Yao(9), Method::Partition(0)])
+        {
+            match sheet.compile(method) {
+                Ok(chain) => {
+                    let Tally { count, ceiling } = sheet.ceiling(method)?;
+                    assert_eq!(count, chain.n(), "{method}");
+                    assert!(count <= ceiling, "{method}");
+                }
+                Err(refusal) => assert_eq!(sheet.ceiling(method), Err(refusal), "{method}"),
+            }
+        }
+    }
+    Ok(())
+}
+
 /// The best has the fewest steps of all that compile, and is the first with as few.
 #[test]
 fn best() -> Result<(), Refusal> {
@@ -105,6 +128,9 @@ fn too_long_for_some() -> Result<(), Refusal> {
         sheet.compile(Method::Yao(1)).unwrap_err().reason,
         Reason::Steps
     );
+    // 31 squarings of each column, then of each payslip 31 products a column and 15 to join them, as many as there can be
+    let (count, ceiling) = (16 * 31 + 64 * (16 * 31 + 15), 16 * 31 + 64 * (16 * 31 + 15));
+    assert_eq!(sheet.ceiling(Method::Yao(1))?, Tally { count, ceiling });
     let (method, chain) = sheet.best()?;
     assert!(matches!(method, Method::Partition(_)), "{method}");
     chain.check(&sheet)

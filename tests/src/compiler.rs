@@ -24,6 +24,12 @@ impl Job {
         }
     }
 
+    /// The method as it is written, as `straus:1`.
+    pub fn method_name(&self) -> String {
+        let name = ["straus", "yao", "partition"][self.method - 1];
+        format!("{name}:{}", self.parameter)
+    }
+
     /// The chain, where sheet, method and parameter are fit.
     pub fn chain(&self) -> (Vec<(u32, u32)>, Vec<u32>) {
         make(self.p, self.q, &self.amounts, self.method, self.parameter)

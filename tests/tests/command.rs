@@ -8,11 +8,6 @@ use spoutbasket_tests::reference::{self, figure, Job, LONGEST_FILE, MOST_PAYSLIP
 use spoutbasket_tests::reference::{EDITION_STEPS, EDITION_VALUES};
 use spoutbasket_tests::texts::phrase;
 
-fn method_name(job: &Job) -> String {
-    let name = ["straus", "yao", "partition"][job.method - 1];
-    format!("{name}:{}", job.parameter)
-}
-
 /// A sheet as a person might write it.
 fn plain(r: &mut Random, job: &Job) -> String {
     let mut text = format!("{} {}\n", job.p, job.q);
@@ -95,7 +90,7 @@ fn from_sheets_to_figures() {
             _ => {}
         }
         let text = plain(&mut r, &job);
-        let method = method_name(&job);
+        let method = job.method_name();
         let compiled = spoutbasket(&["compile", "--method", &method], text.as_bytes());
         let file = match file_of(&job) {
             Ok(file) => file,
@@ -199,6 +194,8 @@ fn any_bytes() {
         for arguments in [
             vec!["compile", "-"],
             vec!["compile", "--table", "-"],
+            vec!["ceiling", "-"],
+            vec!["ceiling", "--table", "-"],
             vec!["check", &sheet, "-"],
             vec!["check", "--table", "-", &other],
             vec!["check", &sheet, "-", &other],

@@ -10,8 +10,10 @@ use std::time::Duration;
 const FULL: &str = "No space left on device (os error 28)";
 
 /// The commands that write to standard output.
-const WRITING: [&str; 13] = [
+const WRITING: [&str; 15] = [
     "compile week.txt",
+    "ceiling week.txt",
+    "ceiling --json week.txt",
     "choose week.txt week.chain week.chain",
     "pool week.chain week.chain",
     "unpack --packed 3,4 week.packed",
@@ -160,6 +162,7 @@ fn input_that_cannot_be_read() {
         for command in [
             "compile NAME",
             "compile --table NAME -o new.chain",
+            "ceiling NAME",
             "check NAME week.chain",
             "check week.txt NAME",
             "check NAME week.txt week.chain",

@@ -76,6 +76,8 @@ fn in_the_place_of_a_plain_sheet() {
         for arguments in [
             vec!["compile", "SHEET"],
             vec!["compile", "--method", "yao:2", "SHEET"],
+            vec!["ceiling", "SHEET"],
+            vec!["ceiling", "--json", "--method", "partition:4", "SHEET"],
             vec!["check", "SHEET", &chain],
             vec!["check", "--json", "SHEET", &chain],
             vec!["choose", "SHEET", &chain, &chain],
@@ -167,6 +169,7 @@ fn refused_fields() {
         let file = folder.file("fields", bytes);
         for arguments in [
             vec!["compile", &file, "-o", &target],
+            vec!["ceiling", &file],
             vec!["check", &file, &chain],
             vec!["choose", &file, &chain, &chain, "-o", &target],
             vec!["figures", "--keys", &keys, &file],
@@ -308,6 +311,7 @@ fn mistaken_files() {
     for (arguments, why) in [
         (vec!["compile", &week], cut),
         (vec!["compile", "--table", &week], cut),
+        (vec!["ceiling", &wages_file], cut),
         (vec!["figures", "--keys", &keys, &wages_file], cut),
         (vec!["pack", &wages_file], cut),
         (vec!["pack", "--table", &wages_file], cut),

@@ -75,6 +75,16 @@ fn the_example_of_the_manual() {
     assert_eq!(told, shown(&manual, "Staff who look W up"));
 }
 
+/// The lowest ceilings, of which the first is not that of the shortest chain, and a short last group.
+#[test]
+fn the_ceilings_of_the_manual() {
+    let folder = week("manual-ceilings");
+    let session = shown(&page("docs/MANUAL.md"), "## What the tariff bills");
+    assert_eq!(play(&folder, &session), 2);
+    let best = folder.script("spoutbasket compile -v week.txt -o best.chain");
+    assert_eq!(best.line(), "week.txt: yao:1, 9 steps");
+}
+
 /// Two sheets and the pool of their chains, and what is said where they do not go together.
 #[test]
 fn the_pool_of_the_manual() {
@@ -133,6 +143,7 @@ fn the_objects_and_messages_of_the_manual() {
     let manual = page("docs/MANUAL.md");
     let said = folder.script(
         "spoutbasket compile week.txt -o week.chain
+        spoutbasket ceiling --json --method straus:1 week.txt
         spoutbasket check --json week.txt week.chain
         spoutbasket list --json week.chain
         spoutbasket run --json --keys bank.keys week.chain

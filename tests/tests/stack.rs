@@ -84,6 +84,20 @@ fn methods() {
     }
 }
 
+/// The ceiling of the largest amounts, by each method on as many columns as it takes.
+#[test]
+fn ceilings() {
+    for (p, method, k) in [(10, 1, 1), (MOST_COLUMNS, 2, 8), (MOST_COLUMNS, 3, 1)] {
+        let amounts = vec![u32::MAX; p * MOST_PAYSLIPS];
+        let job = Job::new(p, MOST_PAYSLIPS, &amounts, method, k);
+        let answer = on_stack("STACK", |words| {
+            slices::ceiling(p, MOST_PAYSLIPS, &amounts, method, k, words)
+        });
+        let wanted = [job.count() as u64, job.ceiling() as u64, 0, 0];
+        assert_eq!(answer, wanted);
+    }
+}
+
 #[test]
 fn chains() {
     let all = largest();

@@ -1,17 +1,16 @@
-//! The three methods in plain Rust, written for speed: what compile is measured against.
+//! The three methods in plain Rust, written for speed: what compile and the ceiling are measured against.
 
 use spoutbasket::{MOST_COLUMNS, MOST_PAYSLIPS, MOST_STEPS};
 
-/// Compile: counted and judged before anything is stored.
-pub fn compile(
+/// The count and the ceiling of a sheet, a method and a parameter that are fit.
+#[inline(always)]
+pub fn tally(
     p: usize,
     q: usize,
     amounts: &[u32],
     method: usize,
     k: usize,
-    steps: &mut [u32],
-    outputs: &mut [u32],
-) -> Result<usize, (u32, usize)> {
+) -> Result<(usize, usize), (u32, usize)> {
     if p == 0 || p > MOST_COLUMNS || q == 0 || q > MOST_PAYSLIPS {
         return Err((1, 0));
     }
@@ -26,11 +25,24 @@ pub fn compile(
     if !fits {
         return Err((3, 0));
     }
-    let n = match method {
-        1 => straus_count(p, amounts, k),
-        2 => yao_count(p, amounts, k),
-        _ => partition_count(p, amounts, k),
-    };
+    Ok(match method {
+        1 => straus_tally(p, amounts, k),
+        2 => yao_tally(p, amounts, k),
+        _ => partition_tally(p, amounts, k),
+    })
+}
+
+/// Compile: counted and judged before anything is stored.
+pub fn compile(
+    p: usize,
+    q: usize,
+    amounts: &[u32],
+    method: usize,
+    k: usize,
+    steps: &mut [u32],
+    outputs: &mut [u32],
+) -> Result<usize, (u32, usize)> {
+    let (n, _) = tally(p, q, amounts, method, k)?;
     if n > MOST_STEPS {
         return Err((4, 0));
     }
@@ -117,15 +129,18 @@ fn over(slip: &[u32]) -> u32 {
     slip.iter().fold(0, |all, &amount| all | amount)
 }
 
-fn straus_count(p: usize, amounts: &[u32], k: usize) -> usize {
+#[inline(always)]
+fn straus_tally(p: usize, amounts: &[u32], k: usize) -> (usize, usize) {
     let mut n = (1 << (p * k)) - p - 1;
+    let mut ceiling = n;
     for slip in amounts.chunks_exact(p) {
         let all = over(slip);
         let lower = digit_count(k, all).saturating_sub(1);
         n += lower * k;
         n += (0..lower).filter(|&place| digit(k, all, place) > 0).count();
+        ceiling += lower * (k + 1);
     }
-    n
+    (n, ceiling)
 }
 
 fn straus(p: usize, amounts: &[u32], k: usize, steps: &mut Steps, outputs: &mut [u32]) {
@@ -145,14 +160,20 @@ fn straus(p: usize, amounts: &[u32], k: usize, steps: &mut Steps, outputs: &mut 
     }
 }
 
-fn yao_count(p: usize, amounts: &[u32], k: usize) -> usize {
+#[inline(always)]
+fn yao_tally(p: usize, amounts: &[u32], k: usize) -> (usize, usize) {
+    let columns = column_digits(p, amounts, k);
     let mut n = 0;
-    for j in &column_digits(p, amounts, k)[..p] {
+    for j in &columns[..p] {
         n += j.saturating_sub(1) * k;
     }
+    let mut ceiling = n;
     for slip in amounts.chunks_exact(p) {
         let mut nonzero = 0;
-        for &amount in slip.iter().filter(|&&amount| amount > 0) {
+        for (&amount, &j) in slip.iter().zip(&columns) {
+            if amount == 0 {
+                continue;
+            }
             let (mut digits, mut most) = (0, 0);
             for place in 0..digit_count(k, amount) {
                 let d = digit(k, amount, place);
@@ -160,11 +181,14 @@ fn yao_count(p: usize, amounts: &[u32], k: usize) -> usize {
                 most = d.max(most);
             }
             n += digits + most - 2;
+            ceiling += j + (1 << k) - 3;
             nonzero += 1;
         }
-        n += usize::saturating_sub(nonzero, 1);
+        let joined = usize::saturating_sub(nonzero, 1);
+        n += joined;
+        ceiling += joined;
     }
-    n
+    (n, ceiling)
 }
 
 fn yao(p: usize, amounts: &[u32], k: usize, steps: &mut Steps, outputs: &mut [u32]) {
@@ -223,18 +247,21 @@ fn parts(slip: &[u32], bits: &[usize], c: usize, mut part: impl FnMut(usize, usi
     }
 }
 
-fn partition_count(p: usize, amounts: &[u32], c: usize) -> usize {
+#[inline(always)]
+fn partition_tally(p: usize, amounts: &[u32], c: usize) -> (usize, usize) {
     let bits = column_digits(p, amounts, 1);
     let w: usize = bits.iter().sum();
     let mut n = w - bits.iter().filter(|&&width| width > 0).count();
     n += w / c * ((1 << c) - c - 1);
     n += (1 << (w % c)) - w % c - 1;
+    let mut ceiling = n;
     for slip in amounts.chunks_exact(p) {
         let mut nonempty = 0usize;
         parts(slip, &bits, c, |_, _| nonempty += 1);
         n += nonempty.saturating_sub(1);
+        ceiling += w.div_ceil(c).saturating_sub(1);
     }
-    n
+    (n, ceiling)
 }
 
 fn partition(p: usize, amounts: &[u32], c: usize, steps: &mut Steps, outputs: &mut [u32]) {

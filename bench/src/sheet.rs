@@ -1,5 +1,5 @@
-//! A month's sheet, 9 pay elements by 48 payslips, amounts of pence up to 20 bits: what the chain spares a receiver, and what compile and the whole
-//! path cost beside plain Rust.
+//! A month's sheet, 9 pay elements by 48 payslips, amounts of pence up to 20 bits: what the chain spares a receiver, and what compile, the
+//! ceiling and the whole path cost beside plain Rust.
 use crate::{medians, methods, plain, report};
 use spoutbasket::{LONGEST_FILE, MOST_PAYSLIPS, MOST_STEPS, MOST_VALUES};
 use spoutbasket_tests::ffi;
@@ -122,20 +122,45 @@ fn plain_compile(job: &Job, lent: &mut Lent) -> usize {
     .unwrap()
 }
 
+/// What is made of which sheet: its sizes, the method and the parameter.
+fn of(job: &Job) -> String {
+    let name = ["Straus", "Yao", "partition"][job.method - 1];
+    format!("of {} by {}, {name} {}", job.p, job.q, job.parameter)
+}
+
+/// The count and the ceiling beside plain Rust.
+fn ceiling(job: &Job) {
+    let Job {
+        p,
+        q,
+        method,
+        parameter,
+        ..
+    } = *job;
+    let ours = |amounts| ffi::ceiling(p, q, amounts, method, parameter).unwrap();
+    let theirs = |amounts| methods::tally(p, q, amounts, method, parameter).unwrap();
+    report(
+        &format!("ceiling {}", of(job)),
+        medians(
+            10_001,
+            || assert!(ours(black_box(&job.amounts))[0] > 0),
+            || assert!(theirs(black_box(&job.amounts)).0 > 0),
+        ),
+    );
+    let (count, most) = theirs(&job.amounts);
+    assert_eq!(ours(&job.amounts), [count as u64, most as u64]);
+}
+
 /// Compile beside plain Rust, sheet after sheet in turn, and that both give the same chain. With one sheet again and again the processor knows
 /// its jumps by heart.
 fn compile(jobs: &[Job], ours: &mut Lent, theirs: &mut Lent) {
-    let Job {
-        p, q, parameter, ..
-    } = jobs[0];
-    let name = ["Straus", "Yao", "partition"][jobs[0].method - 1];
-    let of = match jobs {
+    let made = match jobs {
         [job] => format!("{} steps", job.count()),
         _ => format!("{} sheets", jobs.len()),
     };
     let (mut next, mut other) = (jobs.iter().cycle(), jobs.iter().cycle());
     report(
-        &format!("compile of {p} by {q}, {name} {parameter}, {of}"),
+        &format!("compile {}, {made}", of(&jobs[0])),
         medians(
             513,
             || assert!(library_compile(black_box(next.next().unwrap()), ours) > 0),
@@ -225,6 +250,7 @@ pub fn measure() {
         let sheets: Vec<Job> = (0..128)
             .map(|_| Job::new(P, Q, &sheet(&mut r), method, k))
             .collect();
+        ceiling(&job);
         compile(&[job], &mut ours, &mut theirs);
         compile(&sheets, &mut ours, &mut theirs);
     }

@@ -128,9 +128,13 @@ fn too_long_for_some() -> Result<(), Refusal> {
         sheet.compile(Method::Yao(1)).unwrap_err().reason,
         Reason::Steps
     );
-    // 31 squarings of each column, then of each payslip 31 products a column and 15 to join them, as many as there can be
-    let (count, ceiling) = (16 * 31 + 64 * (16 * 31 + 15), 16 * 31 + 64 * (16 * 31 + 15));
-    assert_eq!(sheet.ceiling(Method::Yao(1))?, Tally { count, ceiling });
+    // 31 squarings of each column; for each payslip 31 products a column, as many as there can be, and 15 to join them
+    let most = 16 * 31 + 64 * (16 * 31 + 15);
+    let tally = Tally {
+        count: most,
+        ceiling: most,
+    };
+    assert_eq!(sheet.ceiling(Method::Yao(1))?, tally);
     let (method, chain) = sheet.best()?;
     assert!(matches!(method, Method::Partition(_)), "{method}");
     chain.check(&sheet)

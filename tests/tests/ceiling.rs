@@ -56,7 +56,7 @@ fn with_all_full(job: &Job) -> (usize, bool) {
     }
     let groups = w.div_ceil(c);
     let former = w - bits.len() + groups * ((1 << c) - c - 1) + job.q * (groups - 1);
-    (former, w % c > 0)
+    (former, w < groups * c)
 }
 
 /// Every method and parameter on each of some sheets.

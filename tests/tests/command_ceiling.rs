@@ -12,11 +12,8 @@ fn jobs(p: usize, q: usize, amounts: &[u32]) -> Vec<Job> {
     methods(p).into_iter().map(job).collect()
 }
 
-fn line(job: &Job) -> String {
-    format!("{} {} {}\n", job.method_name(), job.count(), job.ceiling())
-}
-
 fn lines(jobs: &[Job]) -> String {
+    let line = |job: &Job| format!("{} {} {}\n", job.method_name(), job.count(), job.ceiling());
     jobs.iter().map(line).collect()
 }
 
@@ -37,9 +34,9 @@ fn every_kind_of_sheet() {
     let folder = Folder::new("ceiling");
     for _ in 0..30 {
         let (p, q) = (r.within(1, 12), r.within(1, 9));
+        // no amount that a field does not hold
         let bits = r.below(30);
         let amounts = sheet(&mut r, p, q, bits);
-        let amounts: Vec<u32> = amounts.iter().map(|&a| a.min(999_999_999)).collect();
         let jobs = jobs(p, q, &amounts);
         let one = &jobs[r.below(jobs.len())..][..1];
         let method = one[0].method_name();
@@ -93,56 +90,40 @@ fn short_groups_and_long_chains() {
 #[test]
 fn refused() {
     let wide = format!("11 1\n{}\n", "1 ".repeat(11));
-    let straus = ": method straus takes k from 1 to 5 with p times k at most 10";
-    let (no_method, one_short) = (["--method", "straus:1"], "2 1\n3\n");
-    for (options, text, number, at, found, place) in [
-        (&no_method[..], &wide[..], 3, "", straus, ""),
-        (
-            &["--method", "yao:9"],
-            WEEK,
-            3,
-            "",
-            ": method yao takes k from 1 to 8",
-            "",
-        ),
-        (
-            &["--method", "partition:0"],
-            WEEK,
-            3,
-            "",
-            ": method partition takes c from 1 to 8",
-            "",
-        ),
-        (&[], one_short, 2, "", ": 1 found, 2 wanted", ""),
-        // the sheet is looked at before the parameter
-        (
-            &["--method", "yao:9"],
-            one_short,
-            2,
-            "",
-            ": 1 found, 2 wanted",
-            "",
-        ),
-        (&[], "17 1\n", 1, "", ": p is 17, at most 16", ""),
-        (
-            &["--table"],
-            "3;2\n1;-4\n",
-            106,
-            " at line 2, column 3",
-            ": '-'",
-            "\"line\":2,\"column\":3,",
-        ),
-    ] {
+    let straus = "method straus takes k from 1 to 5 with p times k at most 10";
+    let yao = "method yao takes k from 1 to 8";
+    let partition = "method partition takes c from 1 to 8";
+    let short = "1 found, 2 wanted";
+    let refused = |options: &[&str], text: &str, number, place: &[(&str, usize)], found: &str| {
         let phrase = phrase(number);
-        let why = format!("standard input: refused {number}{at}: {phrase}{found}");
+        let words: Vec<String> = place
+            .iter()
+            .map(|(what, at)| format!("{what} {at}"))
+            .collect();
+        let at = match place {
+            [] => String::new(),
+            _ => format!(" at {}", words.join(", ")),
+        };
+        let why = format!("standard input: refused {number}{at}: {phrase}: {found}");
         let words = [&["ceiling"], options].concat();
         assert_eq!(spoutbasket(&words, text.as_bytes()).ended(1), why);
         let ended = spoutbasket(&[&words[..], &["--json"]].concat(), text.as_bytes());
         assert_eq!((ended.status, ended.line()), (1, why));
-        let object = format!("{{\"number\":{number},{place}\"phrase\":\"{phrase}\"}}");
+        let fields = place.iter().map(|(what, at)| format!("\"{what}\":{at},"));
+        let fields: String = fields.collect();
+        let object = format!("{{\"number\":{number},{fields}\"phrase\":\"{phrase}\"}}");
         let said = String::from_utf8(ended.said).unwrap();
         assert_eq!(said, format!("{{\"refused\":{object}}}\n"));
-    }
+    };
+    refused(&["--method", "straus:1"], &wide, 3, &[], straus);
+    refused(&["--method", "yao:9"], WEEK, 3, &[], yao);
+    refused(&["--method", "partition:0"], WEEK, 3, &[], partition);
+    refused(&[], "2 1\n3\n", 2, &[], short);
+    // the sheet is looked at before the parameter
+    refused(&["--method", "yao:9"], "2 1\n3\n", 2, &[], short);
+    refused(&[], "17 1\n", 1, &[], "p is 17, at most 16");
+    let place = [("line", 2), ("column", 3)];
+    refused(&["--table"], "3;2\n1;-4\n", 106, &place, "'-'");
     // what the columns do not allow is left out where it is not asked for
     let said = spoutbasket(&["ceiling"], wide.as_bytes()).done();
     assert!(said.starts_with("yao:1 "), "{said}");

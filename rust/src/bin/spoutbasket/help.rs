@@ -8,7 +8,7 @@ Usage: spoutbasket COMMAND ..
 
 Commands:
   compile  make a sheet's chain, the shortest unless a method is named
-  ceiling  reckon the steps and the ceiling, by which a tariff bills, of each method
+  ceiling  reckon each method's steps and its ceiling, by which a tariff bills
   check    hold a chain against a sheet, or against two
   choose   take the better of two chains for a sheet
   pool     make one chain of the chains of two sheets
@@ -47,10 +47,11 @@ Example: spoutbasket compile week.txt -o week.chain
         "\
 Usage: spoutbasket ceiling [--method METHOD] [--table | --packed P,Q] [--json] [SHEET]
 
-Reckons what a receivers' tariff bills for a sheet: for each method and parameter that
-its columns allow a line METHOD COUNT CEILING, the steps of its chain and the ceiling
-that they never exceed. A short last group of partition counts at its own size. A chain
-over 16,000 steps has a line too, but compile refuses it.
+Reckons what a receivers' tariff bills for a sheet by each method and parameter that the
+sheet's columns allow: a line METHOD COUNT CEILING, with the steps of the method's chain
+and the ceiling, by which the tariff bills and which they never exceed. A short last
+group of partition counts in the ceiling at its own size. A chain of more than 16,000
+steps has a line too, but compile refuses it.
 
   --method METHOD  as for compile: that one alone
   --table          the sheet is a table, one payslip a line

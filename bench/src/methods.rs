@@ -4,7 +4,7 @@ use spoutbasket::{MOST_COLUMNS, MOST_PAYSLIPS, MOST_STEPS};
 
 /// The count and the ceiling of a sheet, a method and a parameter that are fit.
 #[inline(always)]
-pub fn tally(
+pub fn quote(
     p: usize,
     q: usize,
     amounts: &[u32],
@@ -26,9 +26,9 @@ pub fn tally(
         return Err((3, 0));
     }
     Ok(match method {
-        1 => straus_tally(p, amounts, k),
-        2 => yao_tally(p, amounts, k),
-        _ => partition_tally(p, amounts, k),
+        1 => straus_quote(p, amounts, k),
+        2 => yao_quote(p, amounts, k),
+        _ => partition_quote(p, amounts, k),
     })
 }
 
@@ -42,7 +42,7 @@ pub fn compile(
     steps: &mut [u32],
     outputs: &mut [u32],
 ) -> Result<usize, (u32, usize)> {
-    let (n, _) = tally(p, q, amounts, method, k)?;
+    let (n, _) = quote(p, q, amounts, method, k)?;
     if n > MOST_STEPS {
         return Err((4, 0));
     }
@@ -130,7 +130,7 @@ fn over(slip: &[u32]) -> u32 {
 }
 
 #[inline(always)]
-fn straus_tally(p: usize, amounts: &[u32], k: usize) -> (usize, usize) {
+fn straus_quote(p: usize, amounts: &[u32], k: usize) -> (usize, usize) {
     let mut n = (1 << (p * k)) - p - 1;
     let mut ceiling = n;
     for slip in amounts.chunks_exact(p) {
@@ -161,7 +161,7 @@ fn straus(p: usize, amounts: &[u32], k: usize, steps: &mut Steps, outputs: &mut 
 }
 
 #[inline(always)]
-fn yao_tally(p: usize, amounts: &[u32], k: usize) -> (usize, usize) {
+fn yao_quote(p: usize, amounts: &[u32], k: usize) -> (usize, usize) {
     let columns = column_digits(p, amounts, k);
     let mut n = 0;
     for j in &columns[..p] {
@@ -248,7 +248,7 @@ fn parts(slip: &[u32], bits: &[usize], c: usize, mut part: impl FnMut(usize, usi
 }
 
 #[inline(always)]
-fn partition_tally(p: usize, amounts: &[u32], c: usize) -> (usize, usize) {
+fn partition_quote(p: usize, amounts: &[u32], c: usize) -> (usize, usize) {
     let bits = column_digits(p, amounts, 1);
     let w: usize = bits.iter().sum();
     let mut n = w - bits.iter().filter(|&&width| width > 0).count();

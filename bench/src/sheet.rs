@@ -138,7 +138,7 @@ fn ceiling(job: &Job) {
         ..
     } = *job;
     let ours = |amounts| ffi::ceiling(p, q, amounts, method, parameter).unwrap();
-    let theirs = |amounts| methods::tally(p, q, amounts, method, parameter).unwrap();
+    let theirs = |amounts| methods::quote(p, q, amounts, method, parameter).unwrap();
     report(
         &format!("ceiling {}", of(job)),
         medians(

@@ -50,12 +50,12 @@ mod keys;
 mod listing;
 mod method;
 mod packed;
+mod quote;
 mod reason;
 mod refusal;
 mod sheet;
 #[allow(unsafe_code)]
 pub mod slices;
-mod tally;
 
 pub use chain::{Chain, Run};
 pub use choose::choose;
@@ -64,10 +64,10 @@ pub use fault::{numbers, SheetError, TextFault};
 pub use keys::Keys;
 pub use listing::{list, list_text, Listing};
 pub use method::Method;
+pub use quote::Quote;
 pub use reason::{Reason, TextReason};
 pub use refusal::Refusal;
 pub use sheet::Sheet;
-pub use tally::Tally;
 
 /// The version of this package and of the header.
 pub const VERSION: &str = env!("CARGO_PKG_VERSION");

@@ -1,6 +1,6 @@
 use crate::chain::Lent;
 use crate::refusal::answer;
-use crate::{fault, numbers, slices, Chain, Method, Reason, Refusal, Run, SheetError, Tally};
+use crate::{fault, numbers, slices, Chain, Method, Quote, Reason, Refusal, Run, SheetError};
 use crate::{LONGEST_FILE, MOST_COLUMNS, MOST_PAYSLIPS, MOST_VALUES};
 use std::slice::ChunksExact;
 
@@ -231,21 +231,21 @@ impl Sheet {
     /// 3 for a parameter out of range.
     ///
     /// ```
-    /// use spoutbasket::{Method, Reason, Sheet, Tally};
+    /// use spoutbasket::{Method, Quote, Reason, Sheet};
     ///
     /// # fn main() -> Result<(), spoutbasket::Refusal> {
-    /// let tally = Sheet::new(2, 1, [3, 2])?.ceiling(Method::Yao(1))?;
-    /// assert_eq!(tally, Tally { count: 4, ceiling: 5 });
+    /// let quote = Sheet::new(2, 1, [3, 2])?.ceiling(Method::Yao(1))?;
+    /// assert_eq!(quote, Quote { count: 4, ceiling: 5 });
     ///
     /// // 5 bits in groups of 4 and of 1: 4 squarings, 11 steps for the first group, none for the last, and in the ceiling one to join them
     /// let sheet = Sheet::new(1, 1, [16])?;
-    /// let tally = sheet.ceiling(Method::Partition(4))?;
-    /// assert_eq!(tally, Tally { count: 15, ceiling: 16 });
+    /// let quote = sheet.ceiling(Method::Partition(4))?;
+    /// assert_eq!(quote, Quote { count: 15, ceiling: 16 });
     /// assert_eq!(sheet.ceiling(Method::Partition(9)).unwrap_err().reason, Reason::Method);
     /// # Ok(())
     /// # }
     /// ```
-    pub fn ceiling(&self, method: Method) -> Result<Tally, Refusal> {
+    pub fn ceiling(&self, method: Method) -> Result<Quote, Refusal> {
         let (number, parameter) = method.numbers();
         let [count, ceiling, ..] = answer(|words| {
             slices::ceiling(
@@ -257,7 +257,7 @@ impl Sheet {
                 words,
             )
         })?;
-        Ok(Tally { count, ceiling })
+        Ok(Quote { count, ceiling })
     }
 
     /// The chain with the fewest steps over every method and parameter, and the method that makes it: of several the first, in the order of

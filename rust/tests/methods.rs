@@ -1,5 +1,5 @@
 //! Methods by name and number, and the best of them for a sheet.
-use spoutbasket::{Method, Reason, Refusal, Sheet, Tally};
+use spoutbasket::{Method, Quote, Reason, Refusal, Sheet};
 use spoutbasket::{MOST_COLUMNS, MOST_PAYSLIPS};
 
 #[test]
@@ -62,9 +62,9 @@ fn parameters() -> Result<(), Refusal> {
     Ok(())
 }
 
-/// The tally has the steps that compile makes, within the ceiling, and is refused the parameters that compile is.
+/// The quote has the steps that compile makes, within the ceiling, and is refused the parameters that compile is.
 #[test]
-fn tallies() -> Result<(), Refusal> {
+fn quotes() -> Result<(), Refusal> {
     for sheet in [
         Sheet::new(1, 1, [0])?,
         Sheet::new(3, 2, [3, 0, 2, 1, 200, 0])?,
@@ -74,7 +74,7 @@ fn tallies() -> Result<(), Refusal> {
         {
             match sheet.compile(method) {
                 Ok(chain) => {
-                    let Tally { count, ceiling } = sheet.ceiling(method)?;
+                    let Quote { count, ceiling } = sheet.ceiling(method)?;
                     assert_eq!(count, chain.n(), "{method}");
                     assert!(count <= ceiling, "{method}");
                 }
@@ -130,11 +130,11 @@ fn too_long_for_some() -> Result<(), Refusal> {
     );
     // 31 squarings of each column; for each payslip 31 products a column, as many as there can be, and 15 to join them
     let most = 16 * 31 + 64 * (16 * 31 + 15);
-    let tally = Tally {
+    let quote = Quote {
         count: most,
         ceiling: most,
     };
-    assert_eq!(sheet.ceiling(Method::Yao(1))?, tally);
+    assert_eq!(sheet.ceiling(Method::Yao(1))?, quote);
     let (method, chain) = sheet.best()?;
     assert!(matches!(method, Method::Partition(_)), "{method}");
     chain.check(&sheet)

@@ -415,7 +415,7 @@ fn judge(
 }
 
 /// Ceiling: 1, 2, 3; of what is left the count and the ceiling, however large.
-pub fn tally(p: usize, q: usize, amounts: &[u32], method: usize, parameter: usize) -> Answer {
+pub fn quote(p: usize, q: usize, amounts: &[u32], method: usize, parameter: usize) -> Answer {
     judge(p, q, amounts, method, parameter)?;
     let count = count(p, q, amounts, method, parameter);
     let ceiling = ceiling(p, q, amounts, method, parameter);

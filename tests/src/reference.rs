@@ -1,7 +1,7 @@
 //! The specification in plain Rust, written from its text alone: what each call answers and what it leaves in each lent slice.
 //! It is slow and simple on purpose. The methods stand in `compiler`.
 
-pub use crate::compiler::{ceiling, compile, count, make, tally, Job};
+pub use crate::compiler::{ceiling, compile, count, make, quote, Job};
 
 /// The values of a call that is done, or a refusal's number and place.
 pub type Answer = Result<Vec<u64>, (u32, u64)>;

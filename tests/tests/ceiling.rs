@@ -6,7 +6,7 @@ use spoutbasket_tests::random::{self, job_counting, sheet, Random};
 use spoutbasket_tests::reference::{self, Answer, Job, MOST_COLUMNS, MOST_PAYSLIPS, MOST_STEPS};
 
 /// What the library answers, which is what the reference does.
-fn same_tally(job: &Job) -> Answer {
+fn same_quote(job: &Job) -> Answer {
     let Job {
         p,
         q,
@@ -15,14 +15,14 @@ fn same_tally(job: &Job) -> Answer {
         parameter,
     } = *job;
     let got = ffi::ceiling(p, q, amounts, method, parameter);
-    let want = reference::tally(p, q, amounts, method, parameter);
+    let want = reference::quote(p, q, amounts, method, parameter);
     assert_eq!(got, want, "{job:?}");
     got
 }
 
 /// The count and the ceiling of a job that is fit. The count is compile's n, and is told of a chain that is too long to compile too.
-fn tallied(job: &Job) -> (usize, usize) {
-    let values = same_tally(job).unwrap();
+fn quoted(job: &Job) -> (usize, usize) {
+    let values = same_quote(job).unwrap();
     let (count, ceiling) = (values[0] as usize, values[1] as usize);
     assert!(count <= ceiling, "{job:?}");
     let Job { p, q, amounts, .. } = job;
@@ -74,7 +74,7 @@ fn random_sheets() {
         let amounts = sheet(&mut r, p, q, bits);
         for (method, k) in methods(p) {
             let job = Job::new(p, q, &amounts, method, k);
-            let (count, _) = tallied(&job);
+            let (count, _) = quoted(&job);
             fit += (count <= MOST_STEPS) as usize;
             too_long += (count > MOST_STEPS) as usize;
             short += (method == 3 && with_all_full(&job).1) as usize;
@@ -96,7 +96,7 @@ fn every_number_of_inputs() {
         for c in 1..=8 {
             for q in [1, 2] {
                 let job = Job::new(MOST_COLUMNS, q, &row.repeat(q), 3, c);
-                let (_, ceiling) = tallied(&job);
+                let (_, ceiling) = quoted(&job);
                 // a step for each input but the first of a column; each subset of two or more of a group; the groups joined
                 let subsets = |g: usize| (1usize << g) - g - 1;
                 let tables = w / c * subsets(c) + subsets(w % c);
@@ -113,7 +113,7 @@ fn every_number_of_inputs() {
 fn the_tariffs_example() {
     let parts = |amounts: &[u32], c: usize| {
         let job = Job::new(1, amounts.len(), amounts, 3, c);
-        let (_, ceiling) = tallied(&job);
+        let (_, ceiling) = quoted(&job);
         let joined = amounts.len() * (5usize.div_ceil(c) - 1);
         let rest = 4 + joined;
         (ceiling - rest, with_all_full(&job).0 - rest)
@@ -126,8 +126,8 @@ fn the_tariffs_example() {
         assert_eq!(parts(amounts, 5), (26, 26));
         assert_eq!(parts(amounts, 8), (26, 247));
     }
-    assert_eq!(tallied(&Job::new(1, 1, &[16], 3, 4)), (15, 16));
-    assert_eq!(tallied(&Job::new(1, 1, &[31], 3, 4)), (16, 16));
+    assert_eq!(quoted(&Job::new(1, 1, &[16], 3, 4)), (15, 16));
+    assert_eq!(quoted(&Job::new(1, 1, &[31], 3, 4)), (16, 16));
 }
 
 /// Sheets at the edges by every method and parameter: nothing but zeros, the largest amounts, one payslip, one column, and the most of both.
@@ -137,25 +137,25 @@ fn edges() {
         for q in [1, 2, MOST_PAYSLIPS] {
             for amount in [0, 1, 2, 1 << 31, u32::MAX] {
                 for (method, k) in methods(p) {
-                    tallied(&Job::new(p, q, &vec![amount; p * q], method, k));
+                    quoted(&Job::new(p, q, &vec![amount; p * q], method, k));
                     // one amount alone, at either end
                     for at in [0, p * q - 1] {
                         let mut amounts = vec![0; p * q];
                         amounts[at] = amount;
-                        tallied(&Job::new(p, q, &amounts, method, k));
+                        quoted(&Job::new(p, q, &amounts, method, k));
                     }
                 }
             }
         }
     }
     // of zeros Straus makes its table, and the others nothing
-    let zeros = |method, k| tallied(&Job::new(2, 3, &[0; 6], method, k));
+    let zeros = |method, k| quoted(&Job::new(2, 3, &[0; 6], method, k));
     assert_eq!(zeros(1, 5), (1021, 1021));
     assert_eq!([zeros(2, 8), zeros(3, 1), zeros(3, 8)], [(0, 0); 3]);
     // the largest of all: 512 inputs, 64 payslips; by Yao with 8 bits each of 1,024 amounts has the ceiling's 4 + 253
     let largest = |method, k| {
         let amounts = [u32::MAX; MOST_COLUMNS * MOST_PAYSLIPS];
-        tallied(&Job::new(MOST_COLUMNS, MOST_PAYSLIPS, &amounts, method, k))
+        quoted(&Job::new(MOST_COLUMNS, MOST_PAYSLIPS, &amounts, method, k))
     };
     assert_eq!(largest(3, 1), (496 + 64 * 511, 496 + 64 * 511));
     assert_eq!(largest(2, 8).1, 16 * 24 + 1024 * 257 + 64 * 15);
@@ -166,7 +166,7 @@ fn edges() {
 fn longest_chains() {
     for (method, k) in [(2, 1), (2, 8), (3, 1), (3, 2), (3, 8)] {
         for n in [MOST_STEPS, MOST_STEPS + 1] {
-            assert_eq!(tallied(&job_counting(n, method, k)).0, n);
+            assert_eq!(quoted(&job_counting(n, method, k)).0, n);
         }
     }
 }
@@ -175,7 +175,7 @@ fn longest_chains() {
 #[test]
 fn refusals_and_their_neighbours() {
     let number = |p: usize, q: usize, amounts: usize, method, k| {
-        let told = same_tally(&Job::new(p, q, &vec![1; amounts], method, k));
+        let told = same_quote(&Job::new(p, q, &vec![1; amounts], method, k));
         told.map_or_else(|refused| refused, |_| (0, 0))
     };
     let huge = [usize::MAX, 1 << 63, 1 << 32, (1 << 32) + 1];
@@ -239,7 +239,7 @@ fn damaged_jobs() {
                 _ => job.parameter = r.pick(&[0, 6, 9, usize::MAX, 1 << 63, (1 << 32) + 1]),
             }
         }
-        let told = same_tally(&job);
+        let told = same_quote(&job);
         seen[told.map_or_else(|(number, _)| number as usize, |_| 0)] += 1;
     }
     for (number, times) in seen.into_iter().enumerate() {

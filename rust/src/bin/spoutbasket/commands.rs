@@ -11,7 +11,9 @@ use crate::options::{
 use crate::output;
 use crate::packed::refused_field;
 use crate::wanted::Wanted;
-use spoutbasket::{choose as choose_file, Chain, Extent, Method, Run, Sheet, Tally};
+use spoutbasket::{
+    choose as choose_file, Chain, Extent, Method, Quote, Reason, Refusal, Run, Sheet,
+};
 use std::ffi::OsString;
 
 /// A command: what it takes and what it does.
@@ -155,31 +157,31 @@ fn ceiling(form: &Form, given: &Given) -> Result<(), Failure> {
     let [kind] = kinds(form, given)?;
     let source = Source::new(given.file(0));
     let sheet = documents::sheet(&source, kind)?;
-    let tallies: Vec<(Method, Tally)> = match method {
-        Some(named) => {
-            let refused = |refusal| refused_sheet(&source, method, refusal);
-            vec![(named, sheet.ceiling(named).map_err(refused)?)]
-        }
-        // what is refused are parameters that do not go with as many columns
+    let quoted = |method| sheet.ceiling(method).map(|quote| (method, quote));
+    let quotes: Result<Vec<(Method, Quote)>, Refusal> = match method {
+        Some(named) => quoted(named).map(|quote| vec![quote]),
+        // parameters that do not go with as many columns are left out
         None => Method::all()
-            .filter_map(|method| Some((method, sheet.ceiling(method).ok()?)))
+            .map(quoted)
+            .filter(|quote| !matches!(quote, Err(refusal) if refusal.reason == Reason::Method))
             .collect(),
     };
+    let quotes = quotes.map_err(|refusal| refused_sheet(&source, method, refusal))?;
     if given.has("--json") {
         let mut fields = shape([sheet.columns(), sheet.payslips()]);
-        let methods = tallies.iter().map(|(method, tally)| {
+        let methods = quotes.iter().map(|(method, quote)| {
             json::object(&[
                 ("method", json::string(&method.to_string())),
-                ("count", tally.count.to_string()),
-                ("ceiling", tally.ceiling.to_string()),
+                ("count", quote.count.to_string()),
+                ("ceiling", quote.ceiling.to_string()),
             ])
         });
         fields.push(("methods", json::array(methods)));
         return print(json::object(&fields));
     }
-    let lines: Vec<String> = tallies
+    let lines: Vec<String> = quotes
         .iter()
-        .map(|(method, tally)| format!("{method} {} {}", tally.count, tally.ceiling))
+        .map(|(method, quote)| format!("{method} {} {}", quote.count, quote.ceiling))
         .collect();
     print(lines.join("\n"))
 }

@@ -9,7 +9,7 @@ use native.Mathlib.Omega.{arith}
 use lib.Pow.{pow-mono}
 use Rattle.digits.specs.Range.{sumTo}
 use Rattle.digits.proofs.Range.{sum-on, sum-low}
-use Rattle.groups.specs.Groups.{groupCount, groupSize, mostInputs, mostMembers, tablesCount}
+use Rattle.groups.specs.Groups.{groupCount, groupSize, mostInputs, mostMembers, tableSteps, tablesCount}
 use Rattle.groups.specs.Inner.{bitsLess}
 use Rattle.groups.proofs.Groups.{inputs-below}
 
@@ -44,7 +44,7 @@ module _ (n x : ℕ) (e : x ≡ 2 ^ n) where
   pub table-some : n + 1 ≤ x
   table-some = omega (arith, inputs-below n)
 
-  pub table-told : x - n - 1 ≡ 2 ^ n - n - 1
+  pub table-told : x - n - 1 ≡ tableSteps n
   table-told = ap (λ (m : ℕ). m - n - 1) e
 
   pub table-few : n ≤ mostMembers → x - n - 1 ≤ 2 ^ mostMembers
@@ -54,20 +54,18 @@ pub size-few : (c w g r : ℕ) → c ≤ mostMembers → r ≡ groupSize c w g �
 size-few c w g r few e = omega arith
 
 -- one group's table more
-pub tables-on : (c w n g s r : ℕ) → s ≡ groupSize c w g → r ≡ 2 ^ s - s - 1 → n ≡ tablesCount c w g → n + r ≡ tablesCount c w (g + 1)
-tables-on c w n g s r size is e =
-    sum-on (λ k. 2 ^ groupSize c w k - groupSize c w k - 1) g n r (is ∙ ap (λ (m : ℕ). 2 ^ m - m - 1) size) e
+pub tables-on : (c w n g s r : ℕ) → s ≡ groupSize c w g → r ≡ tableSteps s → n ≡ tablesCount c w g → n + r ≡ tablesCount c w (g + 1)
+tables-on c w n g s r size is e = sum-on (λ k. tableSteps (groupSize c w k)) g n r (is ∙ ap tableSteps size) e
 
 -- a table of more inputs has no fewer steps
-table-more : (g c : ℕ) → g ≤ c → 2 ^ g - g - 1 ≤ 2 ^ c - c - 1
+table-more : (g c : ℕ) → g ≤ c → tableSteps g ≤ tableSteps c
 table-more g zero h = let e : g ≡ 0 = omega arith in rw e (le-refl _)
 table-more g (suc c) h = by-size (table-more g c) (decLe g c)
   where
-    by-size : (g ≤ c → 2 ^ g - g - 1 ≤ 2 ^ c - c - 1) → Dec (g ≤ c) → 2 ^ g - g - 1 ≤ 2 ^ suc c - suc c - 1
+    by-size : (g ≤ c → tableSteps g ≤ tableSteps c) → Dec (g ≤ c) → tableSteps g ≤ tableSteps (suc c)
     by-size ih (yes le) = rw (pow-suc 2 c) (omega (arith, ih le, inputs-below c))
     by-size ih (no gt) = let e : g ≡ suc c = omega arith in rw e (le-refl _)
 
 -- no group has a longer table than a full one
-pub tables-full : (c w n : ℕ) → tablesCount c w n ≤ n * (2 ^ c - c - 1)
-tables-full c w n =
-    sum-low n (λ g. 2 ^ groupSize c w g - groupSize c w g - 1) (2 ^ c - c - 1) (λ g h. table-more (groupSize c w g) c (omega arith))
+pub tables-full : (c w n : ℕ) → tablesCount c w n ≤ n * tableSteps c
+tables-full c w n = sum-low n (λ g. tableSteps (groupSize c w g)) (tableSteps c) (λ g h. table-more (groupSize c w g) c (omega arith))

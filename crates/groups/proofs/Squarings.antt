@@ -5,7 +5,7 @@ use mathlib.Core.List.{List}
 use Prim.Native.Nat.{ℕ, zero, suc, _+_, _-_, _<_}
 use native.Mathlib.Omega.{arith}
 use Rattle.digits.specs.Digits.{bitLength}
-use Rattle.digits.specs.Range.{sumTo, sign}
+use Rattle.digits.specs.Range.{sign}
 use Rattle.digits.proofs.Count.{count-zero, bits-some}
 use Rattle.digits.proofs.Range.{sum-same, sum-add, max-none}
 use Rattle.sheet.specs.Sheet.{amount}

@@ -16,7 +16,7 @@ use Rattle.tables.specs.Table.{entry, table}
 use Rattle.products.proofs.Sound.{Begins, begins-own, begins-more, begins-on, makes-on, Sound}
 use Rattle.tables.proofs.Table.{table-count}
 use Rattle.tables.proofs.Entries.{combined, Inputs, Entries, table-makes}
-use Rattle.groups.specs.Groups.{group, groupSize, groupTables}
+use Rattle.groups.specs.Groups.{group, groupSize, groupTables, tableSteps}
 use Rattle.groups.proofs.Groups.{getD-group, group-within, length-group}
 
 -- the value number of part t of group e
@@ -26,16 +26,16 @@ partOf p c members start e t = entry 1 (group c e members) (p + length (groupTab
 -- the steps of the tables add up
 pub tables-count : (p c : ℕ) (members : List ℕ) (start : List Step) (g : ℕ)
     → length (groupTables p c members start g)
-    ≡ length start + sumTo g (λ e. 2 ^ groupSize c (length members) e - groupSize c (length members) e - 1)
+    ≡ length start + sumTo g (λ e. tableSteps (groupSize c (length members) e))
 tables-count p c members start zero = omega arith
 tables-count p c members start (suc g) =
     let r = groupTables p c members start g in
     let own = group c g members in
-    let size : length (table 1 own (p + length r + 1) (2 ^ length own)) ≡ 2 ^ groupSize c (length members) g - groupSize c (length members) g - 1 =
+    let size : length (table 1 own (p + length r + 1) (2 ^ length own)) ≡ tableSteps (groupSize c (length members) g) =
     ap (λ (n : ℕ). length (table 1 own (p + length r + 1) (2 ^ n))) (sym (one-mul (length own)))
     ∙ table-count 1 (omega arith) own (p + length r + 1) (length own)
     ∙ ap (λ (n : ℕ). 2 ^ n - length own - 1) (one-mul (length own))
-    ∙ ap (λ (n : ℕ). 2 ^ n - n - 1) (length-group c g members) in
+    ∙ ap tableSteps (length-group c g members) in
     length-append r _ ∙ omega (arith, size, tables-count p c members start g)
 
 -- the first g groups' tables are made: part t of group e makes the sum of its members' exponents

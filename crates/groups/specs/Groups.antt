@@ -45,9 +45,13 @@ groupTables p c members before (suc g) =
     let r = groupTables p c members before g in
     r ++ table 1 (group c g members) (p + length r + 1) (2 ^ length (group c g members))
 
--- Spec 3.7: the steps of the tables of the first n groups of w inputs, each group at its own size
+-- Spec 3.4, 3.7: the steps of the table of a group of g inputs
+abbrev pub tableSteps : ℕ → ℕ
+tableSteps g = 2 ^ g - g - 1
+
+-- Spec 3.7, Req 04: those of the first n groups of w inputs, each group at its own size
 abbrev pub tablesCount : ℕ → ℕ → ℕ → ℕ
-tablesCount c w n = sumTo n (λ g. 2 ^ groupSize c w g - groupSize c w g - 1)
+tablesCount c w n = sumTo n (λ g. tableSteps (groupSize c w g))
 
 -- of a sheet
 module _ (p q : ℕ) (amounts : List ℕ) where

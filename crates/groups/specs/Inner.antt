@@ -12,7 +12,7 @@ use Rattle.methods.specs.Powers.{countsOf, squarings, powerOf}
 use Rattle.groups.specs.declared.Grouping.{Grouping}
 use Rattle.chain.specs.declared.Step.{Step}
 use Rattle.groups.specs.Groups.{columnBits, group, groupCount, groupTables, inputCount, mostInputs, mostMembers, overInputs}
-use Rattle.groups.specs.Groups.{selection, squaringCount, weigh}
+use Rattle.groups.specs.Groups.{selection, squaringCount, tableSteps, weigh}
 
 -- the bits of columns less some each, as far as they go
 abbrev pub bitsLess : List ℕ → ℕ → ℕ → ℕ
@@ -124,7 +124,7 @@ pub record GroupsMade (s : Grouping) (bits members₀ steps₀ members steps : L
 
 -- the value number of the first step of group g's table: the groups before it are full
 abbrev pub tableAt : Grouping → ℕ → ℕ
-tableAt s g = s .p + s .squarings + g * (2 ^ s .c - s .c - 1) + 1
+tableAt s g = s .p + s .squarings + g * tableSteps (s .c) + 1
 
 -- t is a part of group g
 pub record PartOf (s : Grouping) (members : List ℕ) (g t : ℕ) : Type 0 where

@@ -2,13 +2,13 @@
 -- be no less. It is 0 without inputs, where there is neither a squaring nor a group.
 use mathlib.Core.Path.{_≡_, sym, ap, ap₂, _∙_}
 use mathlib.Core.List.{List}
-use Prim.Native.Nat.{ℕ, _+_, _-_, _*_, _^_, _≤_}
+use Prim.Native.Nat.{ℕ, _+_, _-_, _*_, _≤_}
 use native.Mathlib.Nat.{mul-zero}
 use native.Mathlib.Omega.{arith}
 use lib.ListN.{length}
 use Rattle.digits.specs.Range.{sumTo}
 use Rattle.digits.proofs.Range.{sum-same}
-use Rattle.groups.specs.Groups.{columnsUsed, group, groupCount, groupSize, inputCount, inputs, tablesCount}
+use Rattle.groups.specs.Groups.{columnsUsed, group, groupCount, groupSize, inputCount, inputs, tableSteps, tablesCount}
 use Rattle.groups.proofs.Counting.{groups-low, tables-full}
 use Rattle.groups.proofs.Groups.{length-group}
 use Rattle.groups.proofs.Members.{members-count}
@@ -24,10 +24,10 @@ module _ (p q : ℕ) (amounts : List ℕ) (c : ℕ) where
 
   -- the steps of the table of group g
   abbrev tabled : ℕ → ℕ
-  tabled g = let n = length (group c g (inputs p q amounts)) in 2 ^ n - n - 1
+  tabled g = tableSteps (length (group c g (inputs p q amounts)))
 
   grouped : tablesCount c w G ≡ sumTo G tabled
-  grouped = sum-same G _ _ (λ g h. ap (λ (n : ℕ). 2 ^ n - n - 1) (sym (own g)))
+  grouped = sum-same G _ _ (λ g h. ap tableSteps (sym (own g)))
     where
       own : (g : ℕ) → length (group c g (inputs p q amounts)) ≡ groupSize c w g
       own g = length-group c g (inputs p q amounts) ∙ ap (λ (n : ℕ). groupSize c n g) (members-count p q amounts)
@@ -37,7 +37,7 @@ module _ (p q : ℕ) (amounts : List ℕ) (c : ℕ) where
   ceiling-some = ap₂ (λ (n m : ℕ). n + m + q * (G - 1)) (squarings-are p q amounts) grouped
 
   -- with every group a full one
-  pub ceiling-low : partitionCeiling p q amounts c ≤ w - columnsUsed p q amounts + G * (2 ^ c - c - 1) + q * (G - 1)
+  pub ceiling-low : partitionCeiling p q amounts c ≤ w - columnsUsed p q amounts + G * tableSteps c + q * (G - 1)
   unfolding partitionCeiling
   ceiling-low = omega (arith, squarings-are p q amounts, tables-full c w G)
 

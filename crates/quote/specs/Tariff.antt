@@ -1,15 +1,11 @@
 -- What is said of the ceiling of method 3, by which a tariff bills (Req 04); proofs/Tariff.antt proves it of every sheet and every c that the method takes.
 use mathlib.Core.Path.{_≡_}
 use mathlib.Core.List.{List}
-use Prim.Native.Nat.{ℕ, _+_, _-_, _*_, _^_, _≤_}
+use Prim.Native.Nat.{ℕ, _+_, _-_, _*_, _≤_}
 use lib.ListN.{length}
 use Rattle.digits.specs.Range.{sumTo}
-use Rattle.groups.specs.Groups.{columnsUsed, group, groupCount, inputCount, inputs}
+use Rattle.groups.specs.Groups.{columnsUsed, group, groupCount, inputCount, inputs, tableSteps}
 use Rattle.quote.specs.ByMethod.{chainOf, ceiling}
-
--- 2^g − g − 1
-abbrev pub tableSteps : ℕ → ℕ
-tableSteps g = 2 ^ g - g - 1
 
 -- the ceiling where the groups' tables take so many steps
 abbrev pub ceilingWith : ℕ → ℕ → List ℕ → ℕ → ℕ → ℕ

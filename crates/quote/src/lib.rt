@@ -60,10 +60,10 @@ pub fn judge_quote(
         Judgement::Fine => {}
     }
     measure(p, q, amounts, method, largest);
-    let t = quote(p, q, amounts, method, k, largest);
+    let quoted = quote(p, q, amounts, method, k, largest);
     Quoted::Steps {
-        count: t.count,
-        ceiling: t.ceiling,
+        count: quoted.count,
+        ceiling: quoted.ceiling,
     }
 }
 

@@ -36,9 +36,9 @@ pub fn quote(p: usize, q: usize, amounts: &[u32], k: usize) -> Quote
     let mut most = table;
     let mut i: usize = 0;
     while i < q {
-        let t = payslip_quote(p, amounts, k, i);
-        n += t.count;
-        most += t.ceiling;
+        let payslip = payslip_quote(p, amounts, k, i);
+        n += payslip.count;
+        most += payslip.ceiling;
         i += 1;
     }
     Quote {

@@ -14,7 +14,7 @@ use Rattle.digits.specs.Range.{sumTo}
 use Rattle.digits.proofs.Range.{sum-same}
 use Rattle.tables.specs.Table.{entry}
 use Rattle.groups.specs.declared.Grouping.{Grouping}
-use Rattle.groups.specs.Groups.{group, groupSize, groupTables, mostInputs, mostMembers}
+use Rattle.groups.specs.Groups.{group, groupSize, groupTables, mostInputs, mostMembers, tableSteps}
 use Rattle.groups.specs.Inner.{Cuts, PartOf, tableAt}
 use Rattle.groups.proofs.Counting.{group-inside}
 use Rattle.groups.proofs.Groups.{length-group}
@@ -61,10 +61,10 @@ sum-all zero a = omega arith
 sum-all (suc n) a = rw (suc-mul n a) (omega (arith, sum-all n a))
 
 tables-full : (p c : ℕ) (members : List ℕ) (start : List Step) (g : ℕ) → g * c ≤ length members
-    → length (groupTables p c members start g) ≡ length start + g * (2 ^ c - c - 1)
+    → length (groupTables p c members start g) ≡ length start + g * tableSteps c
 tables-full p c members start g h =
     tables-count p c members start g
-    ∙ ap (λ (n : ℕ). length start + n) (sum-same g _ (λ e. 2 ^ c - c - 1) (λ e k. ap (λ (n : ℕ). 2 ^ n - n - 1) (full e k)) ∙ sum-all g (2 ^ c - c - 1))
+    ∙ ap (λ (n : ℕ). length start + n) (sum-same g _ (λ e. tableSteps c) (λ e k. ap tableSteps (full e k)) ∙ sum-all g (tableSteps c))
   where
     full : (e : ℕ) → e < g → groupSize c (length members) e ≡ c
     full e k =
@@ -119,6 +119,6 @@ module _ {s : Grouping} {members : List ℕ} {g t : ℕ} (part : PartOf s member
   pub entry-number : {at : ℕ} → at < partsEnd → at + t < 2 ^ 32
   entry-number h = let low = part .part in omega (arith, group-parts (s .c) g members (part .cuts .few))
 
-  pub entry-told : {y r : ℕ} → r ≡ 2 ^ s .c - s .c - 1 → y ≡ entry 1 mine (s .p + s .squarings + g * r + 1) t
+  pub entry-told : {y r : ℕ} → r ≡ tableSteps (s .c) → y ≡ entry 1 mine (s .p + s .squarings + g * r + 1) t
       → y ≡ entry 1 (group (s .c) g members) (tableAt s g) t
   entry-told full e = e ∙ ap₂ (λ (l : List ℕ) (k : ℕ). entry 1 l (s .p + s .squarings + g * k + 1) t) mine-is full

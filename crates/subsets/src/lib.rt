@@ -2,10 +2,9 @@
 ghost use mathlib.Core.Path.{_≡_};
 ghost use Prim.Native.Nat.{_+_, _-_, _*_, _^_, _≤_, _<_};
 ghost use Rattle.tables.specs.Table.{entry};
-ghost use Rattle.groups.specs.Groups.{group, groupSize, mostInputs, mostMembers, tablesCount};
+ghost use Rattle.groups.specs.Groups.{group, groupSize, mostInputs, mostMembers, tableSteps, tablesCount};
 ghost use Rattle.digits.specs.Inner.{Bounded};
-ghost use Rattle.groups.specs.Inner.{Cuts, PartOf};
-ghost use Rattle.groups.specs.Inner.{tableAt};
+ghost use Rattle.groups.specs.Inner.{Cuts, PartOf, tableAt};
 use groups::Grouping;
 
 // The size of group g of w inputs.
@@ -23,7 +22,7 @@ pub fn group_size(c: usize, w: usize, g: usize) -> usize
 // The steps of a table of n inputs.
 fn table_count(n: usize) -> usize
     requires { ⌜ n ≤ mostMembers ⌝ }
-    ensures { λ r. ⌜ Bounded r (2 ^ n - n - 1) (2 ^ mostMembers) ⌝ }
+    ensures { λ r. ⌜ Bounded r (tableSteps n) (2 ^ mostMembers) ⌝ }
 {
     digits::power(n) as usize - n - 1
 }

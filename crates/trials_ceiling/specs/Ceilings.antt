@@ -3,9 +3,9 @@ use mathlib.Core.List.{List, [], _∷_, _++_}
 use Prim.Native.Nat.{ℕ, _*_, _<_}
 use lib.ListN.{length, getD, replicate}
 use Rattle.digits.specs.Range.{listTo}
-use Rattle.groups.specs.Groups.{group, groupCount, inputCount, inputs, tablesCount}
+use Rattle.groups.specs.Groups.{group, groupCount, inputCount, inputs, tableSteps, tablesCount}
 use Rattle.quote.specs.ByMethod.{ceilingAnswer}
-use Rattle.quote.specs.Tariff.{ceilingWith, tableSteps}
+use Rattle.quote.specs.Tariff.{ceilingWith}
 use Rattle.trials.specs.Rows.{Row, _gives_, Holds, rows-hold, answered, definitions}
 
 -- the tables' part of the ceiling for w inputs, and what it was

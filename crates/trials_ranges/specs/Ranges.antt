@@ -3,7 +3,6 @@ use mathlib.Core.List.{List, [], _∷_, _++_}
 use Prim.Native.Nat.{ℕ, _+_, _<_}
 use lib.ListN.{length, getD, replicate}
 use Rattle.chain.specs.Chain.{mostColumns, mostPayslips, mostSteps, mostAmount, by, pairs, flat, legalRule}
-use Rattle.chain.specs.declared.Step.{Step}
 use Rattle.verify.specs.Verify.{verifyAnswer}
 use Rattle.run.specs.Run.{runAnswer}
 use Rattle.layout.specs.Layout.{edition1}

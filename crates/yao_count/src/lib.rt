@@ -91,9 +91,9 @@ fn chain_quote(p: usize, q: usize, amounts: &[u32], k: usize, columns: &[u32]) -
     let mut most = squarings;
     let mut i: usize = 0;
     while i < q {
-        let t = payslip_quote(p, q, amounts, k, columns, i);
-        n += t.count;
-        most += t.ceiling;
+        let payslip = payslip_quote(p, q, amounts, k, columns, i);
+        n += payslip.count;
+        most += payslip.ceiling;
         i += 1;
     }
     Quote {

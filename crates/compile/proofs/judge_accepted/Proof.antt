@@ -1,7 +1,6 @@
 -- Each return is a line of the rule: what was refused before the steps were counted, the length's refusal, or none; the columns were measured by then.
 use borrow.Author.Needs.{needs}
-use mathlib.Core.Path.{_≡_, sym}
-use denote.Ref.{now}
+use mathlib.Core.Path.{sym}
 use Rattle.answers.proofs.Clauses.{answer-clause, only-slice-clause}
 use Rattle.quote.proofs.Answers.{stopped}
 use Rattle.compile.proofs.Answers.{all-accepted, quote-passed, quote-refused, too-long}

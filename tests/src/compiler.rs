@@ -52,6 +52,12 @@ pub fn methods(p: usize) -> Vec<(usize, usize)> {
         .collect()
 }
 
+/// A sheet by each method and parameter that go with its columns.
+pub fn jobs(p: usize, q: usize, amounts: &[u32]) -> Vec<Job> {
+    let job = |(method, k)| Job::new(p, q, amounts, method, k);
+    methods(p).into_iter().map(job).collect()
+}
+
 /// 3: the method's number and its own range of parameters.
 fn judge_method(p: usize, method: usize, k: usize) -> Result<(), (u32, u64)> {
     let fits = match method {

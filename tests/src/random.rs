@@ -1,6 +1,6 @@
 //! Random numbers from a fixed seed, random chains, sheets, packed fields, moduli and bases.
 
-use crate::compiler::{methods, Job};
+use crate::compiler::{jobs, methods, Job};
 use crate::reference::{exponents, pairs, Part, FIELD_BYTES};
 use crate::reference::{MOST_AMOUNT, MOST_COLUMNS, MOST_PAYSLIPS};
 
@@ -175,6 +175,16 @@ pub fn job(r: &mut Random, most_columns: usize, most_payslips: usize) -> Job {
     let amounts = sheet(r, p, q, bits);
     let (method, parameter) = r.pick(&methods(p));
     Job::new(p, q, &amounts, method, parameter)
+}
+
+/// A sheet, of any size in every fourth round and else a small one, by each method and parameter that go with it.
+pub fn jobs_in_round(r: &mut Random, round: usize) -> Vec<Job> {
+    let (p, q) = match round % 4 {
+        0 => (r.within(1, MOST_COLUMNS), r.within(1, MOST_PAYSLIPS)),
+        _ => (r.within(1, 10), r.within(1, 12)),
+    };
+    let bits = r.below(33);
+    jobs(p, q, &sheet(r, p, q, bits))
 }
 
 /// A job of the most columns and payslips whose count is just n: amounts are raised one by one as long as the count stays within n.

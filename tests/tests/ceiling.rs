@@ -2,7 +2,7 @@
 //! taken as full.
 use spoutbasket_tests::compiler::methods;
 use spoutbasket_tests::ffi;
-use spoutbasket_tests::random::{self, job_counting, sheet, Random};
+use spoutbasket_tests::random::{self, job_counting, jobs_in_round, Random};
 use spoutbasket_tests::reference::{self, Answer, Job, MOST_COLUMNS, MOST_PAYSLIPS, MOST_STEPS};
 
 /// What the library answers, which is what the reference does.
@@ -65,19 +65,11 @@ fn random_sheets() {
     let mut r = Random(91);
     let (mut fit, mut too_long, mut short) = (0, 0, 0);
     for round in 0..400 {
-        let (p, q) = if round % 4 == 0 {
-            (r.within(1, MOST_COLUMNS), r.within(1, MOST_PAYSLIPS))
-        } else {
-            (r.within(1, 10), r.within(1, 12))
-        };
-        let bits = r.below(33);
-        let amounts = sheet(&mut r, p, q, bits);
-        for (method, k) in methods(p) {
-            let job = Job::new(p, q, &amounts, method, k);
+        for job in jobs_in_round(&mut r, round) {
             let (count, _) = quoted(&job);
             fit += (count <= MOST_STEPS) as usize;
             too_long += (count > MOST_STEPS) as usize;
-            short += (method == 3 && with_all_full(&job).1) as usize;
+            short += (job.method == 3 && with_all_full(&job).1) as usize;
         }
     }
     assert!(fit > 5000, "only {fit} chains fit");

@@ -1,16 +1,10 @@
 //! The ceiling by the command: a line for each method and parameter that the columns allow, for every kind of sheet, as a text and as an object; and what
 //! it turns down.
 use spoutbasket_tests::command::{packed, sheet_text, spoutbasket, Folder, WEEK};
-use spoutbasket_tests::compiler::methods;
+use spoutbasket_tests::compiler::jobs;
 use spoutbasket_tests::random::{sheet, Random};
 use spoutbasket_tests::reference::{Job, MOST_COLUMNS, MOST_PAYSLIPS, MOST_STEPS};
 use spoutbasket_tests::texts::phrase;
-
-/// The sheet by each method and parameter that its columns allow.
-fn jobs(p: usize, q: usize, amounts: &[u32]) -> Vec<Job> {
-    let job = |(method, k)| Job::new(p, q, amounts, method, k);
-    methods(p).into_iter().map(job).collect()
-}
 
 fn lines(jobs: &[Job]) -> String {
     let line = |job: &Job| format!("{} {} {}\n", job.method_name(), job.count(), job.ceiling());

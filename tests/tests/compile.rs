@@ -1,7 +1,7 @@
 //! Compile against the plain compiler, step for step, every lent cell included.
 use spoutbasket_tests::compiler::methods;
 use spoutbasket_tests::ffi;
-use spoutbasket_tests::random::{job_counting, sheet, Random};
+use spoutbasket_tests::random::{job_counting, jobs_in_round, Random};
 use spoutbasket_tests::reference::{self, Answer, Job, MOST_COLUMNS, MOST_PAYSLIPS, MOST_STEPS};
 
 /// What compile answers and leaves in its two slices.
@@ -67,19 +67,11 @@ fn random_sheets() {
     let mut r = Random(41);
     let (mut compiled, mut too_long) = (0, 0);
     for round in 0..400 {
-        let (p, q) = if round % 4 == 0 {
-            (r.within(1, MOST_COLUMNS), r.within(1, MOST_PAYSLIPS))
-        } else {
-            (r.within(1, 10), r.within(1, 12))
-        };
-        let bits = r.below(33);
-        let amounts = sheet(&mut r, p, q, bits);
-        for (method, k) in methods(p) {
-            let job = Job::new(p, q, &amounts, method, k);
+        for job in jobs_in_round(&mut r, round) {
             let n = job.count();
             // cells to spare, an odd one among them
             let spare = r.pick(&[0, 0, 1, 2, 3]);
-            let (steps, outputs) = (r.words(2 * n + spare), r.words(q + round % 3));
+            let (steps, outputs) = (r.words(2 * n + spare), r.words(job.q + round % 3));
             if n <= reference::MOST_STEPS {
                 accepted(&job, &steps, &outputs);
                 compiled += 1;

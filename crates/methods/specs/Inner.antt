@@ -40,15 +40,15 @@ pub record AskedByLargest (most p q : ℕ) (amounts : List ℕ) (k : ℕ) (cells
 abbrev pub digitsAt : ℕ → List ℕ → ℕ → ℕ
 digitsAt k numbers c = digitCount k (getD numbers c 0)
 
--- a quote is that of a method
-pub record QuoteOf (t : Quote) (m : Method) : Type 0 where
-  pub count-is : t .count ≡ m .count
-  pub ceiling-is : t .ceiling ≡ m .ceiling
+-- r is the quote of a method
+pub record QuoteOf (r : Quote) (m : Method) : Type 0 where
+  pub count-is : r .count ≡ m .count
+  pub ceiling-is : r .ceiling ≡ m .ceiling
 
--- a quote has these two numbers, neither of them large
-pub record QuoteWithin (t : Quote) (count ceiling most : ℕ) : Type 0 where
-  pub counted : Bounded (t .count) count most
-  pub ceiled : Bounded (t .ceiling) ceiling most
+-- r has these two numbers, neither of them large
+pub record QuoteWithin (r : Quote) (count ceiling most : ℕ) : Type 0 where
+  pub counted : Bounded (r .count) count most
+  pub ceiled : Bounded (r .ceiling) ceiling most
 
 -- room for so many steps and q outputs
 pub record LentRoom (q count : ℕ) (steps outputs : List ℕ) : Type 0 where

@@ -68,5 +68,5 @@ most-fits s amounts bits grouped l e =
 
 -- a sheet's grouping stands for what was given
 pub quote-given : {p q : ℕ} {amounts : List ℕ} {c : ℕ} {bits : List ℕ} {s : Grouping} → GroupedFor p q amounts c bits s
-    → {t : Quote} → QuoteOf t (partitionMethod (s .p) (s .q) amounts (s .c)) → QuoteOf t (partitionMethod p q amounts c)
+    → {r : Quote} → QuoteOf r (partitionMethod (s .p) (s .q) amounts (s .c)) → QuoteOf r (partitionMethod p q amounts c)
 quote-given {amounts = amounts} told e = rw (← as-given (λ p q c. partitionMethod p q amounts c) told) e

@@ -54,7 +54,7 @@ fn payslips_count(s: Grouping, amounts: &[u32], bits: &[u32], cells: &mut [u32])
     n
 }
 
-// The steps of the squarings and of the groups' tables, and those of the payslips or, for the ceiling, as many as there are groups but one for each.
+// The squarings and the groups' tables; then for the count the payslips' steps, and for the ceiling one for each payslip and each group but one.
 fn chain_quote(s: Grouping, amounts: &[u32], bits: &[u32]) -> Quote
     requires { ⌜ Grouped s (now amounts) (now bits) ⌝ }
     ensures { λ r. ⌜ QuoteOf r (partitionMethod (s .p) (s .q) (now (amounts .entry)) (s .c)) ⌝ }

@@ -13,8 +13,8 @@ pub stopped : (v : Verdict) (values : List ℕ) (number place : ℕ) {M : Type 0
 stopped v values number place e = (answer-refused v values number place e, λ f. absurd (not-fine (e ∙ f)))
 
 -- what passes has this quote
-pub counted : (p q : ℕ) (amounts : List ℕ) (method k : ℕ) (t : Quote) → fine ≡ countRule p q amounts method k → QuoteOf t (methodOf p q amounts method k)
-    → done (t .count ∷ t .ceiling ∷ []) ≡ ceilingAnswer p q amounts method k
+pub counted : (p q : ℕ) (amounts : List ℕ) (method k : ℕ) (r : Quote) → fine ≡ countRule p q amounts method k → QuoteOf r (methodOf p q amounts method k)
+    → done (r .count ∷ r .ceiling ∷ []) ≡ ceilingAnswer p q amounts method k
 unfolding ceilingAnswer
-counted p q amounts method k t e is =
+counted p q amounts method k r e is =
     ap₂ (λ (n m : ℕ). done (n ∷ m ∷ [])) (is .count-is) (is .ceiling-is) ∙ answer-done _ _ e

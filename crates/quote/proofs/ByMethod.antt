@@ -29,7 +29,7 @@ pub same-count : {m n : Method} → m ≡ n → m .count ≡ n .count
 same-count = ap (λ (m : Method). m .count)
 
 -- what was counted, and what was written, of a method by another name
-pub quoted : {m n : Method} → m ≡ n → {t : Quote} → QuoteOf t n → QuoteOf t m
+pub quoted : {m n : Method} → m ≡ n → {r : Quote} → QuoteOf r n → QuoteOf r m
 quoted same e = rw same e
 
 pub emitted : {m n : Method} → m ≡ n → {steps outputs steps′ outputs′ : List ℕ} → ChainStored steps outputs steps′ outputs′ (n .chain)

@@ -177,6 +177,20 @@ pub fn job(r: &mut Random, most_columns: usize, most_payslips: usize) -> Job {
     Job::new(p, q, &amounts, method, parameter)
 }
 
+/// Makes one thing wrong, or odd, of what a job is asked for with.
+pub fn damage(r: &mut Random, job: &mut Job) {
+    match r.below(6) {
+        0 => job.p = r.pick(&[0, 17, usize::MAX, 1 << 63, 3]),
+        1 => job.q = r.pick(&[0, 65, usize::MAX, 1 << 63, 3]),
+        2 => {
+            job.amounts.pop();
+        }
+        3 => job.amounts.push(0),
+        4 => job.method = r.pick(&[0, 4, usize::MAX, (1 << 32) + 1]),
+        _ => job.parameter = r.pick(&[0, 6, 9, usize::MAX, 1 << 63, (1 << 32) + 1]),
+    }
+}
+
 /// A sheet, of any size in every fourth round and else a small one, by each method and parameter that go with it.
 pub fn jobs_in_round(r: &mut Random, round: usize) -> Vec<Job> {
     let (p, q) = match round % 4 {

@@ -2,7 +2,7 @@
 //! taken as full.
 use spoutbasket_tests::compiler::methods;
 use spoutbasket_tests::ffi;
-use spoutbasket_tests::random::{self, job_counting, jobs_in_round, Random};
+use spoutbasket_tests::random::{self, damage, job_counting, jobs_in_round, Random};
 use spoutbasket_tests::reference::{self, Answer, Job, MOST_COLUMNS, MOST_PAYSLIPS, MOST_STEPS};
 
 /// What the library answers, which is what the reference does.
@@ -220,16 +220,7 @@ fn damaged_jobs() {
     for _ in 0..30_000 {
         let mut job = random::job(&mut r, 6, 6);
         for _ in 0..r.below(3) {
-            match r.below(6) {
-                0 => job.p = r.pick(&[0, 17, usize::MAX, 1 << 63, 3]),
-                1 => job.q = r.pick(&[0, 65, usize::MAX, 1 << 63, 3]),
-                2 => {
-                    job.amounts.pop();
-                }
-                3 => job.amounts.push(0),
-                4 => job.method = r.pick(&[0, 4, usize::MAX, (1 << 32) + 1]),
-                _ => job.parameter = r.pick(&[0, 6, 9, usize::MAX, 1 << 63, (1 << 32) + 1]),
-            }
+            damage(&mut r, &mut job);
         }
         let told = same_quote(&job);
         seen[told.map_or_else(|(number, _)| number as usize, |_| 0)] += 1;

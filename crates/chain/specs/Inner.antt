@@ -1,11 +1,11 @@
 -- Inner vocabulary: what the functions of this crate ask and leave, and what those of others ask of a chain. Nobody has to believe it to believe an entry
 -- point's promise.
 use mathlib.Core.Path.{_≡_}
-use mathlib.Core.List.{List}
+use mathlib.Core.List.{List, [], _∷_}
 use Prim.Native.Nat.{ℕ, _+_, _*_, _/_, _≤_, _<_}
 use lib.ListN.{length, getD}
-use Rattle.chain.specs.Verdict.{fine}
-use Rattle.chain.specs.Chain.{mostColumns, mostPayslips, by, pairs, stepsRule, outputsRule}
+use Rattle.chain.specs.Verdict.{Verdict, fine, Answer, answer}
+use Rattle.chain.specs.Chain.{mostColumns, mostPayslips, by, pairs, stepsRule, outputsRule, one, isSquaring}
 use Rattle.chain.specs.declared.Step.{Step}
 
 -- step s of a flat list, counted from 0
@@ -32,3 +32,12 @@ pub record ChainSound (p : ℕ) (steps outputs cells : List ℕ) : Type 0 where
 pub record FiguresAble (outputs : List ℕ) (values figures : ℕ) : Type 0 where
   pub figures-fit : length outputs ≤ figures
   pub outputs-within : (i : ℕ) → i < length outputs → getD outputs i 0 < values
+
+-- what a rule finds, and a number counted on the way where it finds nothing
+unfoldable pub countedBy : Verdict → ℕ → Answer
+countedBy v number = answer v (number ∷ [])
+
+-- r is 1 for a squaring, else 0
+pub record SquaringCounted (x : Step) (r : ℕ) : Type 0 where
+  pub is : r ≡ one isSquaring x
+  pub low : r ≤ 1

@@ -3,9 +3,9 @@
 ghost use mathlib.Core.Path.{_≡_};
 ghost use Prim.Native.Nat.{_+_, _*_, _<_};
 ghost use lib.ListN.{length};
-ghost use Rattle.chain.specs.Chain.{pick};
+ghost use Rattle.chain.specs.Chain.{by, pick};
 ghost use Rattle.chain.specs.Written.{over};
-ghost use Rattle.chain.specs.Inner.{stepAt, FiguresAble};
+ghost use Rattle.chain.specs.Inner.{stepAt, SquaringCounted, FiguresAble};
 
 // The limits (Spec 1.1, 2.1, 1.2): columns, payslips, steps, amounts.
 pub const MOST_COLUMNS: usize = 16;
@@ -32,6 +32,12 @@ pub enum Judgement {
     Refused(u32, usize),
 }
 
+// The same, with a number that was counted where nothing is found.
+pub enum Counted {
+    Fine(usize),
+    Refused(u32, usize),
+}
+
 // Step s of a flat list, counted from 0.
 pub fn step_at(steps: &[u32], s: usize) -> Step
     requires { ⌜ 2 * s + 1 < length (now steps) ⌝ }
@@ -41,6 +47,16 @@ pub fn step_at(steps: &[u32], s: usize) -> Step
         first: steps[2 * s],
         second: steps[2 * s + 1],
     }
+}
+
+// 1 for a squaring, a step with equal operands, else 0.
+pub fn squaring(first: u32, second: u32) -> usize
+    ensures { λ r. ⌜ SquaringCounted (by first second) r ⌝ }
+{
+    if first == second {
+        return 1;
+    }
+    0
 }
 
 // The outputs' values, over the front of the slice.

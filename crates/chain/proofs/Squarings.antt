@@ -1,0 +1,125 @@
+-- Every step is a squaring or another product, so the two add up to n. A loop that counts the squarings keeps what is counted and what is left: together
+-- they are the squarings of all.
+use mathlib.Core.Bool.{Bool, true, false, not}
+use mathlib.Core.Path.{_≡_, refl, sym, ap, ap₂, _∙_}
+use mathlib.Core.List.{List, [], _∷_, _++_}
+use Prim.Native.Nat.{ℕ, _+_, _-_, _/_, _≤_, _<_}
+use native.Mathlib.Numerals.{add-one}
+use native.Mathlib.Omega.{arith}
+use lib.ListN.{length, getD, drop, drop-of-length-le}
+use lib.Seq.{drop-cons}
+use Rattle.chain.specs.Tests.{_=?_}
+use Rattle.chain.specs.Verdict.{Verdict, fine, refused, done, refusal}
+use Rattle.chain.specs.Judgement.{countedOf}
+use Rattle.chain.specs.Chain.{by, pairs, one, howMany, isSquaring, isOther, squaringsOf, productsOf, counts}
+use Rattle.chain.specs.Inner.{stepAt, countedBy}
+use Rattle.chain.specs.declared.Step.{Step}
+use Rattle.chain.specs.declared.Counted.{Counted}
+use Rattle.chain.specs.declared.Counted.the-variants.{Fine, Refused}
+use Rattle.chain.proofs.Rules.{eq-yes, eq-no, ne-yes, ne-no, is-eq, not-eq, answer-refused, answer-done}
+use Rattle.chain.proofs.Told.{verdictIn, told, told-values}
+use Rattle.chain.proofs.Pairs.{length-pairs, getD-pairs}
+
+-- a step is one or the other
+one-each : (x : Step) → one isSquaring x + one isOther x ≡ 1
+unfolding one
+one-each x = by-test (x .first =? x .second) refl
+  where
+    by-test : (b : Bool) → (x .first =? x .second) ≡ b → one isSquaring x + one isOther x ≡ 1
+    by-test true e = rw (e, ne-no (x .first) (x .second) (is-eq _ _ e))
+    by-test false e = rw (e, ne-yes (x .first) (x .second) (not-eq _ _ e))
+
+pub adds-up : (steps : List Step) → squaringsOf steps + productsOf steps ≡ length steps
+unfolding squaringsOf productsOf
+adds-up [] = refl
+adds-up (x ∷ r) = omega (arith, one-each x, adds-up r)
+
+-- so neither is more than n, and each tells the other
+pub squarings-few : (steps : List Step) → squaringsOf steps ≤ length steps
+squarings-few steps = omega (arith, adds-up steps)
+
+pub counts-are : (steps : List Step) (n s : ℕ) → n ≡ length steps → s ≡ squaringsOf steps → n ∷ s ∷ (n - s) ∷ [] ≡ counts steps
+unfolding counts
+counts-are steps n s e f =
+    let rest : n - s ≡ productsOf steps = omega (arith, adds-up steps) in
+    rw (rest, e, f)
+
+-- those of two lists, one after the other
+many-append : (test : Step → Bool) (a b : List Step) → howMany test (a ++ b) ≡ howMany test a + howMany test b
+many-append test [] b = omega arith
+many-append test (x ∷ a) b = omega (arith, many-append test a b)
+
+pub squarings-append : (a b : List Step) → squaringsOf (a ++ b) ≡ squaringsOf a + squaringsOf b
+unfolding squaringsOf
+squarings-append a b = many-append isSquaring a b
+
+pub squarings-one : (x : Step) → squaringsOf (x ∷ []) ≡ one isSquaring x
+unfolding squaringsOf
+squarings-one x = omega arith
+
+-- a step counted
+pub one-equal : (a b : ℕ) → a ≡ b → 1 ≡ one isSquaring (by a b)
+unfolding one
+one-equal a b e = rw (eq-yes a b e)
+
+pub one-unequal : (a b : ℕ) → (a ≡ b → ⊥) → 0 ≡ one isSquaring (by a b)
+unfolding one
+one-unequal a b ne = rw (eq-no a b ne)
+
+-- the squarings that are left of a flat list after s steps
+unfoldable pub squaringsLeft : List ℕ → ℕ → ℕ
+squaringsLeft l s = squaringsOf (drop s (pairs l))
+
+module _ (l : List ℕ) where
+  pub left-all : squaringsOf (pairs l) ≡ 0 + squaringsLeft l 0
+  unfolding squaringsLeft
+  left-all = omega arith
+
+  -- k are counted, and d is for the step at hand
+  module _ (s k : ℕ) where
+    pub left-less : (x : Step) (d : ℕ) → s < length l / 2 → x ≡ stepAt l s → d ≡ one isSquaring (by (x .first) (x .second))
+        → squaringsOf (pairs l) ≡ k + squaringsLeft l s → squaringsOf (pairs l) ≡ k + d + squaringsLeft l (s + 1)
+    unfolding squaringsLeft squaringsOf stepAt
+    left-less x d h is one-is e =
+        let there : s < length (pairs l) = rw length-pairs h in
+        let next = ap (howMany isSquaring) (drop-cons (pairs l) s (by 0 0) there) in
+        let same = ap (one isSquaring) (getD-pairs l s (omega arith) ∙ sym is) in
+        let later = ap (λ (i : ℕ). howMany isSquaring (drop i (pairs l))) (add-one s) in
+        omega (arith, e, next, same, later, one-is)
+
+    pub left-none : length l / 2 ≤ s → squaringsOf (pairs l) ≡ k + squaringsLeft l s → k ≡ squaringsOf (pairs l)
+    unfolding squaringsLeft squaringsOf
+    left-none h e =
+        let past : length (pairs l) ≤ s = rw length-pairs h in
+        omega (arith, e, ap (howMany isSquaring) (drop-of-length-le (pairs l) past))
+
+pub ruleset counting-squarings = (left-all, left-less, left-none)
+
+-- what is answered with a number, once the rule's verdict is known
+module _ (v : Verdict) (number : ℕ) where
+  pub counted-refused : (n s : ℕ) → refused n s ≡ v → refusal n s ≡ countedBy v number
+  unfolding countedBy
+  counted-refused n s e = answer-refused v _ n s e
+
+  pub counted-done : (k : ℕ) → fine ≡ v → k ≡ number → done (k ∷ []) ≡ countedBy v number
+  unfolding countedBy
+  counted-done k e f = ap (λ (x : ℕ). done (x ∷ [])) f ∙ answer-done v _ e
+
+  -- and what a callee's answer tells of them
+  module _ (j : Counted) (e : countedOf j ≡ countedBy v number) where
+    verdict-told : verdictIn (countedOf j) ≡ v
+    unfolding countedBy
+    verdict-told = told _ _ _ e
+
+    pub found-refused : (n s : ℕ) → j ≡ Refused n s → refused n s ≡ v
+    found-refused n s f = sym (ap (λ (x : Counted). verdictIn (countedOf x)) f) ∙ verdict-told
+
+    module _ (k : ℕ) (f : j ≡ Fine k) where
+      pub found-fine : fine ≡ v
+      found-fine = sym (ap (λ (x : Counted). verdictIn (countedOf x)) f) ∙ verdict-told
+
+      pub found-number : k ≡ number
+      unfolding countedBy
+      found-number = ap (λ (l : List ℕ). getD l 0 0) (told-values _ _ _ (sym (ap countedOf f) ∙ e))
+
+pub ruleset counting = (counted-refused, counted-done, found-refused, found-fine, found-number)

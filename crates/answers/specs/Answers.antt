@@ -1,7 +1,8 @@
 -- What each case of the calls' answers says (Spec 10.6): the values, or the refusal's number and place.
-use mathlib.Core.List.{[], _∷_}
+use mathlib.Core.List.{List, [], _∷_}
 use Prim.Native.Nat.{ℕ}
 use Rattle.chain.specs.Verdict.{Answer, done, refusal}
+use Rattle.answers.specs.declared.Counts.{Counts}
 use Rattle.answers.specs.declared.Quoted.{Quoted}
 use Rattle.answers.specs.declared.Quoted.the-variants as quoted
 use Rattle.answers.specs.declared.Compiled.{Compiled}
@@ -25,14 +26,18 @@ use Rattle.answers.specs.declared.Chosen.the-variants as chosen
 use Rattle.answers.specs.declared.Figured.{Figured}
 use Rattle.answers.specs.declared.Figured.the-variants as figured
 
+-- Req 05: n, the squarings and the other products
+abbrev pub countsIn : Counts → List ℕ
+countsIn c = c .steps ∷ c .squarings ∷ c .products ∷ []
+
 -- ceiling: the count and the ceiling
 abbrev pub quotedOf : Quoted → Answer
 quotedOf (quoted.Steps count ceiling) = done (count ∷ ceiling ∷ [])
 quotedOf (quoted.Refused number place) = refusal number place
 
--- compile: n
+-- compile: the chain's counts
 abbrev pub compiledOf : Compiled → Answer
-compiledOf (compiled.Steps n) = done (n ∷ [])
+compiledOf (compiled.Chain counts) = done (countsIn counts)
 compiledOf (compiled.Refused number place) = refusal number place
 
 -- extent: W and the number of bytes
@@ -45,24 +50,24 @@ abbrev pub writtenOf : Written → Answer
 writtenOf (written.Bytes n) = done (n ∷ [])
 writtenOf (written.Refused number place) = refusal number place
 
--- read: p, q and n
+-- read: p, q and the chain's counts
 abbrev pub readOf : Reading → Answer
-readOf (reading.Chain p q n) = done (p ∷ q ∷ n ∷ [])
+readOf (reading.Chain p q counts) = done (p ∷ q ∷ countsIn counts)
 readOf (reading.Refused number place) = refusal number place
 
--- check: that the chain passed
+-- check: that the chain passed, with its counts
 abbrev pub verifiedOf : Verified → Answer
-verifiedOf verified.Passed = done []
+verifiedOf (verified.Passed counts) = done (countsIn counts)
 verifiedOf (verified.Refused number place) = refusal number place
 
--- run: the multiplications made
+-- run: the multiplications made, by the chain's counts
 abbrev pub ranOf : Ran → Answer
-ranOf (ran.Multiplications n) = done (n ∷ [])
+ranOf (ran.Multiplications counts) = done (countsIn counts)
 ranOf (ran.Refused number place) = refusal number place
 
--- pool: n
+-- pool: its counts
 abbrev pub pooledOf : Pooled → Answer
-pooledOf (pooled.Steps n) = done (n ∷ [])
+pooledOf (pooled.Chain counts) = done (countsIn counts)
 pooledOf (pooled.Refused number place) = refusal number place
 
 -- unpack and pack: the fields read, or written

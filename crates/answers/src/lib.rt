@@ -1,4 +1,27 @@
 // What each call answers: its values, or a refusal with its number and its place, 0 for none (Spec 10.6).
+ghost use mathlib.Core.Path.{_≡_};
+ghost use mathlib.Core.List.{[], _∷_};
+ghost use Prim.Native.Nat.{_-_, _≤_};
+ghost use Rattle.answers.specs.Answers.{countsIn};
+
+// What is told of a chain: its steps, those of them that are squarings, and its other products.
+pub struct Counts {
+    pub steps: usize,
+    pub squarings: usize,
+    pub products: usize,
+}
+
+// The counts of so many steps, so many of them squarings.
+pub fn counts_of(steps: usize, squarings: usize) -> Counts
+    requires { ⌜ squarings ≤ steps ⌝ }
+    ensures { λ r. ⌜ countsIn r ≡ steps ∷ squarings ∷ (steps - squarings) ∷ [] ⌝ }
+{
+    Counts {
+        steps,
+        squarings,
+        products: steps - squarings,
+    }
+}
 
 // The ceiling: how many steps the chain has, and the most that its method takes for such a sheet.
 pub enum Quoted {
@@ -6,9 +29,9 @@ pub enum Quoted {
     Refused(u32, usize),
 }
 
-// Compile: the steps of the chain.
+// Compile: the counts of the chain.
 pub enum Compiled {
-    Steps(usize),
+    Chain(Counts),
     Refused(u32, usize),
 }
 
@@ -24,27 +47,27 @@ pub enum Written {
     Refused(u32, usize),
 }
 
-// Read: the chain's p, q and n.
+// Read: the chain's p and q, and its counts.
 pub enum Reading {
-    Chain { p: usize, q: usize, n: usize },
+    Chain { p: usize, q: usize, counts: Counts },
     Refused(u32, usize),
 }
 
-// The check: that the chain passed.
+// The check: that the chain passed, and its counts.
 pub enum Verified {
-    Passed,
+    Passed(Counts),
     Refused(u32, usize),
 }
 
-// The run: the multiplications made.
+// The run: the multiplications made, by the chain's counts.
 pub enum Ran {
-    Multiplications(usize),
+    Multiplications(Counts),
     Refused(u32, usize),
 }
 
-// The pool: its steps.
+// The pool: its counts.
 pub enum Pooled {
-    Steps(usize),
+    Chain(Counts),
     Refused(u32, usize),
 }
 

@@ -37,7 +37,7 @@ pub record FiguresAble (outputs : List ℕ) (values figures : ℕ) : Type 0 wher
 unfoldable pub countedBy : Verdict → ℕ → Answer
 countedBy v number = answer v (number ∷ [])
 
--- r is 1 for a squaring, else 0
+-- r is 1 for a squaring, else 0, of a step whose operands are in order
 pub record SquaringCounted (x : Step) (r : ℕ) : Type 0 where
-  pub is : r ≡ one isSquaring x
+  pub is : x .second ≤ x .first → r ≡ one isSquaring x
   pub low : r ≤ 1

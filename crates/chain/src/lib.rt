@@ -49,14 +49,15 @@ pub fn step_at(steps: &[u32], s: usize) -> Step
     }
 }
 
-// 1 for a squaring, a step with equal operands, else 0.
+// 1 for a squaring, a step with equal operands, else 0. The operands are in order, so they are equal unless the second is below the first; a machine
+// adds that up in one instruction.
 pub fn squaring(first: u32, second: u32) -> usize
     ensures { λ r. ⌜ SquaringCounted (by first second) r ⌝ }
 {
-    if first == second {
-        return 1;
+    if second < first {
+        return 0;
     }
-    0
+    1
 }
 
 // The outputs' values, over the front of the slice.

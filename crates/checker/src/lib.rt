@@ -3,20 +3,21 @@ ghost use mathlib.Core.Path.{_≡_};
 ghost use Prim.Native.Nat.{_+_, _/_};
 ghost use lib.ListN.{length, take};
 ghost use Rattle.chain.specs.Verdict.{_then_};
-ghost use Rattle.chain.specs.Chain.{pairs, values, exponents};
-ghost use Rattle.chain.specs.Judgement.{verdictOf};
-ghost use Rattle.chain.specs.Inner.{StepsSound};
+ghost use Rattle.chain.specs.Chain.{pairs, values, exponents, squaringsOf};
+ghost use Rattle.chain.specs.Judgement.{countedOf};
+ghost use Rattle.chain.specs.Inner.{StepsSound, countedBy};
 ghost use Rattle.verify.specs.Verify.{exponentsRule, payslipsRule, fittingRule, verifyAnswer, verifyScratch};
 ghost use Rattle.answers.specs.Answers.{verifiedOf};
 ghost use Rattle.verify.specs.Inner.{SummedUp, foundIn, ColumnsHeld};
 ghost use Rattle.checker.specs.Inner.{ColumnAsked, HoldAsked};
 use answers::Verified;
-use chain::Judgement;
+use chain::Counted;
 use verify::Found;
 
-// What is found before the scratch is used: 1, 4, 2, steps, 12, 5.
-fn judge(p: usize, steps: &[u32], outputs: &[u32], amounts: &[u32], scratch: usize) -> Judgement
-    ensures { λ r. ⌜ verdictOf r ≡ fittingRule p (pairs (now (steps .entry))) (now (outputs .entry)) (now (amounts .entry)) scratch ⌝ }
+// What is found before the scratch is used: 1, 4, 2, steps, 12, 5; and how many of the steps are squarings.
+fn judge(p: usize, steps: &[u32], outputs: &[u32], amounts: &[u32], scratch: usize) -> Counted
+    ensures { λ r. ⌜ countedOf r ≡ countedBy (fittingRule p (pairs (now (steps .entry))) (now (outputs .entry)) (now (amounts .entry)) scratch)
+        (squaringsOf (pairs (now (steps .entry)))) ⌝ }
 {
     let begun = verify::judge_start(p, outputs.len(), steps.len() / 2, amounts);
     rest::judge_rest(begun, p, steps, outputs, scratch)
@@ -84,10 +85,11 @@ pub fn verify(
     ensures { λ r. ⌜ now (scratch .exit) ≡ verifyScratch p (pairs (now (steps .entry))) (now (outputs .entry)) (now (amounts .entry)) (now (scratch .entry)) ⌝ }
 {
     match judge(p, steps, outputs, amounts, scratch.len()) {
-        Judgement::Refused(number, place) => Verified::Refused(number, place),
-        Judgement::Fine => {
+        Counted::Refused(number, place) => Verified::Refused(number, place),
+        Counted::Fine(squarings) => {
+            let n = steps.len() / 2;
             let found = hold(p, steps, outputs, amounts, scratch);
-            columns::finish(found, p + steps.len() / 2 + 1, scratch)
+            columns::finish(found, answers::counts_of(n, squarings), p + n + 1, scratch)
         }
     }
 }

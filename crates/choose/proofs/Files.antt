@@ -12,6 +12,7 @@ use Rattle.chain.proofs.Told.{verdictIn, told}
 use Rattle.chain.proofs.Pairs.{pairs-flat}
 use Rattle.verify.specs.Verify.{verifyRule, verifyAnswer}
 use Rattle.answers.specs.Answers.{verifiedOf}
+use Rattle.answers.specs.declared.Counts.{Counts}
 use Rattle.answers.specs.declared.Verified.{Verified}
 use Rattle.answers.specs.declared.Verified.the-variants as verified
 use Rattle.layout.specs.Layout.{edition1}
@@ -69,5 +70,5 @@ module _ (bytes steps outputs amounts : List ℕ) (p q columns payslips n : ℕ)
     pub not-held : (k s : ℕ) → w ≡ verified.Refused k s → refused k s ≡ fileRule p q amounts bytes
     not-held k s e = sym (ap (λ (x : Verified). verdictIn (verifiedOf x)) e) ∙ held
 
-    pub all-held : w ≡ verified.Passed → fine ≡ fileRule p q amounts bytes
-    all-held e = sym (ap (λ (x : Verified). verdictIn (verifiedOf x)) e) ∙ held
+    pub all-held : (c : Counts) → w ≡ verified.Passed c → fine ≡ fileRule p q amounts bytes
+    all-held c e = sym (ap (λ (x : Verified). verdictIn (verifiedOf x)) e) ∙ held

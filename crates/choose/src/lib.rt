@@ -85,7 +85,7 @@ fn judge_file(
         Reading::Chain {
             p: columns,
             q: payslips,
-            n,
+            counts,
         } => {
             if columns != p {
                 return Judged::Refused(14, 0);
@@ -93,9 +93,15 @@ fn judge_file(
             if payslips != q {
                 return Judged::Refused(14, 0);
             }
-            match checker::verify(p, &steps[..2 * n], &outputs[..q], amounts, numbers) {
+            match checker::verify(
+                p,
+                &steps[..2 * counts.steps],
+                &outputs[..q],
+                amounts,
+                numbers,
+            ) {
                 Verified::Refused(number, place) => Judged::Refused(number, place),
-                Verified::Passed => Judged::Passed(n),
+                Verified::Passed(_) => Judged::Passed(counts.steps),
             }
         }
     }

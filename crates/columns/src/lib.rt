@@ -4,8 +4,9 @@ ghost use Prim.Native.Nat.{_+_, _≤_, _<_};
 ghost use lib.ListN.{length, replicate};
 ghost use Rattle.chain.specs.Written.{over};
 ghost use Rattle.verify.specs.Verify.{firstOther};
-ghost use Rattle.answers.specs.Answers.{verifiedOf};
+ghost use Rattle.answers.specs.Answers.{countsIn, verifiedOf};
 ghost use Rattle.verify.specs.Inner.{columnStart, Comparable, takenUp, foundIn, Finished};
+use answers::Counts;
 use answers::Verified;
 use verify::Found;
 
@@ -70,10 +71,10 @@ pub fn take_up(
     Found { large, other }
 }
 
-// The first cells are cleared up to top; 13, then 14, or that the chain passed.
-pub fn finish(found: Found, top: usize, scratch: &mut [u32]) -> Verified
+// The first cells are cleared up to top; 13, then 14, or that the chain passed, with its counts.
+pub fn finish(found: Found, counts: Counts, top: usize, scratch: &mut [u32]) -> Verified
     requires { ⌜ top ≤ length (now scratch) ⌝ }
-    ensures { λ r. ⌜ Finished (foundIn found) top (now (scratch .entry)) (now (scratch .exit)) (verifiedOf r) ⌝ }
+    ensures { λ r. ⌜ Finished (foundIn found) (countsIn counts) top (now (scratch .entry)) (now (scratch .exit)) (verifiedOf r) ⌝ }
 {
     clear(top, scratch);
     if found.large != 0 {
@@ -82,5 +83,5 @@ pub fn finish(found: Found, top: usize, scratch: &mut [u32]) -> Verified
     if found.other != 0 {
         return Verified::Refused(14, found.other);
     }
-    Verified::Passed
+    Verified::Passed(counts)
 }

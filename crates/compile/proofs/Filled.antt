@@ -7,6 +7,7 @@ use lib.ListN.{length, getD, take}
 use Rattle.chain.specs.Verdict.{fine, refused}
 use Rattle.chain.specs.Written.{over}
 use Rattle.chain.specs.Chain.{mostAmount, mostSteps, pairs, flat}
+use Rattle.chain.specs.Chain as spec
 use Rattle.chain.proofs.Rules.{then-fine, refuseIf-fine, neither, not-lt, renewed}
 use Rattle.chain.proofs.Told.{verdictIn, told, told-values}
 use Rattle.chain.proofs.Pairs.{pairs-flat, length-flat}
@@ -15,8 +16,9 @@ use Rattle.quote.specs.ByMethod.{chainOf, count}
 use Rattle.quote.proofs.Right.{compiled-right}
 use Rattle.compile.specs.Compile.{compileRule, compileAnswer, compileSteps, compileOutputs}
 use Rattle.answers.specs.Answers.{compiledOf}
+use Rattle.answers.specs.declared.Counts.{Counts}
 use Rattle.answers.specs.declared.Compiled.{Compiled}
-use Rattle.answers.specs.declared.Compiled.the-variants.{Steps, Refused}
+use Rattle.answers.specs.declared.Compiled.the-variants.{Chain, Refused}
 use Rattle.compile.proofs.Fits.{accepted}
 
 -- a chain compiled: its n steps and q outputs stand at the front of the two slices
@@ -37,13 +39,22 @@ module _ (p q : ℕ) (amounts : List ℕ) (method k : ℕ) (steps outputs : List
       → refused number place ≡ compileRule p q amounts method k (length steps / 2) (length outputs)
   compile-stops number place e = sym (ap (λ (x : Compiled). verdictIn (compiledOf x)) e) ∙ found
 
-  module _ (n : ℕ) (is : r ≡ Steps n) where
+  module _ (counts : Counts) (is : r ≡ Chain counts) where
+    abbrev n : ℕ
+    n = counts .steps
+
     pub compile-passes : fine ≡ compileRule p q amounts method k (length steps / 2) (length outputs)
     compile-passes = sym (ap (λ (x : Compiled). verdictIn (compiledOf x)) is) ∙ found
 
-    pub compile-counts : n ≡ count p q amounts method k
-    unfolding compileAnswer
-    compile-counts = ap (λ (l : List ℕ). getD l 0 0) (told-values _ _ _ (sym (ap compiledOf is) ∙ answered))
+    steps-told : n ≡ length (chainOf p q amounts method k .steps)
+    unfolding compileAnswer spec.counts
+    steps-told = ap (λ (l : List ℕ). getD l 0 0) (told-values _ _ _ (sym (ap compiledOf is) ∙ answered))
+
+    pub compile-counts : ((j : ℕ) → getD amounts j 0 ≤ mostAmount) → n ≡ count p q amounts method k
+    unfolding compileRule
+    compile-counts low =
+        let ok = accepted p q amounts method k (then-fine _ _ (sym compile-passes) .0) in
+        steps-told ∙ compiled-right p q amounts method k low (ok .ranges .fits) .counted
 
     pub filled : ((j : ℕ) → getD amounts j 0 ≤ mostAmount) → (steps′ outputs′ : List ℕ)
         → steps′ ≡ compileSteps p q amounts method k (length outputs) steps → outputs′ ≡ compileOutputs p q amounts method k (length steps / 2) outputs
@@ -56,7 +67,7 @@ module _ (p q : ℕ) (amounts : List ℕ) (method k : ℕ) (steps outputs : List
         let places = not-lt _ _ (rooms .1) in
         let ok = accepted p q amounts method k (t .0) in
         let right = compiled-right p q amounts method k low (ok .ranges .fits) in
-        let counts = compile-counts in
+        let told-counts = compile-counts low in
         let c = chainOf p q amounts method k in
         let fs : steps′ ≡ over (flat (c .steps)) steps = es ∙ sym (renewed _ _ steps _ compile-passes refl) in
         let fo : outputs′ ≡ over (c .outputs) outputs = eo ∙ sym (renewed _ _ outputs _ compile-passes refl) in

@@ -1,3 +1,4 @@
 pub mod Fits
 pub mod Answers
 pub mod Filled
+pub mod ByMethod

@@ -1,10 +1,11 @@
 // From a sheet to a chain by one of the methods.
 ghost use mathlib.Core.Path.{_≡_};
-ghost use mathlib.Core.List.{[], _∷_};
 ghost use Prim.Native.Nat.{_/_, _≤_};
 ghost use lib.ListN.{length};
 ghost use Rattle.chain.specs.Chain.{mostColumns};
-ghost use Rattle.chain.specs.Verdict.{fine, answer};
+ghost use Rattle.chain.specs.Verdict.{fine};
+ghost use Rattle.chain.specs.Judgement.{countedOf};
+ghost use Rattle.chain.specs.Inner.{countedBy};
 ghost use Rattle.products.specs.Inner.{WithRoom};
 ghost use Rattle.methods.specs.Inner.{LentRoom, ChainStored};
 ghost use Rattle.quote.specs.ByMethod.{chainOf, count};
@@ -14,7 +15,9 @@ ghost use Rattle.compile.specs.Inner.{EmitAsked};
 ghost use Rattle.answers.specs.Answers.{compiledOf};
 use answers::Compiled;
 use answers::Quoted;
+use chain::Counted;
 use chain::Judgement;
+use products::Progress;
 
 // 1, 2, 3, 4: the number of steps where the sheet, the method and the parameter are accepted together; then the columns are measured too.
 fn judge_accepted(
@@ -24,17 +27,17 @@ fn judge_accepted(
     method: usize,
     k: usize,
     largest: &mut [u32],
-) -> Compiled
+) -> Counted
     requires { ⌜ mostColumns ≤ length (now largest) ⌝ }
-    ensures { λ r. ⌜ compiledOf r ≡ answer (acceptedRule p q (now (amounts .entry)) method k) (count p q (now (amounts .entry)) method k ∷ []) ⌝ }
+    ensures { λ r. ⌜ countedOf r ≡ countedBy (acceptedRule p q (now (amounts .entry)) method k) (count p q (now (amounts .entry)) method k) ⌝ }
     ensures { λ r. ⌜ (acceptedRule p q (now (amounts .entry)) method k ≡ fine → MeasuredFor method p q (now (amounts .entry)) (now (largest .exit))) ⌝ }
 {
     match quote::judge_quote(p, q, amounts, method, k, largest) {
-        Quoted::Refused(number, place) => Compiled::Refused(number, place),
+        Quoted::Refused(number, place) => Counted::Refused(number, place),
         Quoted::Steps { count: n, ceiling } => {
             match shape::judge_length(chain::MOST_STEPS, n) {
-                Judgement::Refused(number, place) => Compiled::Refused(number, place),
-                Judgement::Fine => Compiled::Steps(n),
+                Judgement::Refused(number, place) => Counted::Refused(number, place),
+                Judgement::Fine => Counted::Fine(n),
             }
         }
     }
@@ -50,9 +53,9 @@ fn emit(
     largest: &[u32],
     steps: &mut [u32],
     outputs: &mut [u32],
-)
+) -> Progress
     requires { ⌜ WithRoom (EmitAsked p q (now amounts) method k (now largest)) (LentRoom q (count p q (now amounts) method k) (now steps) (now outputs)) ⌝ }
-    ensures { λ r. ⌜ ChainStored (now (steps .entry)) (now (outputs .entry)) (now (steps .exit)) (now (outputs .exit))
+    ensures { λ r. ⌜ ChainStored (now (steps .entry)) (now (outputs .entry)) (now (steps .exit)) (now (outputs .exit)) r
         (chainOf p q (now (amounts .entry)) method k) ⌝ }
 {
     match method {
@@ -78,16 +81,16 @@ pub fn compile(
 {
     let mut largest = [0u32; chain::MOST_COLUMNS];
     match judge_accepted(p, q, amounts, method, k, &mut largest) {
-        Compiled::Refused(number, place) => Compiled::Refused(number, place),
-        Compiled::Steps(n) => {
+        Counted::Refused(number, place) => Compiled::Refused(number, place),
+        Counted::Fine(n) => {
             if steps.len() / 2 < n {
                 return Compiled::Refused(5, 0);
             }
             if outputs.len() < q {
                 return Compiled::Refused(5, 0);
             }
-            emit(p, q, amounts, method, k, &largest, steps, outputs);
-            Compiled::Steps(n)
+            let made = emit(p, q, amounts, method, k, &largest, steps, outputs);
+            Compiled::Chain(answers::counts_of(made.steps, made.squarings))
         }
     }
 }

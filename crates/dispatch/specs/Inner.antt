@@ -1,12 +1,13 @@
 -- Inner vocabulary: what write and then read answer and leave, as one part of the path. Nobody has to believe it to believe an entry point's promise.
 use mathlib.Core.Path.{_≡_}
-use mathlib.Core.List.{List, [], _∷_}
+use mathlib.Core.List.{List, _∷_}
 use Prim.Native.Nat.{ℕ, _/_}
 use lib.ListN.{length}
 use Rattle.chain.specs.Verdict.{_then_, Answer, answer, onFine}
+use Rattle.chain.specs.Chain.{counts}
 use Rattle.chain.specs.declared.Step.{Step}
 use Rattle.layout.specs.Layout.{edition1}
-use Rattle.layout.specs.File.{columnsOf, payslipsOf, lengthOf, fileOf, writeRule, writeBytes, readRule, readSteps, readOutputs}
+use Rattle.layout.specs.File.{columnsOf, payslipsOf, stepsOf, fileOf, writeRule, writeBytes, readRule, readSteps, readOutputs}
 
 -- read gets exactly the bytes that write counted
 module _ (p : ℕ) (steps : List Step) (outputs : List ℕ) (bytesLent : ℕ) where
@@ -16,7 +17,7 @@ module _ (p : ℕ) (steps : List Step) (outputs : List ℕ) (bytesLent : ℕ) wh
   unfoldable pub dispatchAnswer : ℕ → ℕ → Answer
   dispatchAnswer pairsLent outputsLent =
       answer (writeRule edition1 p steps outputs bytesLent then readRule edition1 file pairsLent outputsLent)
-      (columnsOf file ∷ payslipsOf file ∷ lengthOf edition1 file ∷ [])
+      (columnsOf file ∷ payslipsOf file ∷ counts (stepsOf edition1 file))
 
   unfoldable pub dispatchSteps : ℕ → List ℕ → List ℕ
   dispatchSteps outputsLent old = onFine (writeRule edition1 p steps outputs bytesLent) (readSteps edition1 file outputsLent old) old

@@ -6,7 +6,8 @@ use native.Mathlib.Omega.{arith}
 use lib.ListN.{length, getD, take}
 use Rattle.chain.specs.Written.{over}
 use Rattle.chain.proofs.Written.{take-over}
-use Rattle.products.specs.Inner.{stepsIn, StepsRoom, StepsStored}
+use Rattle.products.specs.Inner.{stepsIn, begun, StepsRoom, StepsStored}
+use Rattle.products.specs.declared.Progress.{Progress}
 use Rattle.products.proofs.Sound.{Begins, begins-own, begins-length}
 use Rattle.products.proofs.Emitted.{stored-is, stored-on, stored-room}
 use Rattle.methods.specs.Powers.{countsOf, squarings, powerOf}
@@ -53,11 +54,11 @@ module _ {s : Grouping} {bits members₀ steps₀ : List ℕ} (room : GroupsRoom
       let few = room .cuts .inputs-few in
       record { columns = omega (arith, room .bits-long); few = omega (arith, room .bits-sum); room = room .members-room }
 
-  pub squares-room : StepsRoom (length bits) steps₀ 0 (bitSquarings bits)
+  pub squares-room : StepsRoom (length bits) steps₀ begun (bitSquarings bits)
   squares-room =
       let w = room .steps-room in
       let longer = begins-length begins in
-      record { so-far = omega arith; cells-hold = omega (arith, w .cells-hold); numbers-fit = omega (arith, w .numbers-fit, room .bits-long) }
+      record { so-far = w .so-far; cells-hold = omega (arith, w .cells-hold); numbers-fit = omega (arith, w .numbers-fit, room .bits-long) }
 
   -- the tables, from the inputs in their cells
   module _ {members : List ℕ} (e : members ≡ over (bitInputs bits (length bits)) members₀) where
@@ -67,8 +68,8 @@ module _ {s : Grouping} {bits members₀ steps₀ : List ℕ} (room : GroupsRoom
     pub listed-long : s .inputs ≡ length (take (s .inputs) members)
     listed-long = sym (ap length listed ∙ own-long)
 
-    module _ {steps : List ℕ} {first : ℕ} (st : StepsStored steps₀ steps first (bitSquarings bits)) where
-      tables-are : tablesAfter s (take (s .inputs) members) (stepsIn steps first) ≡ bitTables s bits
+    module _ {steps : List ℕ} {first : Progress} (st : StepsStored steps₀ steps first (bitSquarings bits)) where
+      tables-are : tablesAfter s (take (s .inputs) members) (stepsIn steps (first .steps)) ≡ bitTables s bits
       tables-are = ap₂ (tablesAfter s) listed (stored-is st)
 
       pub tables-room : TablesRoom s (take (s .inputs) members) steps first
@@ -80,6 +81,6 @@ module _ {s : Grouping} {bits members₀ steps₀ : List ℕ} (room : GroupsRoom
             room = rw tables-are (stored-room (room .steps-room) st begins (begins-own (bitTables s bits)));
           }
 
-      pub groups-made : {steps′ : List ℕ} {n : ℕ} → StepsStored steps steps′ n (tablesAfter s (take (s .inputs) members) (stepsIn steps first))
-          → GroupsMade s bits members₀ steps₀ members steps′ n
+      pub groups-made : {steps′ : List ℕ} {r : Progress} → StepsStored steps steps′ r (tablesAfter s (take (s .inputs) members) (stepsIn steps (first .steps)))
+          → GroupsMade s bits members₀ steps₀ members steps′ r
       groups-made st′ = record { members-are = e; stored = stored-on st begins (rw tables-are at st′) }

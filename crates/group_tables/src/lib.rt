@@ -4,12 +4,13 @@ ghost use Prim.Native.Nat.{_+_, _^_, _≤_, _<_};
 ghost use lib.ListN.{length};
 ghost use Rattle.chain.specs.Chain.{mostColumns};
 ghost use Rattle.chain.specs.Written.{over, laid};
-ghost use Rattle.products.specs.Inner.{stepsIn, WithRoom, StepsRoom, StepsStored};
+ghost use Rattle.products.specs.Inner.{stepsIn, WithRoom, begun, StepsRoom, StepsStored};
 ghost use Rattle.methods.specs.Powers.{powerAt};
 ghost use Rattle.digits.specs.Range.{listTo};
 ghost use Rattle.groups.specs.Inner.{GroupsMade, GroupsRoom, InputsRoom, TablesRoom, bitInputs, bitSquarings};
 ghost use Rattle.groups.specs.Inner.{bitsLess, tablesAfter};
 use groups::Grouping;
+use products::Progress;
 
 // The numbers of the first n powers of a column, whose squarings are made after value first, from a cell on.
 fn number_column(col: usize, first: usize, n: usize, at: usize, cells: &mut [u32])
@@ -52,9 +53,9 @@ fn count_squarings(bits: &[u32], cells: &mut [u32])
     }
 }
 
-// The squarings of columns of these bits: the number of steps made.
-fn make_squarings(bits: &[u32], steps: &mut [u32]) -> usize
-    requires { ⌜ WithRoom (length (now bits) ≤ mostColumns) (StepsRoom (length (now bits)) (now steps) 0 (bitSquarings (now bits))) ⌝ }
+// The squarings of columns of these bits, from the first step on.
+fn make_squarings(bits: &[u32], steps: &mut [u32]) -> Progress
+    requires { ⌜ WithRoom (length (now bits) ≤ mostColumns) (StepsRoom (length (now bits)) (now steps) begun (bitSquarings (now bits))) ⌝ }
     ensures { λ r. ⌜ StepsStored (now (steps .entry)) (now (steps .exit)) r (bitSquarings (now (bits .entry))) ⌝ }
 {
     let p = bits.len();
@@ -63,12 +64,13 @@ fn make_squarings(bits: &[u32], steps: &mut [u32]) -> usize
     methods::square_columns(p, &counts[..p], steps)
 }
 
-// The tables of the groups of these inputs, after n steps.
-fn make_tables(s: Grouping, members: &[u32], n: usize, steps: &mut [u32]) -> usize
-    requires { ⌜ TablesRoom s (now members) (now steps) n ⌝ }
-    ensures { λ r. ⌜ StepsStored (now (steps .entry)) (now (steps .exit)) r (tablesAfter s (now (members .entry)) (stepsIn (now (steps .entry)) n)) ⌝ }
+// The tables of the groups of these inputs.
+fn make_tables(s: Grouping, members: &[u32], progress: Progress, steps: &mut [u32]) -> Progress
+    requires { ⌜ TablesRoom s (now members) (now steps) progress ⌝ }
+    ensures { λ r. ⌜ StepsStored (now (steps .entry)) (now (steps .exit)) r
+        (tablesAfter s (now (members .entry)) (stepsIn (now (steps .entry)) (progress .steps))) ⌝ }
 {
-    let mut end = n;
+    let mut end = progress;
     let mut g: usize = 0;
     while g < s.groups {
         let from = g * s.c;
@@ -79,8 +81,8 @@ fn make_tables(s: Grouping, members: &[u32], n: usize, steps: &mut [u32]) -> usi
     end
 }
 
-// The squarings and the tables of the groups, for columns of these bits; the inputs' value numbers go into members. The number of steps made.
-pub fn make_groups(s: Grouping, bits: &[u32], members: &mut [u32], steps: &mut [u32]) -> usize
+// The squarings and the tables of the groups, for columns of these bits; the inputs' value numbers go into members.
+pub fn make_groups(s: Grouping, bits: &[u32], members: &mut [u32], steps: &mut [u32]) -> Progress
     requires { ⌜ GroupsRoom s (now bits) (now members) (now steps) ⌝ }
     ensures { λ r. ⌜ GroupsMade s (now (bits .entry)) (now (members .entry)) (now (steps .entry)) (now (members .exit)) (now (steps .exit)) r ⌝ }
 {

@@ -18,7 +18,8 @@ use Rattle.methods.proofs.Filling.{filled-front, filled-length}
 use Rattle.groups.specs.declared.Grouping.{Grouping}
 use Rattle.chain.specs.Chain.{mostColumns, mostSteps}
 use Rattle.chain.specs.declared.Step.{Step}
-use Rattle.products.specs.Inner.{StepsStored, StepsRoom}
+use Rattle.products.specs.Inner.{begun, StepsStored, StepsRoom}
+use Rattle.products.specs.declared.Progress.{Progress}
 use Rattle.digits.proofs.Listed.{getD-list, length-list, list-same}
 use Rattle.groups.specs.Groups.{columnBits, columnSquarings, group, groupCount, groupTables, inputCount, inputs, mostInputs}
 use Rattle.groups.specs.Groups.{mostMembers, overInputs, selection, sheetSquarings, sheetTables, weigh}
@@ -159,7 +160,7 @@ module _ {s : Grouping} {amounts bits : List ℕ} (grouped : Grouped s amounts b
       ∙ ap (groupTables (s .p) (s .c) (inputs (s .p) (s .q) amounts) (sheetSquarings (s .p) (s .q) amounts)) grouped-count
 
   pub groups-room : (members steps : List ℕ) → mostInputs ≤ length members → length (sheetTables (s .p) (s .q) amounts (s .c)) ≤ mostSteps
-      → StepsRoom (s .p) steps 0 (sheetTables (s .p) (s .q) amounts (s .c)) → GroupsRoom s bits members steps
+      → StepsRoom (s .p) steps begun (sheetTables (s .p) (s .q) amounts (s .c)) → GroupsRoom s bits members steps
   groups-room members steps room few steps-room =
       record {
         cuts = grouped .cuts;
@@ -171,7 +172,7 @@ module _ {s : Grouping} {amounts bits : List ℕ} (grouped : Grouped s amounts b
       }
 
   -- made, they are the sheet's
-  module _ {members₀ steps₀ members steps : List ℕ} {n : ℕ} (made : GroupsMade s bits members₀ steps₀ members steps n) where
+  module _ {members₀ steps₀ members steps : List ℕ} {n : Progress} (made : GroupsMade s bits members₀ steps₀ members steps n) where
     pub sheet-stored : StepsStored steps₀ steps n (sheetTables (s .p) (s .q) amounts (s .c))
     sheet-stored = rw grouped-tables at (made .stored)
 

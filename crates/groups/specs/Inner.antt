@@ -6,7 +6,8 @@ use lib.ListN.{length, getD}
 use Rattle.chain.specs.Chain.{mostColumns, mostSteps}
 use Rattle.chain.specs.Written.{over}
 use Rattle.digits.specs.Range.{sumTo, listTo}
-use Rattle.products.specs.Inner.{stepsIn, StepsRoom, StepsStored}
+use Rattle.products.specs.Inner.{stepsIn, begun, StepsRoom, StepsStored}
+use Rattle.products.specs.declared.Progress.{Progress}
 use Rattle.methods.specs.Inner.{SheetSized, digitsAt}
 use Rattle.methods.specs.Powers.{countsOf, squarings, powerOf}
 use Rattle.groups.specs.declared.Grouping.{Grouping}
@@ -97,12 +98,12 @@ pub record InputsRoom (bits cells : List ℕ) : Type 0 where
 abbrev pub tablesAfter : Grouping → List ℕ → List Step → List Step
 tablesAfter s members start = groupTables (s .p) (s .c) members start (s .groups)
 
--- room for them after n steps
-pub record TablesRoom (s : Grouping) (members steps : List ℕ) (n : ℕ) : Type 0 where
+-- room for them after the steps so far
+pub record TablesRoom (s : Grouping) (members steps : List ℕ) (r : Progress) : Type 0 where
   pub cuts : Cuts s
   pub long : length members ≡ s .inputs
-  pub few : length (tablesAfter s members (stepsIn steps n)) ≤ mostSteps
-  pub room : StepsRoom (s .p) steps n (tablesAfter s members (stepsIn steps n))
+  pub few : length (tablesAfter s members (stepsIn steps (r .steps))) ≤ mostSteps
+  pub room : StepsRoom (s .p) steps r (tablesAfter s members (stepsIn steps (r .steps)))
 
 -- the squarings and the tables, for columns of these bits
 abbrev pub bitTables : Grouping → List ℕ → List Step
@@ -115,12 +116,12 @@ pub record GroupsRoom (s : Grouping) (bits members steps : List ℕ) : Type 0 wh
   pub bits-sum : sumTo (length bits) (countsOf bits) ≡ s .inputs
   pub members-room : mostInputs ≤ length members
   pub few : length (bitTables s bits) ≤ mostSteps
-  pub steps-room : StepsRoom (s .p) steps 0 (bitTables s bits)
+  pub steps-room : StepsRoom (s .p) steps begun (bitTables s bits)
 
 -- the inputs' value numbers and those steps are stored
-pub record GroupsMade (s : Grouping) (bits members₀ steps₀ members steps : List ℕ) (n : ℕ) : Type 0 where
+pub record GroupsMade (s : Grouping) (bits members₀ steps₀ members steps : List ℕ) (r : Progress) : Type 0 where
   pub members-are : members ≡ over (bitInputs bits (length bits)) members₀
-  pub stored : StepsStored steps₀ steps n (bitTables s bits)
+  pub stored : StepsStored steps₀ steps r (bitTables s bits)
 
 -- the value number of the first step of group g's table: the groups before it are full
 abbrev pub tableAt : Grouping → ℕ → ℕ

@@ -7,7 +7,7 @@ use lib.ListN.{length}
 use Rattle.chain.specs.Tests.{_<?_, _≠?_, _or_}
 use Rattle.chain.specs.Verdict.{Verdict, fine, _then_, refuseIf, Answer, answer, onFine}
 use Rattle.chain.specs.Written.{over}
-use Rattle.chain.specs.Chain.{mostPayslips, pairs, flat, lengthRule, shapeRule, chainRule}
+use Rattle.chain.specs.Chain.{mostPayslips, pairs, flat, lengthRule, shapeRule, chainRule, counts}
 use Rattle.chain.specs.declared.Step.{Step}
 use Rattle.digits.specs.Digits.{bitLength}
 use Rattle.bits.specs.Bits.{bits, fields, pack, bytesFor, fieldAt, fieldsAt}
@@ -119,10 +119,10 @@ module _ (L : Layout) where
         then refuseIf (fillingOf ≠? 0) 8 0
         then chainRule (columnsOf bytes) stepsOf outputsOf
 
-    -- Spec 10.6: p, q and n
+    -- Spec 10.6, Req 05: p, q and n, and of its n steps the squarings and the other products
     unfoldable pub readAnswer : ℕ → ℕ → Answer
     readAnswer pairsLent outputsLent =
-        answer (readRule pairsLent outputsLent) (columnsOf bytes ∷ payslipsOf bytes ∷ lengthOf ∷ [])
+        answer (readRule pairsLent outputsLent) (columnsOf bytes ∷ payslipsOf bytes ∷ counts stepsOf)
 
     -- Spec 10.5: what the lent slices are afterwards, steps in turn; each was old before
     unfoldable pub readSteps : ℕ → List ℕ → List ℕ

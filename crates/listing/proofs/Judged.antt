@@ -1,12 +1,12 @@
 -- The verdict on a file that is to be listed is its length's, then reading's, then the columns', each told by the call that finds it.
 use mathlib.Core.Path.{_≡_, sym, ap, ap₂, _∙_}
-use mathlib.Core.List.{List, [], _∷_}
+use mathlib.Core.List.{List, _∷_}
 use Prim.Native.Nat.{ℕ, _+_, _*_, _/_, _≤_, _<_}
 use native.Mathlib.Omega.{arith}
 use lib.ListN.{length, take}
 use lib.Seq.{length-take-le}
 use Rattle.chain.specs.Verdict.{Verdict, fine, refused, done, refusal, answer}
-use Rattle.chain.specs.Chain.{mostColumns, mostPayslips, pairs, stepsRule, outputsRule}
+use Rattle.chain.specs.Chain.{mostColumns, mostPayslips, pairs, stepsRule, outputsRule, counts}
 use Rattle.chain.specs.declared.Step.{Step}
 use Rattle.chain.proofs.Rules.{stop, pass, refuse-yes, refuse-no, lt-yes, lt-no, answer-refused, answer-done, not-fine}
 use Rattle.chain.proofs.Legal.{chain-parts}
@@ -66,14 +66,14 @@ module _ (bytes steps outputs : List ℕ) (p q n : ℕ) (t : Good edition1 bytes
         pass _ _ _ (refuse-no _ 6 0 (lt-no _ _ h))
         (pass _ _ _ (t .reads) (e ∙ ap₂ exponentsRule (t .taken .columns) steps-are))
 
-    -- the answer to a file that is listed, and what the table holds
-    pub listing-done : (table : List ℕ) → fine ≡ exponentsRule p (pairs (take (2 * n) steps))
+    -- the answer to a file that is listed, with the counts that were told, and what the table holds
+    pub listing-done : (table told : List ℕ) → told ≡ counts (stepsOf edition1 bytes) → fine ≡ exponentsRule p (pairs (take (2 * n) steps))
         → TableHolds table (length (take q outputs)) p (atOutputs p (pairs (take (2 * n) steps)) (take q outputs))
-        → AmountsTold (done (p ∷ q ∷ n ∷ [])) (answer (listingRule bytes) (sizesOf bytes)) (listingRule bytes)
+        → AmountsTold (done (p ∷ q ∷ told)) (answer (listingRule bytes) (sizesOf bytes)) (listingRule bytes)
         (TableHolds table (payslipsOf bytes) (columnsOf bytes) (amountOf bytes))
-    listing-done table e holds =
+    listing-done table told is e holds =
         record {
-          told-is = rw (t .taken .columns, t .taken .payslips, t .taken .long) (answer-done _ _ (measured fine e));
+          told-is = rw (t .taken .columns, t .taken .payslips, is) (answer-done _ _ (measured fine e));
           holds = λ f.
               record {
                 each = λ i c hi hc.

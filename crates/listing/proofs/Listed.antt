@@ -1,20 +1,22 @@
 -- The verdict decides the text, and a table that holds the file's amounts gives the same lines as the file.
 use mathlib.Core.Path.{_≡_, refl, sym, ap, ap₂, subst, _∙_}
 use mathlib.Core.List.{List, [], _∷_, _++_}
-use Prim.Native.Nat.{ℕ, zero, suc, _+_, _≤_, _<_}
+use Prim.Native.Nat.{ℕ, zero, suc, _≤_, _<_}
 use native.Mathlib.Omega.{arith}
 use lib.ListN.{length, getD}
 use Rattle.chain.specs.Verdict.{fine, refused, answer}
 use Rattle.chain.specs.Written.{over}
-use Rattle.chain.specs.Chain.{mostColumns, mostPayslips}
+use Rattle.chain.specs.Chain.{mostColumns, mostPayslips, counts}
 use Rattle.chain.proofs.Rules.{then-fine}
 use Rattle.chain.proofs.Written.{over-laid}
 use Rattle.layout.specs.Layout.{edition1}
 use Rattle.layout.specs.File.{columnsOf, payslipsOf, lengthOf}
-use Rattle.answers.specs.Answers.{readOf}
+use Rattle.answers.specs.Answers.{countsIn, readOf}
+use Rattle.answers.specs.declared.Counts.{Counts}
 use Rattle.answers.specs.declared.Reading.{Reading}
 use Rattle.answers.specs.declared.Reading.the-variants as reading
 use Rattle.layout.proofs.Readable.{readable, columns-low, payslips-low}
+use Rattle.layout.proofs.OneFile.{length-stepsOf}
 use Rattle.chain.proofs.Told.{verdictIn, told, told-values}
 use Rattle.digits.proofs.Listed.{list-same}
 use Rattle.listing.specs.Listing.{lineOf, payslipLines, amountOf, listingRule, chainText, refusedText, textFor, listing}
@@ -43,8 +45,11 @@ module _ (bytes : List ℕ) (a : Reading) (answered : readOf a ≡ answer (listi
       let e : listingRule bytes ≡ refused k s = sym found ∙ ap (λ (x : Reading). verdictIn (readOf x)) is in
       rw e (over-front (refusedText k) old r new w)
 
-  module _ (p q n : ℕ) (is : a ≡ reading.Chain p q n) where
-    sizes-are : _≡_ {A = List ℕ} (p ∷ q ∷ n ∷ []) (sizesOf bytes)
+  module _ (p q : ℕ) (c : Counts) (is : a ≡ reading.Chain p q c) where
+    abbrev n : ℕ
+    n = c .steps
+
+    sizes-are : _≡_ {A = List ℕ} (p ∷ q ∷ countsIn c) (sizesOf bytes)
     sizes-are = told-values _ _ _ (sym (ap readOf is) ∙ answered)
 
     columns-are : p ≡ columnsOf bytes
@@ -54,7 +59,8 @@ module _ (bytes : List ℕ) (a : Reading) (answered : readOf a ≡ answer (listi
     payslips-are = ap (λ (l : List ℕ). getD l 1 0) sizes-are
 
     steps-are : n ≡ lengthOf edition1 bytes
-    steps-are = ap (λ (l : List ℕ). getD l 2 0) sizes-are
+    unfolding counts
+    steps-are = ap (λ (l : List ℕ). getD l 2 0) sizes-are ∙ length-stepsOf edition1 bytes
 
     rule-fine : listingRule bytes ≡ fine
     rule-fine = sym found ∙ ap (λ (x : Reading). verdictIn (readOf x)) is
@@ -77,5 +83,5 @@ module _ (bytes : List ℕ) (a : Reading) (answered : readOf a ≡ answer (listi
         let e : chainText p q n (amountIn table) ≡ chainText (columnsOf bytes) (payslipsOf bytes) (lengthOf edition1 bytes) (amountOf bytes) =
         rw (columns-are, payslips-are, steps-are)
         (ap (λ (l : List ℕ). lineOf (columnsOf bytes) (payslipsOf bytes ∷ lengthOf edition1 bytes ∷ []) ++ l)
-        (lines-same (columnsOf bytes) (amountIn table) (amountOf bytes) (payslipsOf bytes) (λ i c h k. holds rule-fine .each i c h k))) in
+        (lines-same (columnsOf bytes) (amountIn table) (amountOf bytes) (payslipsOf bytes) (λ i j h k. holds rule-fine .each i j h k))) in
         rw rule-fine (over-front _ old r new (subst (λ (t : List ℕ). Put 0 t old r new) e w))

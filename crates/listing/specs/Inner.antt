@@ -1,14 +1,14 @@
 -- Inner vocabulary: the table of amounts that is filled column by column, how long the parts of a listing can be, and what the functions ask. Nobody has to
 -- believe it to believe an entry point's promise.
 use mathlib.Core.Path.{_≡_}
-use mathlib.Core.List.{List, [], _∷_}
+use mathlib.Core.List.{List, _∷_}
 use Prim.Native.Nat.{ℕ, _+_, _*_, _≤_, _<_}
 use lib.ListN.{length, getD}
 use Rattle.chain.specs.Verdict.{Verdict, fine}
-use Rattle.chain.specs.Chain.{mostColumns, mostPayslips}
+use Rattle.chain.specs.Chain.{mostColumns, mostPayslips, counts}
 use Rattle.chain.specs.Inner.{SizesLow, ChainSound, FiguresAble}
 use Rattle.layout.specs.Layout.{edition1}
-use Rattle.layout.specs.File.{columnsOf, payslipsOf, lengthOf}
+use Rattle.layout.specs.File.{columnsOf, payslipsOf, stepsOf}
 
 -- a cell for each payslip, column after column
 abbrev pub tableSize : ℕ
@@ -27,9 +27,9 @@ pub record AmountsTold {A : Type 0} (told right : A) (rule : Verdict) (Holds : T
   pub told-is : told ≡ right
   pub holds : rule ≡ fine → Holds
 
--- what a file's listing begins with
+-- what a file's reading tells: p, q and the chain's counts
 abbrev pub sizesOf : List ℕ → List ℕ
-sizesOf bytes = columnsOf bytes ∷ payslipsOf bytes ∷ lengthOf edition1 bytes ∷ []
+sizesOf bytes = columnsOf bytes ∷ payslipsOf bytes ∷ counts (stepsOf edition1 bytes)
 
 -- a blank and the 10 digits of the largest amount
 abbrev pub mostField : ℕ

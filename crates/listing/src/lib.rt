@@ -163,10 +163,10 @@ fn measure_file(
     }
     match reading::read(bytes, steps, outputs) {
         Reading::Refused(number, place) => Reading::Refused(number, place),
-        Reading::Chain { p, q, n } => {
-            match measure(p, &steps[..2 * n], &outputs[..q], scratch, table) {
+        Reading::Chain { p, q, counts } => {
+            match measure(p, &steps[..2 * counts.steps], &outputs[..q], scratch, table) {
                 Judgement::Refused(number, place) => Reading::Refused(number, place),
-                Judgement::Fine => Reading::Chain { p: p, q: q, n: n },
+                Judgement::Fine => Reading::Chain { p, q, counts },
             }
         }
     }
@@ -183,6 +183,6 @@ pub fn list(bytes: &[u8], text: &mut [u8; MOST_TEXT]) -> usize
     let mut table = [0u32; chain::MOST_PAYSLIPS * chain::MOST_COLUMNS];
     match measure_file(bytes, &mut steps, &mut outputs, &mut scratch, &mut table) {
         Reading::Refused(number, _) => put_refused(number, text),
-        Reading::Chain { p, q, n } => put_chain(p, q, n, &table, text),
+        Reading::Chain { p, q, counts } => put_chain(p, q, counts.steps, &table, text),
     }
 }

@@ -9,7 +9,8 @@ use Rattle.chain.specs.declared.Step.{Step}
 use Rattle.chain.proofs.Rules.{eq-yes, eq-no}
 use Rattle.products.specs.Product.{made, squared}
 use Rattle.methods.specs.Powers.{countsOf, squarings, powerAt}
-use Rattle.products.specs.Inner.{stepsIn, StepsRoom, StepsStored, Emitted}
+use Rattle.products.specs.Inner.{stepsIn, begun, StepsRoom, StepsStored, Emitted}
+use Rattle.products.specs.declared.Progress.{Progress}
 use Rattle.products.proofs.Sound.{Begins, begins-rise}
 use Rattle.products.proofs.Product.{squared-begins}
 use Rattle.products.proofs.Emitted.{stored-own, emits-room, emits-on}
@@ -33,26 +34,27 @@ squarings-same p n m (suc c) e =
     ap (λ (s : List Step). squared p (n c) (made s (c + 1)) .steps) (squarings-same p n m c (λ d h. e d (omega arith)))
     ∙ ap (λ (k : ℕ). squared p k (made (squarings p m c) (c + 1)) .steps) (e c (omega arith))
 
-module _ (p : ℕ) (counts old : List ℕ) (room : StepsRoom p old 0 (squarings p (countsOf counts) (length counts))) where
-  pub columns-start : StepsStored old old 0 (squarings p (countsOf counts) 0)
-  columns-start = stored-own old 0 (room .so-far)
+module _ (p : ℕ) (counts old : List ℕ) (room : StepsRoom p old begun (squarings p (countsOf counts) (length counts))) where
+  pub columns-start : StepsStored old old begun (squarings p (countsOf counts) 0)
+  columns-start = stored-own old begun (room .so-far)
 
-  module _ (cells : List ℕ) (n c : ℕ) (s : StepsStored old cells n (squarings p (countsOf counts) c)) (less : c < length counts) where
-    base : Emitted old cells n (c + 1) (made (squarings p (countsOf counts) c) (c + 1))
+  module _ (cells : List ℕ) (r : Progress) (c : ℕ) (s : StepsStored old cells r (squarings p (countsOf counts) c)) (less : c < length counts) where
+    base : Emitted old cells r (c + 1) (made (squarings p (countsOf counts) c) (c + 1))
     base = record { stored = s; value = refl }
 
     begins : Begins (squarings p (countsOf counts) c) (squarings p (countsOf counts) (suc c))
     begins = squarings-begin p (countsOf counts) c (suc c) (omega arith)
 
-    pub columns-room : StepsRoom p cells n (squared p (getD counts c 0) (made (stepsIn cells n) (c + 1)) .steps)
+    pub columns-room : StepsRoom p cells r (squared p (getD counts c 0) (made (stepsIn cells (r .steps)) (c + 1)) .steps)
     columns-room = emits-room room (squared p (countsOf counts c)) base begins (squarings-begin p (countsOf counts) (suc c) (length counts) less)
 
-    pub columns-on : (cells′ : List ℕ) (n′ v′ : ℕ) → Emitted cells cells′ n′ v′ (squared p (getD counts c 0) (made (stepsIn cells n) (c + 1)))
-        → StepsStored old cells′ n′ (squarings p (countsOf counts) (c + 1))
-    columns-on cells′ n′ v′ t = rw (add-one c) (emits-on (squared p (countsOf counts c)) base begins t .stored)
+    pub columns-on : (cells′ : List ℕ) (r′ : Progress) (v′ : ℕ)
+        → Emitted cells cells′ r′ v′ (squared p (getD counts c 0) (made (stepsIn cells (r .steps)) (c + 1)))
+        → StepsStored old cells′ r′ (squarings p (countsOf counts) (c + 1))
+    columns-on cells′ r′ v′ t = rw (add-one c) (emits-on (squared p (countsOf counts c)) base begins t .stored)
 
-pub columns-end : (p : ℕ) (counts old cells : List ℕ) (n c : ℕ) → c ≤ length counts → length counts ≤ c
-    → StepsStored old cells n (squarings p (countsOf counts) c) → StepsStored old cells n (squarings p (countsOf counts) (length counts))
-columns-end p counts old cells n c h g s = let last : length counts ≡ c = omega arith in rw last s
+pub columns-end : (p : ℕ) (counts old cells : List ℕ) (r : Progress) (c : ℕ) → c ≤ length counts → length counts ≤ c
+    → StepsStored old cells r (squarings p (countsOf counts) c) → StepsStored old cells r (squarings p (countsOf counts) (length counts))
+columns-end p counts old cells r c h g s = let last : length counts ≡ c = omega arith in rw last s
 
 pub ruleset squaring-columns = (columns-start, columns-room, columns-on, columns-end)

@@ -3,12 +3,13 @@ use mathlib.Core.Path.{_≡_}
 use mathlib.Core.List.{List}
 use Prim.Native.Nat.{ℕ, _*_, _≤_, _<_}
 use lib.ListN.{length, getD}
-use Rattle.chain.specs.Chain.{Chain, mostColumns, mostPayslips, mostSteps, flat}
+use Rattle.chain.specs.Chain.{Chain, mostColumns, mostPayslips, mostSteps}
 use Rattle.chain.specs.Written.{over}
 use Rattle.chain.specs.declared.Step.{Step}
 use Rattle.digits.specs.Digits.{digitCount}
 use Rattle.digits.specs.Inner.{Bounded}
-use Rattle.products.specs.Inner.{StepsRoom}
+use Rattle.products.specs.Inner.{StepsRoom, StepsStored}
+use Rattle.products.specs.declared.Progress.{Progress}
 use Rattle.methods.specs.Method.{Method}
 use Rattle.methods.specs.Powers.{largestIn}
 use Rattle.methods.specs.declared.Quote.{Quote}
@@ -60,12 +61,12 @@ pub record ChainRoom (q count : ℕ) (steps outputs : List ℕ) : Type 0 where
   pub short : count ≤ mostSteps
   pub lent : LentRoom q count steps outputs
 
--- room for q payslips after n steps: for all the steps then, and for the outputs
-pub record PayslipsRoom (p q : ℕ) (cells : List ℕ) (n : ℕ) (steps : List Step) (outputs : List ℕ) : Type 0 where
+-- room for q payslips after the steps so far: for all the steps then, and for the outputs
+pub record PayslipsRoom (p q : ℕ) (cells : List ℕ) (r : Progress) (steps : List Step) (outputs : List ℕ) : Type 0 where
   pub outputs-fit : q ≤ length outputs
-  pub steps-room : StepsRoom p cells n steps
+  pub steps-room : StepsRoom p cells r steps
 
--- two slices hold a chain, its steps in turn and its outputs, over the front of what they held before
-pub record ChainStored (steps₀ outputs₀ steps outputs : List ℕ) (c : Chain) : Type 0 where
-  pub steps-are : steps ≡ over (flat (c .steps)) steps₀
+-- two slices hold a chain, its steps in turn and its outputs, over the front of what they held before, and r counts its steps and squarings
+pub record ChainStored (steps₀ outputs₀ steps outputs : List ℕ) (r : Progress) (c : Chain) : Type 0 where
+  pub stored : StepsStored steps₀ steps r (c .steps)
   pub outputs-are : outputs ≡ over (c .outputs) outputs₀

@@ -37,7 +37,7 @@ fn read_numbers(text: &[u8], numbers: &mut [u32]) -> Read
 }
 
 // Reads a text of numbers over the front of the lent ones, and answers how many there are.
-pub fn numbers(text: &[u8], numbers: &mut [u32], answer: &mut [u64; 4]) -> u32
+pub fn numbers(text: &[u8], numbers: &mut [u32], answer: &mut [u64; 8]) -> u32
     ensures { λ r. ⌜ r ≡ numberTold (numbersOf (now (text .entry)) (length (now (numbers .entry))) .answer) ⌝ }
     ensures { λ r. ⌜ now (answer .exit) ≡ wordsTold (numbersOf (now (text .entry)) (length (now (numbers .entry))) .answer) ⌝ }
     ensures { λ r. ⌜ now (numbers .exit) ≡ over (numbersOf (now (text .entry)) (length (now (numbers .entry))) .numbers) (now (numbers .entry)) ⌝ }

@@ -11,10 +11,11 @@ use lib.ListN.{length, getD, take, drop, replicate}
 use Rattle.chain.specs.Tests.{_<?_}
 use Rattle.chain.specs.Verdict.{Verdict, fine, refused, _then_, Answer, answer, onFine}
 use Rattle.chain.specs.Written.{over}
-use Rattle.chain.specs.Chain.{mostAmount, by, pairs, flat, stepsRule, outputsRule, values}
+use Rattle.chain.specs.Chain.{mostAmount, by, pairs, flat, stepsRule, outputsRule, values, squaringsOf}
 use Rattle.chain.specs.declared.Step.{Step}
 use Rattle.chain.proofs.Rules.{then-assoc, then-fine, lt-yes, lt-no}
 use Rattle.chain.proofs.Pairs.{pairs-flat}
+use Rattle.chain.proofs.Squarings.{squarings-few, counts-are}
 use Rattle.chain.proofs.Filling.{madeTo, fill-start, fill-on}
 use Rattle.chain.proofs.Legal.{legal-parts, chain-parts}
 use Rattle.chain.proofs.Limits.{outputs-low}
@@ -30,11 +31,11 @@ use Rattle.verify.proofs.Columns.{HeldTo, held-none, held-next, held-all, summe
 use Rattle.verify.proofs.Fitting.{Fitting, fitting}
 use Rattle.verify.proofs.Parts.{fitting-parts, started}
 use Rattle.verify.proofs.Answers.{early-answer, early-scratch, late-answer, late-scratch}
-use Rattle.pairs.specs.Inner.{foundBy, unless, Left, left, summed, afterStep, afterSteps, Able, placeIn, ColumnTaken, CheckEnded}
+use Rattle.pairs.specs.Inner.{foundBy, squaringsIn, unless, Left, left, summed, afterStep, afterSteps, Able, countsOf, placeIn, ColumnTaken, CheckEnded}
 use Rattle.pairs.specs.declared.Task.{Task}
 use Rattle.pairs.specs.declared.Task.the-variants.{Judging, Adding, Refused}
 use Rattle.pairs.proofs.Folded.{flat-half, flat-step}
-use Rattle.pairs.proofs.Judged.{found-unless, judge-able, judged-found, judged-kept}
+use Rattle.pairs.proofs.Judged.{found-unless, judge-able, judged-found, judged-counted, judged-kept}
 
 -- one column: the steps are added after the p + 1 values in front of l
 module _ (p : ℕ) (l : List ℕ) (steps : List Step) (ok : stepsRule p 1 steps ≡ fine) (room : p + length steps < length l) where
@@ -43,7 +44,7 @@ module _ (p : ℕ) (l : List ℕ) (steps : List Step) (ok : stepsRule p 1 steps 
 
   -- after i steps: none was too large, or the first that was is known
   data Summing (i : ℕ) (s : Left) : Type 0 where
-    on : s ≡ left (Adding p) (madeTo _+_ p (flat steps) i l) → first ≡ overLeft p (sums p (flat steps) l) i → Summing i s
+    on : s ≡ left (Adding p 0) (madeTo _+_ p (flat steps) i l) → first ≡ overLeft p (sums p (flat steps) l) i → Summing i s
     stopped : (k : ℕ) (vs : List ℕ) → s ≡ left (Refused 13 k) vs → k ≡ first → vs ≡ over (values _+_ (take (p + 1) l) (stepsBefore k (pairs (flat steps)))) l → Summing i s
 
   flat-ok : stepsRule p 1 (pairs (flat steps)) ≡ fine
@@ -52,10 +53,10 @@ module _ (p : ℕ) (l : List ℕ) (steps : List Step) (ok : stepsRule p 1 steps 
   flat-room : p + length (flat steps) / 2 < length l
   flat-room = omega (arith, flat-half steps)
 
-  summing : (i : ℕ) → i ≤ length steps → Summing i (afterSteps (Adding p) l steps i)
+  summing : (i : ℕ) → i ≤ length steps → Summing i (afterSteps (Adding p 0) l steps i)
   unfolding afterSteps afterStep
-  summing zero h = on (ap (left (Adding p)) (fill-start _+_ p (flat steps) l flat-room)) (over-start p (sums p (flat steps) l))
-  summing (suc i) h = next (afterSteps (Adding p) l steps i) (summing i (omega arith))
+  summing zero h = on (ap (left (Adding p 0)) (fill-start _+_ p (flat steps) l flat-room)) (over-start p (sums p (flat steps) l))
+  summing (suc i) h = next (afterSteps (Adding p 0) l steps i) (summing i (omega arith))
     where
       x : Step
       x = getD steps i (by 0 0)
@@ -75,16 +76,16 @@ module _ (p : ℕ) (l : List ℕ) (steps : List Step) (ok : stepsRule p 1 steps 
       at : AtStep p (flat steps) l i
       at = record { there = there; legal = flat-ok; room = flat-room }
 
-      by-sum : Dec (mostAmount < e) → first ≡ overLeft p (sums p (flat steps) l) i → Summing (suc i) (summed (mostAmount <? e) p i e made)
+      by-sum : Dec (mostAmount < e) → first ≡ overLeft p (sums p (flat steps) l) i → Summing (suc i) (summed (mostAmount <? e) p 0 i e made)
       by-sum (yes high) w =
-          subst (λ (b : Bool). Summing (suc i) (summed b p i e made)) (sym (lt-yes mostAmount e high))
+          subst (λ (b : Bool). Summing (suc i) (summed b p 0 i e made)) (sym (lt-yes mostAmount e high))
           (stopped (i + 1) made refl (sum-bad p (flat steps) l i made first x e at (flat-step steps i (omega arith)) refl refl high w)
           (sums-stopped p (flat steps) l i made refl))
       by-sum (no low) w =
           let few : e ≤ mostAmount = omega arith in
-          subst (λ (b : Bool). Summing (suc i) (summed b p i e made)) (sym (lt-no mostAmount e few))
+          subst (λ (b : Bool). Summing (suc i) (summed b p 0 i e made)) (sym (lt-no mostAmount e few))
           (on
-          (ap (left (Adding p)) (fill-on _+_ p (flat steps) i l made x e there (flat-step steps i (omega arith)) flat-ok flat-room refl refl
+          (ap (left (Adding p 0)) (fill-on _+_ p (flat steps) i l made x e there (flat-step steps i (omega arith)) flat-ok flat-room refl refl
           ∙ ap (λ (k : ℕ). madeTo _+_ p (flat steps) k l) (add-one i)))
           (sum-on p (flat steps) l i made first x e at (flat-step steps i (omega arith)) refl refl few w ∙ ap (overLeft p (sums p (flat steps) l)) (add-one i)))
 
@@ -94,7 +95,7 @@ module _ (p : ℕ) (l : List ℕ) (steps : List Step) (ok : stepsRule p 1 steps 
           subst (λ (r : Left). Summing (suc i) (afterStep (r .task) (r .cells) i x)) (sym is) (stopped k vs refl at cells)
 
   -- all steps added: the place is that of the first sum that is too large
-  added : (s : Left) → s ≡ afterSteps (Adding p) l steps (length steps) → SummedUp p (values _+_ (take (p + 1) l)) steps l (s .cells) (placeIn (foundBy (s .task)))
+  added : (s : Left) → s ≡ afterSteps (Adding p 0) l steps (length steps) → SummedUp p (values _+_ (take (p + 1) l)) steps l (s .cells) (placeIn (foundBy (s .task)))
   added s e =
       subst (λ (z : List Step). SummedUp p (values _+_ (take (p + 1) l)) z l (s .cells) (placeIn (foundBy (s .task)))) (pairs-flat steps)
       (by-state (subst (Summing (length steps)) (sym e) (summing (length steps) (le-refl _))))
@@ -125,6 +126,10 @@ module _ (p : ℕ) (steps : List Step) (outputs amounts old : List ℕ) where
   abbrev rule : Verdict
   rule = fittingRule p steps outputs amounts (length old)
 
+  -- what is found after the steps
+  abbrev ending : Verdict
+  ending = endRule p (length steps) outputs (length old)
+
   abbrev top : ℕ
   top = p + length steps + 1
 
@@ -140,8 +145,8 @@ module _ (p : ℕ) (steps : List Step) (outputs amounts old : List ℕ) where
   pub stands-none : Standing 0 (record { large = 0; other = 0 }) old
   stands-none = record { held = held-none p amounts steps outputs; past = refl; untouched = λ z. refl }
 
-  module _ (t₁ : Task) (opened : t₁ ≡ unless opening (Judging p)) where
-    pub open-able : (room : ℕ) → Able t₁ steps room
+  module _ (t₁ : Task) (opened : t₁ ≡ unless opening (Judging p 0)) where
+    pub open-able : (room : ℕ) → Able t₁ 0 steps room
     open-able = judge-able p steps old opening t₁ opened (λ e. started p (length outputs) (length steps) amounts e .shape .sizes .p-low)
 
     module _ (t₂ : Task) (l₂ : List ℕ) (passed : Passed t₁ old t₂ l₂) where
@@ -156,15 +161,22 @@ module _ (p : ℕ) (steps : List Step) (outputs amounts old : List ℕ) where
           let s = started p (length outputs) (length steps) amounts (then-fine opening (stepsRule p 1 steps) (sym found-is ∙ e) .0) in
           end-asked (s .shape)
 
-      module _ (t₃ : Task) (begun : t₃ ≡ unless (foundBy t₂ then endRule p (length steps) outputs (length old)) (Adding p)) where
+      module _ (t₃ : Task) (begun : t₃ ≡ unless (foundBy t₂ then ending) (Adding p (squaringsIn t₂))) where
+        begun-found : foundBy t₃ ≡ (foundBy t₂ then ending)
+        begun-found = ap foundBy begun ∙ found-unless (foundBy t₂ then ending) (Adding p (squaringsIn t₂)) refl
+
         pub rule-found : foundBy t₃ ≡ rule
         rule-found =
-            ap foundBy begun
-            ∙ found-unless (foundBy t₂ then endRule p (length steps) outputs (length old)) (Adding p) refl
-            ∙ ap (λ (v : Verdict). v then endRule p (length steps) outputs (length old)) found-is
-            ∙ then-assoc opening (stepsRule p 1 steps) (endRule p (length steps) outputs (length old))
+            begun-found
+            ∙ ap (λ (v : Verdict). v then ending) found-is
+            ∙ then-assoc opening (stepsRule p 1 steps) ending
             ∙ ap (λ (v : Verdict). opening then v) (rest-parts p steps outputs (length old))
             ∙ fitting-parts p steps outputs amounts (length old)
+
+        squarings-all : foundBy t₃ ≡ fine → squaringsIn t₃ ≡ squaringsOf steps
+        squarings-all e =
+            ap squaringsIn (begun ∙ judged-counted p steps old opening t₁ opened t₂ l₂ passed ending (Adding p))
+            ∙ ap (λ (v : Verdict). squaringsIn (unless v (Adding p (squaringsOf steps)))) (sym begun-found ∙ e)
 
         -- where there is a turn, nothing was found before the columns
         module _ (k : ℕ) (count : k ≡ onFine (foundBy t₃) p 0) where
@@ -199,10 +211,10 @@ module _ (p : ℕ) (steps : List Step) (outputs amounts old : List ℕ) where
                   outputs-within = λ i g. omega (arith, outputs-low (p + length steps) 1 outputs (parts .1) i g, fits .room, len′);
                 }
 
-            module _ (t : Task) (l′ : List ℕ) (starts : left t l′ ≡ left (Adding p) (columnStart p c l)) where
-              pub add-able : length l′ ≡ length old → Able t steps (length l′)
+            module _ (t : Task) (l′ : List ℕ) (starts : left t l′ ≡ left (Adding p 0) (columnStart p c l)) where
+              pub add-able : length l′ ≡ length old → Able t 0 steps (length l′)
               unfolding Able
-              add-able len′ = subst (λ (u : Task). Able u steps (length l′)) (sym (ap (λ (s : Left). s .task) starts)) (record { steps-fine = parts .0; enough = omega (arith, fits .room) })
+              add-able len′ = subst (λ (u : Task). Able u 0 steps (length l′)) (sym (ap (λ (s : Left). s .task) starts)) (record { steps-fine = parts .0; enough = omega (arith, fits .room) })
 
               -- the column is summed, and what is found taken up
               pub stands-next : (t′ : Task) (l″ l‴ : List ℕ) (f′ : Found) → Passed t l′ t′ l″ → ColumnTaken f (placeIn (foundBy t′)) p c outputs amounts l″ l‴ f′
@@ -223,28 +235,35 @@ module _ (p : ℕ) (steps : List Step) (outputs amounts old : List ℕ) where
 
           -- once all columns are held
           module _ (c : ℕ) (all : c ≡ k) (f : Found) (l : List ℕ) (len : length l ≡ length old) (stands : Standing c f l) where
-            pub end-able : foundBy t₃ ≡ fine → p + length steps < length l
-            end-able e = omega (arith, fitting p steps outputs amounts (length old) (sym rule-found ∙ e) .room)
+            pub end-able : foundBy t₃ ≡ fine → (squaringsIn t₃ ≤ length steps) × (p + length steps < length l)
+            end-able e = (
+              omega (arith, squarings-all e, squarings-few steps),
+              omega (arith, fitting p steps outputs amounts (length old) (sym rule-found ∙ e) .room),
+            )
 
-            module _ (l′ : List ℕ) (r : Answer) (ends : CheckEnded (foundBy t₃) f top l l′ r) where
+            module _ (l′ : List ℕ) (r : Answer) (ends : CheckEnded (foundBy t₃) f (length steps) (squaringsIn t₃) top l l′ r) where
+              -- what is told of a chain that passed
+              abbrev told : List ℕ
+              told = countsOf (length steps) (squaringsIn t₃)
+
               answered : (v : Verdict) → foundBy t₃ ≡ v
                   → (r ≡ verifyAnswer p steps outputs amounts (length old)) × (l′ ≡ verifyScratch p steps outputs amounts old)
               unfolding onFine _then_ answer
               answered fine e =
                   let so = sym e ∙ rule-found in
-                  let done : Finished (foundIn f) top l l′ r = record {
-                    answered = ends .answered ∙ ap (λ (v : Verdict). answer (v then foundIn f) []) e;
+                  let done : Finished (foundIn f) told top l l′ r = record {
+                    answered = ends .answered ∙ ap (λ (v : Verdict). answer (v then foundIn f) told) e;
                     cleared = ends .scratch-is ∙ ap (λ (v : Verdict). onFine v (over (replicate top 0) l) l) e;
                   } in
                   let columns : k ≡ p = count ∙ ap (λ (v : Verdict). onFine v p 0) e in (
-                    late-answer p steps outputs amounts old so (foundIn f) top l l′ r done
-                        (held-all p amounts steps outputs c f (omega arith) (omega arith) (stands .held)),
-                    late-scratch p steps outputs amounts old so (foundIn f) top l l′ r done refl (stands .past),
+                    late-answer p steps outputs amounts old so (foundIn f) told top l l′ r done
+                        (counts-are steps _ _ refl (squarings-all e)) (held-all p amounts steps outputs c f (omega arith) (omega arith) (stands .held)),
+                    late-scratch p steps outputs amounts old so (foundIn f) told top l l′ r done refl (stands .past),
                   )
               answered (refused n s) e =
                   let so = sym e ∙ rule-found in
                   let none : k ≡ 0 = count ∙ ap (λ (v : Verdict). onFine v p 0) e in (
-                    ends .answered ∙ ap (λ (v : Verdict). answer (v then foundIn f) []) e ∙ early-answer p steps outputs amounts old n s so,
+                    ends .answered ∙ ap (λ (v : Verdict). answer (v then foundIn f) told) e ∙ early-answer p steps outputs amounts old n s so,
                     ends .scratch-is ∙ ap (λ (v : Verdict). onFine v (over (replicate top 0) l) l) e ∙ stands .untouched (omega arith)
                         ∙ early-scratch p steps outputs amounts old n s so,
                   )

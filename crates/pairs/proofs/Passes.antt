@@ -64,7 +64,7 @@ module _ {M : Type 1} (𝓤 : URA M) (H : Heap 𝓤) (A : Atoms 𝓤) (mem : Mem
     abbrev pub to-pass : Pass 𝓤 H A mem run .Ghost
     to-pass = (((κ, (ν ∷ [], tt)), (q, (fullShare, tt)), tt, given-to, (taskVals t, (stepsVal x ∷ [], (sliceVal at n ∷ [], tt)))), tt)
 
-    asks-pass : Given 𝓤 H A → TaskIs t → Able t (x .now) (length l)
+    asks-pass : Given 𝓤 H A → TaskIs t → Able t 0 (x .now) (length l)
         → ent 𝓤 (mean 𝓤 H A (‵ (flft (ν ∷ []) fullShare) ⊛ Cells (named 1) (ν ∷ []) at δ n l ⊛ ‵ (flft κ q) ⊛ Steps κ x)) (Pass 𝓤 H A mem run .pre to-pass)
     asks-pass W is able =
         qed W (‵ (flft (ν ∷ []) fullShare) ∷ Cells (named 1) (ν ∷ []) at δ n l ∷ ‵ (flft κ q) ∷ Steps κ x ∷ []) ∵ says ! able $
@@ -90,7 +90,7 @@ module _ {M : Type 1} (𝓤 : URA M) (H : Heap 𝓤) (A : Atoms 𝓤) (mem : Mem
 
   module _ {K : Type 0} {W : Given 𝓤 H A} {Γ : List (Item 𝓤)} {Ev : Env 𝓤 H} {C : Calls 𝓤 H} {Λ : Loops 𝓤 H} {xs : List Operand} {d : Place} {rest : Body} {p : Post 𝓤 H} where
     pub passes : K → FmC 𝓤 H (W .laws) C → Triple 𝓤 (C #pairs·pass) (Pass 𝓤 H A mem run) → (ℓ : Lifetime) (κ₂ : Lft) (q₂ : Share) (γ : GName)
-        → length l ≡ n → Room u32 n → TaskIs t → Able t (x .now) (length l)
+        → length l ≡ n → Room u32 n → TaskIs t → Able t 0 (x .now) (length l)
         → ((ν : ℕ) (δ : GName) → Opds K W (raw (Pass 𝓤 H A mem run .pre (to-pass ν δ)) ∷ ‵ (LentAgain u32 κ₂ (ν ∷ []) q₂ γ (at .0) (at .1) δ l) ∷ Γ) Ev xs
         (taskVal t ∷ stepsVal x ∷ sliceVal at n ∷ []))
         → ((r : Task) (l′ : List ℕ) → TaskIs r → length l′ ≡ n → Gone t (x .now) l r l′

@@ -2,12 +2,13 @@
 use mathlib.Core.Path.{_≡_}
 use mathlib.Core.Bool.{Bool, true, false}
 use mathlib.Core.List.{List, [], _∷_}
-use Prim.Native.Nat.{ℕ, zero, suc, _+_, _%_, _^_, _≤_, _<_}
+use Prim.Native.Nat.{ℕ, zero, suc, _+_, _-_, _%_, _^_, _≤_, _<_}
 use lib.ListN.{length, getD, set, replicate}
 use Rattle.chain.specs.Tests.{_<?_}
 use Rattle.chain.specs.Verdict.{Verdict, fine, refused, _then_, Answer, answer, onFine}
 use Rattle.chain.specs.Written.{over}
-use Rattle.chain.specs.Chain.{mostColumns, mostAmount, by, stepRule, stepsRule, pick}
+use Rattle.chain.specs.Chain.{mostColumns, mostAmount, by, stepRule, stepsRule, pick, one, isSquaring}
+use Rattle.chain.specs.Inner.{FiguresAble}
 use Rattle.chain.specs.declared.Step.{Step}
 use Rattle.rest.specs.Inner.{EndAsked}
 use Rattle.residue.specs.Residue.{timesMod}
@@ -19,10 +20,17 @@ use Rattle.pairs.specs.declared.Task.the-variants.{Judging, Multiplying,
 
 -- what a task has found
 abbrev pub foundBy : Task → Verdict
-foundBy (Judging p) = fine
-foundBy (Multiplying p m inverse) = fine
-foundBy (Adding p) = fine
+foundBy (Judging p squarings) = fine
+foundBy (Multiplying p squarings m inverse) = fine
+foundBy (Adding p squarings) = fine
 foundBy (Refused n s) = refused n s
+
+-- the squarings that it has, 0 once something was found
+abbrev pub squaringsIn : Task → ℕ
+squaringsIn (Judging p squarings) = squarings
+squaringsIn (Multiplying p squarings m inverse) = squarings
+squaringsIn (Adding p squarings) = squarings
+squaringsIn (Refused n s) = 0
 
 -- the task, unless something was found before it
 abbrev pub unless : Verdict → Task → Task
@@ -38,17 +46,17 @@ abbrev pub left : Task → List ℕ → Left
 left t l = record { task = t; cells = l }
 
 -- a sum that may be too large
-abbrev pub summed : Bool → ℕ → ℕ → ℕ → List ℕ → Left
-summed true p i e l = left (Refused 13 (i + 1)) l
-summed false p i e l = left (Adding p) (set l (p + i + 1) e)
+abbrev pub summed : Bool → ℕ → ℕ → ℕ → ℕ → List ℕ → Left
+summed true p squarings i e l = left (Refused 13 (i + 1)) l
+summed false p squarings i e l = left (Adding p squarings) (set l (p + i + 1) e)
 
--- step i, counted from 0: judged, multiplied or added, as the task says
+-- step i, counted from 0: judged and counted, multiplied or added, as the task says
 unfoldable pub afterStep : Task → List ℕ → ℕ → Step → Left
-afterStep (Judging p) l i x = left (unless (stepRule (p + i + 1) (i + 1) x) (Judging p)) l
-afterStep (Multiplying p m inverse) l i x =
-    left (Multiplying p m inverse) (set l (p + i + 1) (timesMod m (getD l (x .first) 0) (getD l (x .second) 0)))
-afterStep (Adding p) l i x =
-    summed (mostAmount <? getD l (x .first) 0 + getD l (x .second) 0) p i (getD l (x .first) 0 + getD l (x .second) 0) l
+afterStep (Judging p squarings) l i x = left (unless (stepRule (p + i + 1) (i + 1) x) (Judging p (squarings + one isSquaring x))) l
+afterStep (Multiplying p squarings m inverse) l i x =
+    left (Multiplying p squarings m inverse) (set l (p + i + 1) (timesMod m (getD l (x .first) 0) (getD l (x .second) 0)))
+afterStep (Adding p squarings) l i x =
+    summed (mostAmount <? getD l (x .first) 0 + getD l (x .second) 0) p squarings i (getD l (x .first) 0 + getD l (x .second) 0) l
 afterStep (Refused n s) l i x = left (Refused n s) l
 
 -- the first i steps, in order
@@ -74,17 +82,17 @@ pub record Multiplies (m inverse : ℕ) (Cells : Type 0) : Type 0 where
 
 -- what step i asks of its task, with how many cells there are
 unfoldable pub Ready : Task → ℕ → Step → ℕ → Type 0
-Ready (Judging p) i x room = p + i + 1 < 2 ^ 64
-Ready (Multiplying p m inverse) i x room = Multiplies m inverse (StepCells p i x room)
-Ready (Adding p) i x room = StepCells p i x room
+Ready (Judging p squarings) i x room = (p + i + 1 < 2 ^ 64) × (squarings ≤ i)
+Ready (Multiplying p squarings m inverse) i x room = Multiplies m inverse (StepCells p i x room)
+Ready (Adding p squarings) i x room = StepCells p i x room
 Ready (Refused n s) i x room = Unit {0}
 
--- what all steps ask
-unfoldable pub Able : Task → List Step → ℕ → Type 0
-Able (Judging p) steps room = p ≤ mostColumns
-Able (Multiplying p m inverse) steps room = Multiplies m inverse (StepsCells p steps room)
-Able (Adding p) steps room = StepsCells p steps room
-Able (Refused n s) steps room = Unit {0}
+-- what all steps ask of a task that has gone through i of them
+unfoldable pub Able : Task → ℕ → List Step → ℕ → Type 0
+Able (Judging p squarings) i steps room = (p ≤ mostColumns) × (squarings ≤ i)
+Able (Multiplying p squarings m inverse) i steps room = Multiplies m inverse (StepsCells p steps room)
+Able (Adding p squarings) i steps room = StepsCells p steps room
+Able (Refused n s) i steps room = Unit {0}
 
 -- what a run whose steps were found fine may rely on
 pub record RunAble (p n m : ℕ) (bases : List ℕ) : Type 0 where
@@ -93,13 +101,22 @@ pub record RunAble (p n m : ℕ) (bases : List ℕ) : Type 0 where
   pub bases-are-p : length bases ≡ p
 
 -- a run that begins to multiply where v is fine: value 0 and the bases stand over the front of the values
-pub record RunStarted (v : Verdict) (p m : ℕ) (bases old new : List ℕ) (r : Task) : Type 0 where
-  pub task-is : r ≡ unless v (Multiplying p m (inverseOf m))
+pub record RunStarted (v : Verdict) (p squarings m : ℕ) (bases old new : List ℕ) (r : Task) : Type 0 where
+  pub task-is : r ≡ unless v (Multiplying p squarings m (inverseOf m))
   pub values-are : new ≡ onFine v (over (1 % m ∷ bases) old) old
 
--- a run that ends: the figures are the outputs' values where v is fine
-pub record RunEnded (v : Verdict) (n : ℕ) (outputs values values′ old new : List ℕ) (r : Answer) : Type 0 where
-  pub answered : r ≡ answer v (n ∷ [])
+-- what is told of n steps, so many of them squarings
+abbrev pub countsOf : ℕ → ℕ → List ℕ
+countsOf n squarings = n ∷ squarings ∷ (n - squarings) ∷ []
+
+-- what a run whose n steps are multiplied may rely on
+pub record RunEndAble (n squarings : ℕ) (outputs : List ℕ) (values figures : ℕ) : Type 0 where
+  pub squarings-few : squarings ≤ n
+  pub shown : FiguresAble outputs values figures
+
+-- a run that ends after n steps, so many of them squarings: the figures are the outputs' values where v is fine
+pub record RunEnded (v : Verdict) (n squarings : ℕ) (outputs values values′ old new : List ℕ) (r : Answer) : Type 0 where
+  pub answered : r ≡ answer v (countsOf n squarings)
   pub values-kept : values′ ≡ values
   pub figures-are : new ≡ onFine v (over (pick values outputs) old) old
 
@@ -113,7 +130,7 @@ pub record ColumnTaken (f : Found) (place p c : ℕ) (outputs amounts old new : 
   pub found-is : r ≡ takenUp f place p c amounts old outputs
   pub scratch-kept : new ≡ old
 
--- a check that ends: where v is fine the cells below `top` are cleared, and what was found of the columns is told
-pub record CheckEnded (v : Verdict) (f : Found) (top : ℕ) (old new : List ℕ) (r : Answer) : Type 0 where
-  pub answered : r ≡ answer (v then foundIn f) []
+-- a check of n steps, so many of them squarings, that ends: where v is fine the cells below `top` are cleared, and what was found of the columns is told
+pub record CheckEnded (v : Verdict) (f : Found) (n squarings top : ℕ) (old new : List ℕ) (r : Answer) : Type 0 where
+  pub answered : r ≡ answer (v then foundIn f) (countsOf n squarings)
   pub scratch-is : new ≡ onFine v (over (replicate top 0) old) old

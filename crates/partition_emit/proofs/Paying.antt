@@ -8,6 +8,7 @@ use lib.ListN.{length, getD}
 use Rattle.chain.specs.declared.Step.{Step}
 use Rattle.products.specs.Product.{Made, made, times}
 use Rattle.products.specs.Inner.{stepsIn, StepsRoom, Emitted}
+use Rattle.products.specs.declared.Progress.{Progress}
 use Rattle.products.proofs.Sound.{Begins, begins-rise}
 use Rattle.products.proofs.Product.{times-begins}
 use Rattle.products.proofs.Emitted.{emits-room, emits-on}
@@ -35,20 +36,20 @@ module _ (s : Grouping) (members : List ℕ) (number : ℕ → ℕ) (before : Li
   rise = begins-rise (λ g. by-number g .steps) (λ g. times-begins (s .p) (by-number g) _)
 
   -- one part more: y its value
-  module _ (old cells : List ℕ) (m v g y : ℕ) (e : Emitted old cells m v (partsBy s members number before g))
+  module _ (old cells : List ℕ) (m : Progress) (v g y : ℕ) (e : Emitted old cells m v (partsBy s members number before g))
       (value : y ≡ entry 1 (group (s .c) g members) (tableAt s g) (number g)) where
     next : times (s .p) (by-number g) y ≡ by-number (suc g)
     next = ap (times (s .p) (by-number g)) value
 
-    pub part-room : (n : ℕ) → StepsRoom (s .p) old n (partsBy s members number before (s .groups) .steps) → g < s .groups
-        → StepsRoom (s .p) cells m (times (s .p) (made (stepsIn cells m) v) y .steps)
+    pub part-room : (n : Progress) → StepsRoom (s .p) old n (partsBy s members number before (s .groups) .steps) → g < s .groups
+        → StepsRoom (s .p) cells m (times (s .p) (made (stepsIn cells (m .steps)) v) y .steps)
     part-room n room h = emits-room room (λ r. times (s .p) r y) e (times-begins (s .p) _ y) (rw next (rise (suc g) (s .groups) h))
 
-    pub part-on : (cells′ : List ℕ) (m′ v′ : ℕ) → Emitted cells cells′ m′ v′ (times (s .p) (made (stepsIn cells m) v) y)
+    pub part-on : (cells′ : List ℕ) (m′ : Progress) (v′ : ℕ) → Emitted cells cells′ m′ v′ (times (s .p) (made (stepsIn cells (m .steps)) v) y)
         → Emitted old cells′ m′ v′ (partsBy s members number before (g + 1))
     part-on cells′ m′ v′ f = rw (add-one g, ← next) (emits-on (λ r. times (s .p) r y) e (times-begins (s .p) _ y) f)
 
-  pub parts-end : (old cells : List ℕ) (m v g : ℕ) → Emitted old cells m v (partsBy s members number before g) → g ≤ s .groups → s .groups ≤ g
+  pub parts-end : (old cells : List ℕ) (m : Progress) (v g : ℕ) → Emitted old cells m v (partsBy s members number before g) → g ≤ s .groups → s .groups ≤ g
       → Emitted old cells m v (partsBy s members number before (s .groups))
   parts-end old cells m v g e h k =
       let last : g ≡ s .groups = omega arith in

@@ -6,6 +6,7 @@ use native.Mathlib.Omega.{arith}
 use lib.ListN.{length}
 use Rattle.chain.specs.declared.Step.{Step}
 use Rattle.products.specs.Inner.{stepsIn, StepsStored}
+use Rattle.products.specs.declared.Progress.{Progress}
 use Rattle.products.proofs.Sound.{Begins, begins-length}
 use Rattle.methods.specs.Inner.{ChainRoom, ChainStored, PayslipsRoom}
 use Rattle.methods.proofs.Paying.{begin-room, payslips-room, chain-stored, paid-begins}
@@ -39,17 +40,17 @@ module _ {s : Grouping} {amounts bits : List ℕ} (grouped : Grouped s amounts b
       (begin-room (payslipOf s amounts) each tables (s .q) (grouped .cuts .columns) fits counted)
 
   -- the payslips
-  module _ {members₀ members cells : List ℕ} {n : ℕ} (made : GroupsMade s bits members₀ old members cells n) where
-    tabled : StepsStored old cells n tables
+  module _ {members₀ members cells : List ℕ} {r : Progress} (made : GroupsMade s bits members₀ old members cells r) where
+    tabled : StepsStored old cells r tables
     tabled = sheet-stored grouped made
 
-    pub slips-room : PayslipsRoom (s .p) (s .q) cells n (payslipsOf s amounts (stepsIn cells n) .steps) outputs
+    pub slips-room : PayslipsRoom (s .p) (s .q) cells r (payslipsOf s amounts (stepsIn cells (r .steps)) .steps) outputs
     slips-room = payslips-room (payslipOf s amounts) each tables (s .q) (grouped .cuts .columns) fits counted tabled
 
-    pub chain-whole : {cells′ outputs′ : List ℕ} → ChainStored cells outputs cells′ outputs′ (payslipsOf s amounts (stepsIn cells n))
-        → ChainStored old outputs cells′ outputs′ (partition (s .p) (s .q) amounts (s .c))
+    pub chain-whole : {cells′ outputs′ : List ℕ} {r′ : Progress} → ChainStored cells outputs cells′ outputs′ r′ (payslipsOf s amounts (stepsIn cells (r .steps)))
+        → ChainStored old outputs cells′ outputs′ r′ (partition (s .p) (s .q) amounts (s .c))
     unfolding partition
-    chain-whole r = chain-stored (payslipOf s amounts) each tables (s .q) tabled r
+    chain-whole stored = chain-stored (payslipOf s amounts) each tables (s .q) tabled stored
 
 -- a sheet's grouping stands for what was given
 module _ {p q : ℕ} {amounts : List ℕ} {c : ℕ} {bits : List ℕ} {s : Grouping} (told : GroupedFor p q amounts c bits s) where
@@ -57,7 +58,8 @@ module _ {p q : ℕ} {amounts : List ℕ} {c : ℕ} {bits : List ℕ} {s : Group
       → ChainRoom (s .q) (partitionCount (s .p) (s .q) amounts (s .c)) steps outputs
   room-given room = rw (told .same-p, told .same-q, told .same-c) room
 
-  pub chain-given : {steps₀ outputs₀ steps outputs : List ℕ} → ChainStored steps₀ outputs₀ steps outputs (partition (s .p) (s .q) amounts (s .c))
-      → ChainStored steps₀ outputs₀ steps outputs (partition p q amounts c)
-  chain-given {steps₀} {outputs₀} {steps} {outputs} r =
-      subst (ChainStored steps₀ outputs₀ steps outputs) (as-given (λ p q c. partition p q amounts c) told) r
+  pub chain-given : {steps₀ outputs₀ steps outputs : List ℕ} {r′ : Progress}
+      → ChainStored steps₀ outputs₀ steps outputs r′ (partition (s .p) (s .q) amounts (s .c))
+      → ChainStored steps₀ outputs₀ steps outputs r′ (partition p q amounts c)
+  chain-given {steps₀} {outputs₀} {steps} {outputs} {r′} r =
+      subst (ChainStored steps₀ outputs₀ steps outputs r′) (as-given (λ p q c. partition p q amounts c) told) r

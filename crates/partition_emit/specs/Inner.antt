@@ -8,6 +8,7 @@ use Rattle.chain.specs.declared.Step.{Step}
 use Rattle.products.specs.Product.{Made, made, times, payslips}
 use Rattle.tables.specs.Table.{entry}
 use Rattle.products.specs.Inner.{stepsIn, StepsRoom}
+use Rattle.products.specs.declared.Progress.{Progress}
 use Rattle.methods.specs.Inner.{ChainRoom}
 use Rattle.methods.specs.Powers.{countsOf}
 use Rattle.groups.specs.declared.Grouping.{Grouping}
@@ -41,11 +42,11 @@ payslipOf s amounts = partitionPayslip (s .p) (s .q) amounts (s .c)
 abbrev pub payslipsOf : Grouping → List ℕ → List Step → Chain
 payslipsOf s amounts start = payslips (payslipOf s amounts) start (s .q)
 
--- payslip i of a grouped sheet, and room for it after n steps
-pub record PayslipRoom (s : Grouping) (amounts bits members cells steps : List ℕ) (i n : ℕ) : Type 0 where
+-- payslip i of a grouped sheet, and room for it after the steps so far
+pub record PayslipRoom (s : Grouping) (amounts bits members cells steps : List ℕ) (i : ℕ) (r : Progress) : Type 0 where
   pub ready : Ready s amounts bits members cells
   pub inside : i < s .q
-  pub room : StepsRoom (s .p) steps n (payslipOf s amounts i (stepsIn steps n) .steps)
+  pub room : StepsRoom (s .p) steps r (payslipOf s amounts i (stepsIn steps (r .steps)) .steps)
 
 -- a grouped sheet, cells for its inputs and for the parts of a payslip, and room for its chain
 pub record SheetRoom (s : Grouping) (amounts bits members cells steps outputs : List ℕ) : Type 0 where

@@ -7,21 +7,25 @@ ghost use Rattle.partition.specs.Partition.{partition, partitionCount};
 ghost use Rattle.partition_emit.specs.Inner.{Numbered, Ready, PayslipRoom, SheetRoom, partsBy, payslipOf, payslipsOf};
 use groups::Grouping;
 use products::PartialProduct;
+use products::Progress;
 
-// The parts of a payslip with these numbers, multiplied in order after n steps.
+// The parts of a payslip with these numbers, multiplied in order.
 fn make_parts(
     s: Grouping,
     members: &[u32],
     numbers: &[u32],
-    n: usize,
+    progress: Progress,
     steps: &mut [u32],
 ) -> PartialProduct
-    requires { ⌜ WithRoom (Numbered s (now members) (now numbers))
-        (StepsRoom (s .p) (now steps) n (partsBy s (now members) (countsOf (now numbers)) (stepsIn (now steps) n) (s .groups) .steps)) ⌝ }
-    ensures { λ r. ⌜ Emitted (now (steps .entry)) (now (steps .exit)) (r .n) (r .value)
-        (partsBy s (now (members .entry)) (countsOf (now (numbers .entry))) (stepsIn (now (steps .entry)) n) (s .groups)) ⌝ }
+    requires { ⌜ WithRoom (Numbered s (now members) (now numbers)) (StepsRoom (s .p) (now steps) progress
+        (partsBy s (now members) (countsOf (now numbers)) (stepsIn (now steps) (progress .steps)) (s .groups) .steps)) ⌝ }
+    ensures { λ r. ⌜ Emitted (now (steps .entry)) (now (steps .exit)) (r .progress) (r .value)
+        (partsBy s (now (members .entry)) (countsOf (now (numbers .entry))) (stepsIn (now (steps .entry)) (progress .steps)) (s .groups)) ⌝ }
 {
-    let mut r = PartialProduct { n: n, value: 0 };
+    let mut r = PartialProduct {
+        progress: progress,
+        value: 0,
+    };
     let mut g: usize = 0;
     while g < s.groups {
         let y = subsets::part_value(s, members, g, numbers[g]);
@@ -31,50 +35,51 @@ fn make_parts(
     r
 }
 
-// Payslip i after n steps; the cells are for the numbers of its parts.
+// Payslip i; the cells are for the numbers of its parts.
 fn make_payslip(
     s: Grouping,
     amounts: &[u32],
     bits: &[u32],
     members: &[u32],
     i: usize,
-    n: usize,
+    progress: Progress,
     cells: &mut [u32],
     steps: &mut [u32],
 ) -> PartialProduct
-    requires { ⌜ PayslipRoom s (now amounts) (now bits) (now members) (now cells) (now steps) i n ⌝ }
-    ensures { λ r. ⌜ Emitted (now (steps .entry)) (now (steps .exit)) (r .n) (r .value)
-        (payslipOf s (now (amounts .entry)) i (stepsIn (now (steps .entry)) n)) ⌝ }
+    requires { ⌜ PayslipRoom s (now amounts) (now bits) (now members) (now cells) (now steps) i progress ⌝ }
+    ensures { λ r. ⌜ Emitted (now (steps .entry)) (now (steps .exit)) (r .progress) (r .value)
+        (payslipOf s (now (amounts .entry)) i (stepsIn (now (steps .entry)) (progress .steps))) ⌝ }
 {
     cutting::number_parts(s, amounts, bits, i, cells);
     let end = s.groups;
-    make_parts(s, members, &cells[..end], n, steps)
+    make_parts(s, members, &cells[..end], progress, steps)
 }
 
-// The payslips in order after n steps: their steps, and their products as outputs.
+// The payslips in order: their steps, and their products as outputs.
 fn make_payslips(
     s: Grouping,
     amounts: &[u32],
     bits: &[u32],
     members: &[u32],
-    n: usize,
+    progress: Progress,
     cells: &mut [u32],
     steps: &mut [u32],
     outputs: &mut [u32],
-)
-    requires { ⌜ WithRoom (Ready s (now amounts) (now bits) (now members) (now cells))
-        (PayslipsRoom (s .p) (s .q) (now steps) n (payslipsOf s (now amounts) (stepsIn (now steps) n) .steps) (now outputs)) ⌝ }
-    ensures { λ r. ⌜ ChainStored (now (steps .entry)) (now (outputs .entry)) (now (steps .exit)) (now (outputs .exit))
-        (payslipsOf s (now (amounts .entry)) (stepsIn (now (steps .entry)) n)) ⌝ }
+) -> Progress
+    requires { ⌜ WithRoom (Ready s (now amounts) (now bits) (now members) (now cells)) (PayslipsRoom (s .p) (s .q) (now steps) progress
+        (payslipsOf s (now amounts) (stepsIn (now steps) (progress .steps)) .steps) (now outputs)) ⌝ }
+    ensures { λ r. ⌜ ChainStored (now (steps .entry)) (now (outputs .entry)) (now (steps .exit)) (now (outputs .exit)) r
+        (payslipsOf s (now (amounts .entry)) (stepsIn (now (steps .entry)) (progress .steps))) ⌝ }
 {
-    let mut end = n;
+    let mut end = progress;
     let mut i: usize = 0;
     while i < s.q {
         let r = make_payslip(s, amounts, bits, members, i, end, cells, steps);
-        end = r.n;
+        end = r.progress;
         outputs[i] = r.value;
         i += 1;
     }
+    end
 }
 
 // The squarings, the tables of the groups, then the payslips; some cells are for the inputs, others for the numbers of a payslip's parts.
@@ -86,14 +91,23 @@ fn make_chain(
     cells: &mut [u32],
     steps: &mut [u32],
     outputs: &mut [u32],
-)
+) -> Progress
     requires { ⌜ SheetRoom s (now amounts) (now bits) (now members) (now cells) (now steps) (now outputs) ⌝ }
-    ensures { λ r. ⌜ ChainStored (now (steps .entry)) (now (outputs .entry)) (now (steps .exit)) (now (outputs .exit))
+    ensures { λ r. ⌜ ChainStored (now (steps .entry)) (now (outputs .entry)) (now (steps .exit)) (now (outputs .exit)) r
         (partition (s .p) (s .q) (now (amounts .entry)) (s .c)) ⌝ }
 {
-    let n = group_tables::make_groups(s, bits, members, steps);
+    let tables = group_tables::make_groups(s, bits, members, steps);
     let w = s.inputs;
-    make_payslips(s, amounts, bits, &members[..w], n, cells, steps, outputs);
+    make_payslips(
+        s,
+        amounts,
+        bits,
+        &members[..w],
+        tables,
+        cells,
+        steps,
+        outputs,
+    )
 }
 
 // The chain: its steps, first and second in turn, and its outputs.
@@ -105,10 +119,10 @@ pub fn emit(
     largest: &[u32],
     steps: &mut [u32],
     outputs: &mut [u32],
-)
+) -> Progress
     requires { ⌜ WithRoom (AskedByLargest mostMembers p q (now amounts) c (now largest))
         (ChainRoom q (partitionCount p q (now amounts) c) (now steps) (now outputs)) ⌝ }
-    ensures { λ r. ⌜ ChainStored (now (steps .entry)) (now (outputs .entry)) (now (steps .exit)) (now (outputs .exit))
+    ensures { λ r. ⌜ ChainStored (now (steps .entry)) (now (outputs .entry)) (now (steps .exit)) (now (outputs .exit)) r
         (partition p q (now (amounts .entry)) c) ⌝ }
 {
     let mut bits = [0u32; chain::MOST_COLUMNS];
@@ -123,5 +137,5 @@ pub fn emit(
         &mut cells,
         steps,
         outputs,
-    );
+    )
 }

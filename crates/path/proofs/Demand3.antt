@@ -6,20 +6,21 @@ use native.Mathlib.Omega.{arith}
 use lib.ListN.{length, getD}
 use Rattle.chain.specs.Verdict.{Verdict, fine, _then_, done}
 use Rattle.chain.specs.Written.{over}
-use Rattle.chain.specs.Chain.{Chain, mostAmount, pick}
+use Rattle.chain.specs.Chain.{Chain, mostAmount, pick, counts}
 use Rattle.chain.specs.declared.Step.{Step}
 use Rattle.chain.proofs.Rules.{pass, answer-done, renewed}
+use Rattle.chain.proofs.Squarings.{adds-up}
 use Rattle.chain.proofs.Written.{over-getD}
 use Rattle.chain.proofs.Picked.{length-pick}
 use Rattle.residue.specs.Residue.{figure}
-use Rattle.verify.specs.Verify.{verifyRule}
-use Rattle.run.specs.Run.{residues, runRule, runFigures}
+use Rattle.verify.specs.Verify.{verifyRule, verifyAnswer}
+use Rattle.run.specs.Run.{residues, runRule, runAnswer, runFigures}
 use Rattle.layout.specs.Layout.{edition1}
-use Rattle.layout.specs.File.{lengthOf, stepsOf, columnsOf, outputsOf}
+use Rattle.layout.specs.File.{lengthOf, stepsOf, columnsOf, payslipsOf, outputsOf, readAnswer}
 use Rattle.quote.specs.ByMethod.{count, ceiling}
-use Rattle.compile.specs.Compile.{acceptedRule}
+use Rattle.compile.specs.Compile.{acceptedRule, compileAnswer}
 use Rattle.path.specs.Path.{Lent, compiled, written, compiles, writes, reads, checks, beforeRun, runs, pathAnswer, pathLeaves}
-use Rattle.path.specs.Demand3.{LongEnough, Receivable, Demand3}
+use Rattle.path.specs.Demand3.{LongEnough, Receivable, CountsAlike, Demand3}
 use Rattle.path.proofs.Promised.{Promised, promised}
 
 module _ (p q : ℕ) (amounts : List ℕ) (method k : ℕ) (low : (j : ℕ) → getD amounts j 0 ≤ mostAmount) (l : Lent) where
@@ -70,6 +71,24 @@ module _ (p q : ℕ) (amounts : List ℕ) (method k : ℕ) (low : (j : ℕ) → 
           ∙ ap (λ (x : ℕ). done (n ∷ x ∷ length (stepsOf edition1 file) ∷ [])) (ok .read-back .long ∙ ok .multiplications)
           ∙ ap (λ (x : ℕ). done (n ∷ n ∷ x ∷ [])) (ap length (ok .read-back .steps-same) ∙ ok .multiplications)
 
+      -- each call answers its rule's verdict, and the counts of the chain compiled
+      all-alike : CountsAlike p q amounts method k m bases l
+      unfolding compileAnswer readAnswer verifyAnswer runAnswer
+      all-alike =
+          let same = ap counts (ok .read-back .steps-same) in
+          record {
+            compile = sym (answer-done _ _ (sym (ok .compiles _ _ (long .steps) (long .outputs))));
+            read =
+                sym (answer-done _ _ (sym (ok .reads _ _ (long .stepsRead) (long .outputsRead))))
+                ∙ ap (λ (x : ℕ). done (x ∷ payslipsOf file ∷ counts (stepsOf edition1 file))) (ok .read-back .columns)
+                ∙ ap (λ (x : ℕ). done (p ∷ x ∷ counts (stepsOf edition1 file))) (ok .read-back .payslips ∙ ok .payslips)
+                ∙ ap (λ (x : List ℕ). done (p ∷ q ∷ x)) same;
+            check = sym (answer-done _ _ checks-too) ∙ ap done same;
+            run = sym (answer-done _ _ runs-too) ∙ ap done same;
+            n = ok .multiplications;
+            adds-up = adds-up (chain .steps) ∙ ok .multiplications;
+          }
+
       all-figured : (i : ℕ) → i < q → getD (pathLeaves p q amounts method k l m bases .figures) i 0 ≡ figure p m bases amounts i
       unfolding pathLeaves runFigures
       all-figured i h =
@@ -89,6 +108,7 @@ module _ (p q : ℕ) (amounts : List ℕ) (method k : ℕ) (low : (j : ℕ) → 
       record {
         checked = λ accepted long. sym (all-checked accepted long);
         counted = λ accepted long receivable. all-counted accepted long m bases receivable;
+        alike = λ accepted long receivable. all-alike accepted long m bases receivable;
         limited = λ accepted. promised p q amounts method k low accepted .limited;
         figured = λ accepted long receivable. all-figured accepted long m bases receivable;
       }

@@ -5,10 +5,12 @@ use Prim.Native.Nat.{ℕ, _/_, _≤_}
 use lib.ListN.{length, getD}
 use Rattle.chain.specs.Verdict.{Verdict, fine, refused, _then_, Answer, done, refusal, onFine}
 use Rattle.chain.specs.Chain.{Chain, mostAmount}
+use Rattle.chain.specs.Chain as spec
 use Rattle.chain.specs.declared.Step.{Step}
 use Rattle.chain.proofs.Rules.{stop, pass, then-fine, then-assoc, answer-refused, answer-done, kept, renewed}
 use Rattle.chain.proofs.Told.{verdictIn, told, told-values}
 use Rattle.answers.specs.Answers.{ranOf, readOf}
+use Rattle.answers.specs.declared.Counts.{Counts}
 use Rattle.answers.specs.declared.Ran.{Ran}
 use Rattle.answers.specs.declared.Ran.the-variants as ran
 use Rattle.layout.specs.Layout.{edition1}
@@ -106,7 +108,7 @@ module _ (p q : ℕ) (amounts : List ℕ) (method k : ℕ) (low : (j : ℕ) → 
           (kept _ _ (l .values) n c (later _))
           (kept _ _ (l .figures) n c (later _)))
 
-      module _ (columns payslips n : ℕ) (is : r ≡ reading.Chain columns payslips n) where
+      module _ (columns payslips : ℕ) (read-counts : Counts) (is : r ≡ reading.Chain columns payslips read-counts) where
         both : fine ≡ (writing then fileRead)
         both = sym (ap (λ (x : Reading). verdictIn (readOf x)) is) ∙ found
 
@@ -117,12 +119,12 @@ module _ (p q : ℕ) (amounts : List ℕ) (method k : ℕ) (low : (j : ℕ) → 
         was-read = sym (then-fine _ _ (sym both) .1)
 
         -- what reading the file would have answered and left by itself
-        pub read-alone : ChainTaken edition1 file stepsRead′ outputsRead′ columns payslips n
+        pub read-alone : ChainTaken edition1 file stepsRead′ outputsRead′ columns payslips (read-counts .steps)
         unfolding dispatchAnswer dispatchSteps dispatchOutputs readAnswer
         read-alone =
             taken edition1 file (l .stepsRead) (l .outputsRead) r
             (sent .answered ∙ sym (after-answer _ _ _ wrote))
-            columns payslips n is stepsRead′ outputsRead′
+            columns payslips read-counts is stepsRead′ outputsRead′
             (sent .steps-left ∙ sym (renewed _ _ (l .stepsRead) _ wrote refl))
             (sent .outputs-left ∙ sym (renewed _ _ (l .outputsRead) _ wrote refl))
 
@@ -159,13 +161,13 @@ module _ (p q : ℕ) (amounts : List ℕ) (method k : ℕ) (low : (j : ℕ) → 
               (answer-refused _ _ number place (three-calls _ _ (sym (ap (λ (x : Ran). verdictIn (ranOf x)) e) ∙ last-two)))
               all-left
 
-          pub all-done : (made : ℕ) → a ≡ ran.Multiplications made
-              → Fulfilled (done (compiled′ ∷ n ∷ made ∷ [])) (lent steps′ outputs′ bytes′ stepsRead′ outputsRead′ scratch′ values′ figures′)
-          unfolding pathAnswer receiveAnswer
+          pub all-done : (made : Counts) → a ≡ ran.Multiplications made
+              → Fulfilled (done (compiled′ ∷ read-counts .steps ∷ made .steps ∷ [])) (lent steps′ outputs′ bytes′ stepsRead′ outputsRead′ scratch′ values′ figures′)
+          unfolding pathAnswer receiveAnswer spec.counts
           all-done made e =
-              let long : n ≡ lengthOf edition1 file = read-alone .long in
+              let long : read-counts .steps ≡ lengthOf edition1 file = read-alone .long in
               let told-made = told-values _ _ _ (sym (ap ranOf e) ∙ got .answered) in
-              let said : made ≡ length (stepsOf edition1 file) = ap (λ (x : List ℕ). getD x 0 0) told-made in
+              let said : made .steps ≡ length (stepsOf edition1 file) = ap (λ (x : List ℕ). getD x 0 0) told-made in
               fulfilled _ _
               (rw (counted, long, said) (answer-done _ _ (three-calls _ _ (sym (ap (λ (x : Ran). verdictIn (ranOf x)) e) ∙ last-two))))
               all-left

@@ -46,10 +46,10 @@ pub fn sheet_to_figures(
 {
     match compile::compile(p, q, amounts, method, k, steps, outputs) {
         Compiled::Refused(number, place) => Figured::Refused(number, place),
-        Compiled::Steps(compiled) => {
+        Compiled::Chain(compiled) => {
             match dispatch::dispatch(
                 p,
-                &steps[..2 * compiled],
+                &steps[..2 * compiled.steps],
                 &outputs[..q],
                 bytes,
                 received,
@@ -59,11 +59,11 @@ pub fn sheet_to_figures(
                 Reading::Chain {
                     p: columns,
                     q: payslips,
-                    n: read,
+                    counts: read,
                 } => {
                     match receive::receive(
                         columns,
-                        &received[..2 * read],
+                        &received[..2 * read.steps],
                         &results[..payslips],
                         amounts,
                         m,
@@ -74,9 +74,9 @@ pub fn sheet_to_figures(
                     ) {
                         Ran::Refused(number, place) => Figured::Refused(number, place),
                         Ran::Multiplications(made) => Figured::Counts {
-                            compiled: compiled,
-                            read: read,
-                            made: made,
+                            compiled: compiled.steps,
+                            read: read.steps,
+                            made: made.steps,
                         },
                     }
                 }

@@ -124,12 +124,12 @@ module _ (number : ℕ) where
 module _ (number : ℕ) (text : List ℕ) where
   module _ (short : length text < length (phrase number)) where
     pub phrase-refused : (5 ≡ phraseNumber number (length text)) ×
-        ((0 ∷ 0 ∷ 0 ∷ 0 ∷ [] ≡ phraseWords number (length text)) × (text ≡ phraseText number text))
+        ((0 ∷ 0 ∷ 0 ∷ 0 ∷ 0 ∷ 0 ∷ 0 ∷ 0 ∷ [] ≡ phraseWords number (length text)) × (text ≡ phraseText number text))
     unfolding phraseNumber phraseWords phraseText lacks
     phrase-refused = (search choosing, (search choosing, search choosing))
 
   module _ (n : ℕ) (text′ : List ℕ) (room : length (phrase number) ≤ length text) (long : n ≡ length (phrase number)) (put : text′ ≡ over (phrase number) text) where
     pub phrase-told : (0 ≡ phraseNumber number (length text)) ×
-        ((n ∷ 0 ∷ 0 ∷ 0 ∷ [] ≡ phraseWords number (length text)) × (text′ ≡ phraseText number text))
+        ((n ∷ 0 ∷ 0 ∷ 0 ∷ 0 ∷ 0 ∷ 0 ∷ 0 ∷ [] ≡ phraseWords number (length text)) × (text′ ≡ phraseText number text))
     unfolding phraseNumber phraseWords phraseText lacks
     phrase-told = (search choosing, (rw long (search choosing), search choosing))

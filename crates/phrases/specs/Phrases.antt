@@ -137,12 +137,12 @@ phrase number = cond (number <? firstFault) (getD phrases number noPhrase) (getD
 unfoldable pub lacks : ℕ → ℕ → Bool
 lacks number room = room <? length (phrase number)
 
--- what asking for a phrase returns, what the four words are, and what the text is then
+-- what asking for a phrase returns, what the eight words are, and what the text is then
 unfoldable pub phraseNumber : ℕ → ℕ → ℕ
 phraseNumber number room = cond (lacks number room) 5 0
 
 unfoldable pub phraseWords : ℕ → ℕ → List ℕ
-phraseWords number room = cond (lacks number room) (0 ∷ 0 ∷ 0 ∷ 0 ∷ []) (length (phrase number) ∷ 0 ∷ 0 ∷ 0 ∷ [])
+phraseWords number room = cond (lacks number room) (0 ∷ 0 ∷ 0 ∷ 0 ∷ 0 ∷ 0 ∷ 0 ∷ 0 ∷ []) (length (phrase number) ∷ 0 ∷ 0 ∷ 0 ∷ 0 ∷ 0 ∷ 0 ∷ 0 ∷ [])
 
 unfoldable pub phraseText : ℕ → List ℕ → List ℕ
 phraseText number text = cond (lacks number (length text)) text (over (phrase number) text)

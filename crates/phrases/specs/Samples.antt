@@ -20,10 +20,10 @@ pub record Samples : Type 0 where
   pub above : phrase 108 ≡ noPhrase
   -- a text that just holds a phrase, and one that is a byte too short
   pub fits : phraseText 106 (0 ∷ 0 ∷ 0 ∷ 0 ∷ 9 ∷ []) ≡ 115 ∷ 105 ∷ 103 ∷ 110 ∷ 9 ∷ []
-  pub told : phraseWords 106 4 ≡ 4 ∷ 0 ∷ 0 ∷ 0 ∷ []
+  pub told : phraseWords 106 4 ≡ 4 ∷ 0 ∷ 0 ∷ 0 ∷ 0 ∷ 0 ∷ 0 ∷ 0 ∷ []
   pub none : phraseNumber 106 4 ≡ 0
   pub short : phraseText 106 (0 ∷ 0 ∷ 0 ∷ []) ≡ 0 ∷ 0 ∷ 0 ∷ []
-  pub shortTold : phraseWords 106 3 ≡ 0 ∷ 0 ∷ 0 ∷ 0 ∷ []
+  pub shortTold : phraseWords 106 3 ≡ 0 ∷ 0 ∷ 0 ∷ 0 ∷ 0 ∷ 0 ∷ 0 ∷ 0 ∷ []
   pub refused : phraseNumber 106 3 ≡ 5
 
 pub samples-hold : Samples

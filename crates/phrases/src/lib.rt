@@ -80,7 +80,7 @@ fn put_part(words: &[u8], from: usize, end: usize, text: &mut [u8])
 }
 
 // The phrase of a number over the front of a text; the words answer its length.
-pub fn phrase(number: u32, text: &mut [u8], answer: &mut [u64; 4]) -> u32
+pub fn phrase(number: u32, text: &mut [u8], answer: &mut [u64; 8]) -> u32
     ensures { λ r. ⌜ r ≡ phraseNumber number (length (now (text .entry))) ⌝ }
     ensures { λ r. ⌜ now (answer .exit) ≡ phraseWords number (length (now (text .entry))) ⌝ }
     ensures { λ r. ⌜ now (text .exit) ≡ phraseText number (now (text .entry)) ⌝ }
@@ -89,7 +89,7 @@ pub fn phrase(number: u32, text: &mut [u8], answer: &mut [u64; 4]) -> u32
     let from = phrase_start(n);
     let end = phrase_start(n + 1);
     if text.len() < end - from {
-        *answer = [0, 0, 0, 0];
+        *answer = [0, 0, 0, 0, 0, 0, 0, 0];
         return 5;
     }
     put_part(
@@ -98,6 +98,6 @@ pub fn phrase(number: u32, text: &mut [u8], answer: &mut [u64; 4]) -> u32
         end,
         text,
     );
-    *answer = [(end - from) as u64, 0, 0, 0];
+    *answer = [(end - from) as u64, 0, 0, 0, 0, 0, 0, 0];
     0
 }

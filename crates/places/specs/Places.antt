@@ -47,7 +47,7 @@ abbrev pub numberTold : Read → ℕ
 numberTold (Values a b) = 0
 numberTold (Refused fault line column seen wanted) = fault
 
--- what the four words are: the values and zeros; or line, column, what was found and what was wanted
+-- what the eight words are: the values; or line, column, what was found and what was wanted; then zeros
 abbrev pub wordsTold : Read → List ℕ
-wordsTold (Values a b) = a ∷ b ∷ 0 ∷ 0 ∷ []
-wordsTold (Refused fault line column seen wanted) = line ∷ column ∷ seen ∷ wanted ∷ []
+wordsTold (Values a b) = a ∷ b ∷ 0 ∷ 0 ∷ 0 ∷ 0 ∷ 0 ∷ 0 ∷ []
+wordsTold (Refused fault line column seen wanted) = line ∷ column ∷ seen ∷ wanted ∷ 0 ∷ 0 ∷ 0 ∷ 0 ∷ []

@@ -1,12 +1,12 @@
 -- The pool of two chains, those of a client's two sheets, as one (Req 01; Spec 7.4).
 use mathlib.Core.Bool.{cond}
-use mathlib.Core.List.{List, [], _∷_, _++_, map}
+use mathlib.Core.List.{List, _++_, map}
 use Prim.Native.Nat.{ℕ, _+_, _/_}
 use lib.ListN.{length}
 use Rattle.chain.specs.Tests.{_<?_, _≠?_, _or_}
 use Rattle.chain.specs.Verdict.{Verdict, fine, refused, _then_, refuseIf, Answer, answer, onFine}
 use Rattle.chain.specs.Written.{over}
-use Rattle.chain.specs.Chain.{mostPayslips, mostSteps, by, flat, sizesRule, lengthRule, stepsRule, outputsRule}
+use Rattle.chain.specs.Chain.{mostPayslips, mostSteps, by, flat, sizesRule, lengthRule, stepsRule, outputsRule, counts}
 use Rattle.chain.specs.declared.Step.{Step}
 
 -- Spec 7.4: a chain to be pooled with another, as it is lent
@@ -68,9 +68,9 @@ poolRule a b pairsLent outputsLent =
     poolableRule a b
     then refuseIf (pairsLent <? length (pooledSteps a b) or outputsLent <? length (pooledOutputs a b)) 5 0
 
--- Spec 10.6: the pool's n
+-- Spec 10.6, Req 05: the pool's n, its squarings and its other products
 unfoldable pub poolAnswer : Part → Part → ℕ → ℕ → Answer
-poolAnswer a b pairsLent outputsLent = answer (poolRule a b pairsLent outputsLent) (length (pooledSteps a b) ∷ [])
+poolAnswer a b pairsLent outputsLent = answer (poolRule a b pairsLent outputsLent) (counts (pooledSteps a b))
 
 -- Spec 10.5: what the lent slices are afterwards, steps in turn; each was old before
 unfoldable pub poolSteps : Part → Part → ℕ → List ℕ → List ℕ

@@ -1,11 +1,13 @@
 // Two chains that are to be one, judged: each as it stands and both together.
 ghost use mathlib.Core.Path.{_≡_};
-ghost use Prim.Native.Nat.{_/_};
+ghost use Prim.Native.Nat.{_+_, _/_};
 ghost use lib.ListN.{length};
-ghost use Rattle.chain.specs.Judgement.{verdictOf};
-ghost use Rattle.chain.specs.Chain.{pairs};
+ghost use Rattle.chain.specs.Judgement.{verdictOf, countedOf};
+ghost use Rattle.chain.specs.Chain.{pairs, squaringsOf};
+ghost use Rattle.chain.specs.Inner.{countedBy};
 ghost use Rattle.pool.specs.Pool.{part, counted, bothSizesRule, bothLengthsRule, bothStepsRule, bothOutputsRule, poolableRule};
 ghost use Rattle.pool.specs.Inner.{CountAsked, StepsAsked, OutputsAsked};
+use chain::Counted;
 use chain::Judgement;
 
 // 1 for each part and for both together.
@@ -60,18 +62,23 @@ fn count_on(before: usize, found: Judgement) -> Judgement
     }
 }
 
-// The steps of the first part, then of the second, whose places count on.
-fn judge_steps(p1: usize, steps1: &[u32], p2: usize, steps2: &[u32]) -> Judgement
+// The steps of the first part, then of the second, whose places count on; and how many of all are squarings.
+fn judge_steps(p1: usize, steps1: &[u32], p2: usize, steps2: &[u32]) -> Counted
     requires { ⌜ StepsAsked p1 (length (now steps1) / 2) p2 (length (now steps2) / 2) ⌝ }
-    ensures { λ r. ⌜ verdictOf r ≡ bothStepsRule p1 (pairs (now (steps1 .entry))) p2 (pairs (now (steps2 .entry))) ⌝ }
+    ensures { λ r. ⌜ countedOf r ≡ countedBy (bothStepsRule p1 (pairs (now (steps1 .entry))) p2 (pairs (now (steps2 .entry))))
+        (squaringsOf (pairs (now (steps1 .entry))) + squaringsOf (pairs (now (steps2 .entry)))) ⌝ }
 {
     match legal::judge_steps(p1, steps1) {
-        Judgement::Refused(number, place) => {
-            return Judgement::Refused(number, place);
+        Counted::Refused(number, place) => Counted::Refused(number, place),
+        Counted::Fine(squarings1) => {
+            match legal::judge_steps(p2, steps2) {
+                Counted::Refused(number, place) => {
+                    Counted::Refused(number, steps1.len() / 2 + place)
+                }
+                Counted::Fine(squarings2) => Counted::Fine(squarings1 + squarings2),
+            }
         }
-        Judgement::Fine => {}
     }
-    count_on(steps1.len() / 2, legal::judge_steps(p2, steps2))
 }
 
 // 12 for the outputs of the first part, then of the second, whose places count on; top is the number of a part's last value.
@@ -88,7 +95,7 @@ fn judge_outputs(top1: usize, outputs1: &[u32], top2: usize, outputs2: &[u32]) -
     count_on(outputs1.len(), legal::judge_outputs(top2, outputs2))
 }
 
-// All that is found against two parts before anything lent is looked at: 1, 17, 4, steps, 12.
+// All that is found against two parts before anything lent is looked at: 1, 17, 4, steps, 12; and how many of their steps are squarings.
 pub fn judge_parts(
     p1: usize,
     steps1: &[u32],
@@ -96,35 +103,35 @@ pub fn judge_parts(
     p2: usize,
     steps2: &[u32],
     outputs2: &[u32],
-) -> Judgement
-    ensures { λ r. ⌜ verdictOf r ≡ poolableRule (part p1 (pairs (now (steps1 .entry))) (now (outputs1 .entry)))
-        (part p2 (pairs (now (steps2 .entry))) (now (outputs2 .entry))) ⌝ }
+) -> Counted
+    ensures { λ r. ⌜ countedOf r ≡ countedBy (poolableRule (part p1 (pairs (now (steps1 .entry))) (now (outputs1 .entry)))
+        (part p2 (pairs (now (steps2 .entry))) (now (outputs2 .entry))))
+        (squaringsOf (pairs (now (steps1 .entry))) + squaringsOf (pairs (now (steps2 .entry)))) ⌝ }
 {
     match judge_sizes(p1, outputs1.len(), p2, outputs2.len()) {
         Judgement::Refused(number, place) => {
-            return Judgement::Refused(number, place);
+            return Counted::Refused(number, place);
         }
         Judgement::Fine => {}
     }
     if p1 != p2 {
-        return Judgement::Refused(17, 0);
+        return Counted::Refused(17, 0);
     }
     match judge_lengths(steps1.len() / 2, steps2.len() / 2) {
         Judgement::Refused(number, place) => {
-            return Judgement::Refused(number, place);
+            return Counted::Refused(number, place);
         }
         Judgement::Fine => {}
     }
     match judge_steps(p1, steps1, p2, steps2) {
-        Judgement::Refused(number, place) => {
-            return Judgement::Refused(number, place);
+        Counted::Refused(number, place) => Counted::Refused(number, place),
+        Counted::Fine(squarings) => {
+            let top1 = p1 + steps1.len() / 2;
+            let top2 = p2 + steps2.len() / 2;
+            match judge_outputs(top1, outputs1, top2, outputs2) {
+                Judgement::Refused(number, place) => Counted::Refused(number, place),
+                Judgement::Fine => Counted::Fine(squarings),
+            }
         }
-        Judgement::Fine => {}
     }
-    judge_outputs(
-        p1 + steps1.len() / 2,
-        outputs1,
-        p2 + steps2.len() / 2,
-        outputs2,
-    )
 }

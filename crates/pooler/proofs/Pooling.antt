@@ -1,13 +1,13 @@
 -- What two parts that pool leave room for and leave behind: no number goes past 32 bits, and both lists one after the other are the pool's.
 use mathlib.Core.Path.{_≡_, sym, ap, ap₂, _∙_}
-use mathlib.Core.List.{List, [], _∷_, _++_, map}
+use mathlib.Core.List.{List, _++_, map}
 use Prim.Native.Nat.{ℕ, _+_, _*_, _/_, _^_, _≤_, _<_}
 use native.Mathlib.Omega.{arith}
 use lib.ListN.{length, getD, take, length-append, length-map}
 use lib.Seq.{getD-take, take-length}
 use Rattle.chain.specs.Verdict.{fine, refused, done, refusal}
 use Rattle.chain.specs.Written.{over}
-use Rattle.chain.specs.Chain.{mostColumns, mostSteps, pairs, flat, stepsRule, outputsRule}
+use Rattle.chain.specs.Chain.{mostColumns, mostSteps, pairs, flat, stepsRule, outputsRule, counts}
 use Rattle.chain.proofs.Rules.{stop, judging, answer-refused, answer-done, kept, renewed}
 use Rattle.chain.proofs.Steps.{flat-low}
 use Rattle.chain.proofs.Limits.{outputs-low}
@@ -81,10 +81,10 @@ module _ (a b : Part) (steps outputs : List ℕ) where
   unfolding poolAnswer poolSteps poolOutputs
   refused-leaves n s e = (answer-refused _ _ n s e, (kept _ _ steps n s e, kept _ _ outputs n s e))
 
-  pub pooled-leaves : (n : ℕ) (steps′ outputs′ : List ℕ) → fine ≡ poolRule a b (length steps / 2) (length outputs) → n ≡ length (pooledSteps a b)
+  pub pooled-leaves : (told steps′ outputs′ : List ℕ) → fine ≡ poolRule a b (length steps / 2) (length outputs) → told ≡ counts (pooledSteps a b)
       → steps′ ≡ over (flat (pooledSteps a b)) steps → outputs′ ≡ over (pooledOutputs a b) outputs
-      → (done (n ∷ []) ≡ poolAnswer a b (length steps / 2) (length outputs)) ×
+      → (done told ≡ poolAnswer a b (length steps / 2) (length outputs)) ×
       ((steps′ ≡ poolSteps a b (length outputs) steps) × (outputs′ ≡ poolOutputs a b (length steps / 2) outputs))
   unfolding poolAnswer poolSteps poolOutputs
-  pooled-leaves n steps′ outputs′ e count d f =
-      (ap (λ (k : ℕ). done (k ∷ [])) count ∙ answer-done _ _ e, (renewed _ _ steps _ e d, renewed _ _ outputs _ e f))
+  pooled-leaves told steps′ outputs′ e is d f =
+      (ap (λ (l : List ℕ). done l) is ∙ answer-done _ _ e, (renewed _ _ steps _ e d, renewed _ _ outputs _ e f))

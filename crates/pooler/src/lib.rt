@@ -9,7 +9,7 @@ ghost use Rattle.pool.specs.Pool.{part, renumbered, poolAnswer, poolSteps, pool
 ghost use Rattle.answers.specs.Answers.{pooledOf};
 ghost use Rattle.pooler.specs.Inner.{LayAsked, PutAsked};
 use answers::Pooled;
-use chain::Judgement;
+use chain::Counted;
 
 // How a part's value numbers become the pool's: those above p go up by n.
 struct Numbering {
@@ -76,8 +76,8 @@ pub fn pool(
         (part p2 (pairs (now (steps2 .entry))) (now (outputs2 .entry))) (length (now (steps .entry)) / 2) (now (outputs .entry)) ⌝ }
 {
     match pool::judge_parts(p1, steps1, outputs1, p2, steps2, outputs2) {
-        Judgement::Refused(number, place) => Pooled::Refused(number, place),
-        Judgement::Fine => {
+        Counted::Refused(number, place) => Pooled::Refused(number, place),
+        Counted::Fine(squarings) => {
             let n1 = steps1.len() / 2;
             let n2 = steps2.len() / 2;
             if steps.len() / 2 < n1 + n2 {
@@ -99,7 +99,7 @@ pub fn pool(
                 outputs2.len(),
                 outputs,
             );
-            Pooled::Steps(n1 + n2)
+            Pooled::Chain(answers::counts_of(n1 + n2, squarings))
         }
     }
 }

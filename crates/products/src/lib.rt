@@ -1,54 +1,82 @@
-// Products in the making: steps go into a lent flat slice, first and second in turn; the numbers of steps and of values say where.
+// Products in the making: steps go into a lent flat slice, first and second in turn; the numbers of steps and of values say where. Squarings are counted
+// as they are put.
 ghost use mathlib.Core.List.{[], _∷_, _++_};
-ghost use Prim.Native.Nat.{_+_, _*_, _≤_};
-ghost use lib.ListN.{length};
+ghost use Rattle.chain.specs.Inner.{SquaringCounted};
 ghost use Rattle.products.specs.Product.{ordered, times, squared};
-ghost use Rattle.products.specs.Inner.{stepsIn, productIn, StepsRoom, StepsStored, Emitted};
+ghost use Rattle.products.specs.Inner.{stepsIn, productIn, MoreRoom, StepsRoom, StepsStored, Emitted};
 
-// A product in the making: the number of steps so far, and that of its value; 0 is the empty product.
+// How many steps there are so far, and how many of them are squarings.
+pub struct Progress {
+    pub steps: usize,
+    pub squarings: usize,
+}
+
+// A product in the making: the steps so far, and the number of its value; 0 is the empty product.
 pub struct PartialProduct {
-    pub n: usize,
+    pub progress: Progress,
     pub value: u32,
 }
 
-// One step more after n steps: the larger value, then the smaller.
-pub fn put(n: usize, a: u32, b: u32, steps: &mut [u32])
-    requires { ⌜ 2 * n + 2 ≤ length (now steps) ⌝ }
-    ensures { λ r. ⌜ StepsStored (now (steps .entry)) (now (steps .exit)) (n + 1) (stepsIn (now (steps .entry)) n ++ ordered a b ∷ []) ⌝ }
+// 1 if a product is a squaring, else 0. Its two values are in no order yet.
+fn squaring(a: u32, b: u32) -> usize
+    ensures { λ r. ⌜ SquaringCounted (ordered a b) r ⌝ }
 {
+    if a == b {
+        return 1;
+    }
+    0
+}
+
+// One step more: the larger value, then the smaller.
+pub fn put(progress: Progress, a: u32, b: u32, steps: &mut [u32]) -> Progress
+    requires { ⌜ MoreRoom (now steps) progress 1 ⌝ }
+    ensures { λ r. ⌜ StepsStored (now (steps .entry)) (now (steps .exit)) r (stepsIn (now (steps .entry)) (progress .steps) ++ ordered a b ∷ []) ⌝ }
+{
+    let n = progress.steps;
+    let after = Progress {
+        steps: n + 1,
+        squarings: progress.squarings + squaring(a, b),
+    };
     if a < b {
         steps[2 * n] = b;
         steps[2 * n + 1] = a;
-    } else {
-        steps[2 * n] = a;
-        steps[2 * n + 1] = b;
+        return after;
     }
+    steps[2 * n] = a;
+    steps[2 * n + 1] = b;
+    after
 }
 
 // The product times value y, for p columns.
 pub fn times(p: usize, m: PartialProduct, y: u32, steps: &mut [u32]) -> PartialProduct
-    requires { ⌜ StepsRoom p (now steps) (m .n) (times p (productIn (now steps) m) y .steps) ⌝ }
-    ensures { λ r. ⌜ Emitted (now (steps .entry)) (now (steps .exit)) (r .n) (r .value) (times p (productIn (now (steps .entry)) m) y) ⌝ }
+    requires { ⌜ StepsRoom p (now steps) (m .progress) (times p (productIn (now steps) m) y .steps) ⌝ }
+    ensures { λ r. ⌜ Emitted (now (steps .entry)) (now (steps .exit)) (r .progress) (r .value) (times p (productIn (now (steps .entry)) m) y) ⌝ }
 {
-    let n = m.n;
+    let before = m.progress;
     let v = m.value;
     if v == 0 {
-        return PartialProduct { n: n, value: y };
+        return PartialProduct {
+            progress: before,
+            value: y,
+        };
     }
     if y == 0 {
-        return PartialProduct { n: n, value: v };
+        return PartialProduct {
+            progress: before,
+            value: v,
+        };
     }
-    put(n, v, y, steps);
+    let after = put(before, v, y, steps);
     PartialProduct {
-        n: n + 1,
-        value: (p + n + 1) as u32,
+        progress: after,
+        value: (p + before.steps + 1) as u32,
     }
 }
 
 // The product squared k times.
 pub fn squared(p: usize, k: usize, m: PartialProduct, steps: &mut [u32]) -> PartialProduct
-    requires { ⌜ StepsRoom p (now steps) (m .n) (squared p k (productIn (now steps) m) .steps) ⌝ }
-    ensures { λ r. ⌜ Emitted (now (steps .entry)) (now (steps .exit)) (r .n) (r .value) (squared p k (productIn (now (steps .entry)) m)) ⌝ }
+    requires { ⌜ StepsRoom p (now steps) (m .progress) (squared p k (productIn (now steps) m) .steps) ⌝ }
+    ensures { λ r. ⌜ Emitted (now (steps .entry)) (now (steps .exit)) (r .progress) (r .value) (squared p k (productIn (now (steps .entry)) m)) ⌝ }
 {
     let mut r = m;
     let mut i: usize = 0;

@@ -5,7 +5,7 @@ use Prim.Native.Nat.{ℕ}
 use native.Mathlib.Omega.{arith}
 use Rattle.chain.proofs.Rules.{eq-yes, eq-no}
 use Rattle.methods.specs.Method.{Method}
-use Rattle.methods.specs.Inner.{ChainStored, QuoteOf}
+use Rattle.methods.specs.Inner.{QuoteOf}
 use Rattle.methods.specs.declared.Quote.{Quote}
 use Rattle.straus.specs.Straus.{strausMethod}
 use Rattle.yao.specs.Yao.{yaoMethod}
@@ -28,10 +28,6 @@ module _ (p q : ℕ) (amounts : List ℕ) (method k : ℕ) where
 pub same-count : {m n : Method} → m ≡ n → m .count ≡ n .count
 same-count = ap (λ (m : Method). m .count)
 
--- what was counted, and what was written, of a method by another name
+-- what was counted of a method by another name
 pub quoted : {m n : Method} → m ≡ n → {r : Quote} → QuoteOf r n → QuoteOf r m
 quoted same e = rw same e
-
-pub emitted : {m n : Method} → m ≡ n → {steps outputs steps′ outputs′ : List ℕ} → ChainStored steps outputs steps′ outputs′ (n .chain)
-    → ChainStored steps outputs steps′ outputs′ (m .chain)
-emitted same e = rw same e

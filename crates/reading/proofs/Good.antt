@@ -8,6 +8,7 @@ use Rattle.chain.specs.Chain.{mostPayslips}
 use Rattle.layout.specs.declared.Layout.{Layout}
 use Rattle.layout.specs.File.{readRule, readAnswer, readSteps, readOutputs}
 use Rattle.answers.specs.Answers.{readOf}
+use Rattle.answers.specs.declared.Counts.{Counts}
 use Rattle.answers.specs.declared.Reading.{Reading}
 use Rattle.answers.specs.declared.Reading.the-variants as reading
 use Rattle.layout.proofs.Lent.{read-any}
@@ -23,11 +24,11 @@ module _ (L : Layout) (bytes steps outputs : List ℕ) (hs : L .limit ≤ length
   pub read-refused : (k s : ℕ) → r ≡ reading.Refused k s → refused k s ≡ readRule L bytes (L .limit) mostPayslips
   read-refused k s e = read-stops L bytes steps outputs r answered k s e ∙ read-any L bytes _ _ hs ho
 
-  pub read-good : (p q n : ℕ) → r ≡ reading.Chain p q n → (steps′ outputs′ : List ℕ)
+  pub read-good : (p q : ℕ) (c : Counts) → r ≡ reading.Chain p q c → (steps′ outputs′ : List ℕ)
       → steps′ ≡ readSteps L bytes (length outputs) steps → outputs′ ≡ readOutputs L bytes (length steps / 2) outputs
-      → Good L bytes steps′ outputs′ p q n
-  read-good p q n is steps′ outputs′ es eo =
+      → Good L bytes steps′ outputs′ p q (c .steps)
+  read-good p q c is steps′ outputs′ es eo =
       record {
-        reads = read-passes L bytes steps outputs r answered p q n is ∙ read-any L bytes _ _ hs ho;
-        taken = taken L bytes steps outputs r answered p q n is steps′ outputs′ es eo;
+        reads = read-passes L bytes steps outputs r answered p q c is ∙ read-any L bytes _ _ hs ho;
+        taken = taken L bytes steps outputs r answered p q c is steps′ outputs′ es eo;
       }

@@ -1,6 +1,6 @@
 -- The loops' invariant: the verdict on the whole list is the verdict on the fields still to be read, from the cursor on; a turn takes one step or output off and judges it.
 use mathlib.Core.Path.{_≡_, refl, sym, ap, ap₂, _∙_}
-use mathlib.Core.List.{List}
+use mathlib.Core.List.{List, [], _∷_}
 use Prim.Native.Nat.{ℕ, suc, _+_, _-_, _*_, _^_, _≤_, _<_}
 use native.Mathlib.Nat.{suc-mul}
 use native.Mathlib.Numerals.{add-one}
@@ -9,11 +9,13 @@ use lib.ListN.{length}
 use Rattle.chain.specs.Tests.{_<?_}
 use Rattle.chain.specs.Verdict.{Verdict, fine, refused, _then_, refuseIf}
 use Rattle.chain.specs.Judgement.{verdictOf}
-use Rattle.chain.specs.Chain.{by, pairs, stepRule, stepsRule, outputsRule}
+use Rattle.chain.specs.Chain.{by, pairs, stepRule, stepsRule, outputsRule, squaringsOf}
+use Rattle.chain.specs.Inner.{SquaringCounted}
 use Rattle.chain.specs.declared.Judgement.{Judgement}
 use Rattle.chain.specs.declared.Judgement.the-variants.{Fine, Refused}
+use Rattle.chain.proofs.Squarings.{counted-one}
 use Rattle.chain.proofs.Rules.{stop, pass, told-fine, told-refused, refuse-yes, refuse-no, lt-yes, lt-no}
-use Rattle.bits.specs.Bits.{fieldAt, fieldsAt}
+use Rattle.bits.specs.Bits.{fieldsAt}
 use Rattle.bits.specs.Inner.{FieldRoom, FieldTaken, TwoTaken}
 use Rattle.fields.specs.Inner.{widestNumber}
 use Rattle.layout.specs.declared.Extent.{Extent}
@@ -53,24 +55,36 @@ within-rest bytes at w n v next ok t =
       fits = omega (arith, ok .fits, suc-mul n w, t .moved);
     }
 
--- the invariant of the steps' loop: s steps are judged, and whole is the verdict on those that are left, from position c on
-pub record StepsLeft (whole : Verdict) (bytes : List ℕ) (p w n c s : ℕ) : Type 0 where
+-- the invariant of the steps' loop: s steps are judged and k squarings counted among them; whole is the verdict on those that are left, from position c on,
+-- and total are all squarings
+pub record StepsLeft (whole : Verdict) (total : ℕ) (bytes : List ℕ) (p w n c s k : ℕ) : Type 0 where
   pub some-left : s ≤ n
   pub room : FieldsWithin bytes c w (2 * (n - s))
   pub same : whole ≡ stepsRule p (s + 1) (pairs (fieldsAt bytes c w (2 * (n - s))))
+  pub counted : total ≡ k + squaringsOf (pairs (fieldsAt bytes c w (2 * (n - s))))
+  pub few : k ≤ s
 
 pub steps-start : (bytes : List ℕ) (p at w n : ℕ) → FieldsWithin bytes at w (2 * n)
-    → StepsLeft (stepsRule p 1 (pairs (fieldsAt bytes at w (2 * n)))) bytes p w n at 0
+    → StepsLeft (stepsRule p 1 (pairs (fieldsAt bytes at w (2 * n)))) (squaringsOf (pairs (fieldsAt bytes at w (2 * n)))) bytes p w n at 0 0
 steps-start bytes p at w n ok =
     let e : n - 0 ≡ n = omega arith in
-    record { some-left = omega arith; room = rw e ok; same = rw e }
+    record { some-left = omega arith; room = rw e ok; same = rw e; counted = rw e (omega arith); few = omega arith }
 
-module _ (whole : Verdict) (bytes : List ℕ) (p w n c s : ℕ) (inv : StepsLeft whole bytes p w n c s) where
-  pub steps-end : n ≤ s → fine ≡ whole
-  unfolding fieldsAt
-  steps-end h =
-      let e : 2 * (n - s) ≡ 0 = omega arith in
-      sym (inv .same ∙ ap (λ (k : ℕ). stepsRule p (s + 1) (pairs (fieldsAt bytes c w k))) e)
+module _ (whole : Verdict) (total : ℕ) (bytes : List ℕ) (p w n c s k : ℕ) (inv : StepsLeft whole total bytes p w n c s k) where
+  -- none is left
+  module _ (h : n ≤ s) where
+    none : pairs (fieldsAt bytes c w (2 * (n - s))) ≡ []
+    unfolding fieldsAt
+    none =
+        let e : 2 * (n - s) ≡ 0 = omega arith in
+        ap (λ (i : ℕ). pairs (fieldsAt bytes c w i)) e
+
+    pub steps-end : fine ≡ whole
+    steps-end = sym (inv .same ∙ ap (stepsRule p (s + 1)) none)
+
+    pub squarings-end : k ≡ total
+    unfolding squaringsOf
+    squarings-end = omega (arith, inv .counted, ap squaringsOf none)
 
   module _ (h : s < n) where
     -- the steps' fields that are left after this one's two
@@ -91,32 +105,39 @@ module _ (whole : Verdict) (bytes : List ℕ) (p w n c s : ℕ) (inv : StepsLeft
           fits = omega (arith, two .fits, suc-mul (suc after) w, suc-mul after w);
         }
 
-    module _ (a b next : ℕ) (t : TwoTaken bytes c w a b next) (j : Judgement) (told : verdictOf j ≡ stepRule (p + s + 1) (s + 1) (by a b)) where
-      rest : Verdict
-      rest = stepsRule p (s + 1 + 1) (pairs (fieldsAt bytes next w after))
+    module _ (a b next : ℕ) (t : TwoTaken bytes c w a b next) where
+      -- the steps left are this one and those after it
+      one-off : pairs (fieldsAt bytes c w (2 * (n - s))) ≡ by a b ∷ pairs (fieldsAt bytes next w after)
+      unfolding fieldsAt
+      one-off =
+          ap (λ (i : ℕ). pairs (fieldsAt bytes c w i)) left
+          ∙ ap₂ (λ (u v : ℕ). by u v ∷ pairs (fieldsAt bytes (c + w + w) w after)) (sym (t .first .is)) (sym (t .second .is))
+          ∙ ap (λ (i : ℕ). by a b ∷ pairs (fieldsAt bytes i w after)) (sym (t .second .moved))
 
-      here : whole ≡ (stepRule (p + s + 1) (s + 1) (by a b) then rest)
-      unfolding fieldsAt rest
-      here =
-          let e : p + (s + 1) ≡ p + s + 1 = omega arith in
-          inv .same ∙ ap (λ (i : ℕ). stepsRule p (s + 1) (pairs (fieldsAt bytes c w i))) left
-          ∙ ap (λ (v : ℕ). stepRule (p + (s + 1)) (s + 1) (by v (fieldAt bytes (c + w) w)) then stepsRule p (suc (s + 1))
-          (pairs (fieldsAt bytes (c + w + w) w after))) (sym (t .first .is))
-          ∙ ap₂ (λ (i v : ℕ). stepRule (p + (s + 1)) (s + 1) (by a v) then stepsRule p (suc (s + 1)) (pairs (fieldsAt bytes i w after)))
-          (sym (t .second .moved)) (sym (t .second .is))
-          ∙ ap₂ (λ (i v : ℕ). stepRule v (s + 1) (by a b) then stepsRule p i (pairs (fieldsAt bytes next w after))) (sym (add-one (s + 1))) e
+      module _ (j : Judgement) (told : verdictOf j ≡ stepRule (p + s + 1) (s + 1) (by a b)) where
+        rest : Verdict
+        rest = stepsRule p (s + 1 + 1) (pairs (fieldsAt bytes next w after))
 
-      pub step-bad : (number place : ℕ) → j ≡ Refused number place → refused number place ≡ whole
-      step-bad number place e = stop _ _ number place (told-refused j _ number place told e) ∙ sym here
+        here : whole ≡ (stepRule (p + s + 1) (s + 1) (by a b) then rest)
+        unfolding rest
+        here =
+            let e : p + (s + 1) ≡ p + s + 1 = omega arith in
+            inv .same ∙ ap (stepsRule p (s + 1)) one-off
+            ∙ ap₂ (λ (i v : ℕ). stepRule v (s + 1) (by a b) then stepsRule p i (pairs (fieldsAt bytes next w after))) (sym (add-one (s + 1))) e
 
-      pub step-on : j ≡ Fine → StepsLeft whole bytes p w n next (s + 1)
-      unfolding rest
-      step-on e =
-          record {
-            some-left = omega arith;
-            room = within-rest bytes (c + w) w after b next (within-rest bytes c w (suc after) a (c + w) two (t .first)) (t .second);
-            same = here ∙ sym (pass _ _ _ (told-fine j _ told e) refl);
-          }
+        pub step-bad : (number place : ℕ) → j ≡ Refused number place → refused number place ≡ whole
+        step-bad number place e = stop _ _ number place (told-refused j _ number place told e) ∙ sym here
+
+        pub step-on : j ≡ Fine → (d : ℕ) → SquaringCounted (by a b) d → StepsLeft whole total bytes p w n next (s + 1) (k + d)
+        unfolding rest squaringsOf
+        step-on e d one-more =
+            record {
+              some-left = omega arith;
+              room = within-rest bytes (c + w) w after b next (within-rest bytes c w (suc after) a (c + w) two (t .first)) (t .second);
+              same = here ∙ sym (pass _ _ _ (told-fine j _ told e) refl);
+              counted = omega (arith, inv .counted, ap squaringsOf one-off, counted-one _ _ _ d (told-fine j _ told e) one-more);
+              few = omega (arith, inv .few, one-more .low);
+            }
 
 -- the invariant of the outputs' loop
 pub record OutputsLeft (whole : Verdict) (bytes : List ℕ) (top w q c i : ℕ) : Type 0 where

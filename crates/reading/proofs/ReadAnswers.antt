@@ -1,18 +1,14 @@
 -- The read rule is the header's rules and then the body's, by the extent that the header gives; each judge's verdict decides its half, and the lists read are the chain's.
 use mathlib.Core.Path.{_≡_, refl, sym, ap, _∙_, subst}
-use mathlib.Core.List.{List, [], _∷_}
-use Prim.Native.Nat.{ℕ, _+_, _-_, _*_, _/_, _≤_, _<_}
+use mathlib.Core.List.{List, _∷_}
+use Prim.Native.Nat.{ℕ, _+_, _-_, _*_, _/_, _≤_}
 use native.Mathlib.Omega.{arith}
 use lib.ListN.{length}
 use Rattle.chain.specs.Tests.{_<?_, _≠?_, _or_}
 use Rattle.chain.specs.Verdict.{Verdict, fine, refused, _then_, refuseIf, Answer, done, refusal, answer, onFine}
-use Rattle.chain.specs.Judgement.{verdictOf}
 use Rattle.chain.specs.Written.{over}
-use Rattle.chain.specs.Chain.{flat, lengthRule, stepsRule, outputsRule, chainRule}
-use Rattle.chain.specs.declared.Judgement.{Judgement}
-use Rattle.chain.specs.declared.Judgement.the-variants as judged
-use Rattle.chain.proofs.Rules.{stop, pass, then-fine, then-assoc, refuseIf-fine, neither, not-lt, not-ne, told-fine, told-refused, answer-refused}
-use Rattle.chain.proofs.Rules.{answer-done, kept, renewed}
+use Rattle.chain.specs.Chain.{flat, lengthRule, stepsRule, outputsRule, chainRule, counts}
+use Rattle.chain.proofs.Rules.{stop, pass, then-fine, then-assoc, refuseIf-fine, neither, not-lt, not-ne, answer-refused, answer-done, kept, renewed}
 use Rattle.chain.proofs.Pairs.{length-pairs, flat-pairs}
 use Rattle.chain.proofs.Sizes.{length-fits}
 use Rattle.bits.specs.Bits.{fieldAt, fieldsAt}
@@ -70,25 +66,19 @@ module _ (L : Layout) (bytes : List ℕ) (r : Heading) (told : headed L bytes r)
 
 -- the body, by its extent
 module _ (bytes : List ℕ) (x : Extent) where
-  steps-count : length (fileSteps bytes x) ≡ x .n
+  pub steps-count : length (fileSteps bytes x) ≡ x .n
   steps-count =
       length-pairs (fieldsAt bytes (x .start) (x .width) (2 * x .n)) ∙ omega (arith, length-fieldsAt bytes (x .start) (x .width) (2 * x .n))
 
   flat-steps : flat (fileSteps bytes x) ≡ fieldsAt bytes (x .start) (x .width) (2 * x .n)
   flat-steps = flat-pairs (x .n) _ (length-fieldsAt bytes (x .start) (x .width) (2 * x .n))
 
-  module _ (j : Judgement) (told : verdictOf j ≡ stepsRule (x .p) 1 (fileSteps bytes x)) where
-    in-order : chainRule (x .p) (fileSteps bytes x) (fileOutputs bytes x)
-        ≡ (stepsRule (x .p) 1 (fileSteps bytes x) then outputsRule (x .p + x .n) 1 (fileOutputs bytes x))
-    unfolding chainRule
-    in-order = ap (λ (k : ℕ). stepsRule (x .p) 1 (fileSteps bytes x) then outputsRule (x .p + k) 1 (fileOutputs bytes x)) steps-count
-
-    pub chain-bad : (k s : ℕ) → j ≡ judged.Refused k s → refused k s ≡ chainRule (x .p) (fileSteps bytes x) (fileOutputs bytes x)
-    chain-bad k s e = stop _ _ k s (told-refused j _ k s told e) ∙ sym in-order
-
-    pub chain-rest : (v : Verdict) → j ≡ judged.Fine → v ≡ outputsRule (x .p + x .n) 1 (fileOutputs bytes x)
-        → v ≡ chainRule (x .p) (fileSteps bytes x) (fileOutputs bytes x)
-    chain-rest v e is = pass _ _ v (told-fine j _ told e) is ∙ sym in-order
+  -- the chain's rules, with n as the extent has it
+  pub chain-is : (v : Verdict) → v ≡ (stepsRule (x .p) 1 (fileSteps bytes x) then outputsRule (x .p + x .n) 1 (fileOutputs bytes x))
+      → v ≡ chainRule (x .p) (fileSteps bytes x) (fileOutputs bytes x)
+  unfolding chainRule
+  chain-is v e =
+      e ∙ ap (λ (k : ℕ). stepsRule (x .p) 1 (fileSteps bytes x) then outputsRule (x .p + k) 1 (fileOutputs bytes x)) (sym steps-count)
 
   module _ (ok : Proper x) where
     -- bytes of the right length hold the extent, and end in less than a byte of filling
@@ -110,18 +100,17 @@ module _ (bytes : List ℕ) (x : Extent) where
     unfolding bodyRule
     body-is f room places is v e = e ∙ rw is
 
-    module _ (steps outputs : List ℕ) (j : Judgement) (told : verdictOf j ≡ bodyRule bytes x (length steps / 2) (length outputs)) where
-      pub body-refused : (k s : ℕ) → j ≡ judged.Refused k s → BodyRead bytes x steps outputs (refusal k s) steps outputs
-      body-refused k s e =
-          let v = told-refused j _ k s told e in
-          record { answered = answer-refused _ _ k s v; steps-left = kept _ _ steps k s v; outputs-left = kept _ _ outputs k s v }
+    module _ (steps outputs : List ℕ) where
+      pub body-refused : (k s : ℕ) → refused k s ≡ bodyRule bytes x (length steps / 2) (length outputs)
+          → BodyRead bytes x steps outputs (refusal k s) steps outputs
+      body-refused k s v = record { answered = answer-refused _ _ k s v; steps-left = kept _ _ steps k s v; outputs-left = kept _ _ outputs k s v }
 
-      module _ (passed : j ≡ judged.Fine) where
+      module _ (passed : fine ≡ bodyRule bytes x (length steps / 2) (length outputs)) where
         pub lists-room : FieldsRoom bytes (x .start) (x .width) (2 * x .n) steps
             × FieldsRoom bytes (x .start + 2 * x .n * x .width) (x .width) (x .q) outputs
         unfolding bodyRule
         lists-room =
-            let a = then-fine _ _ (sym (told-fine j _ told passed)) in
+            let a = then-fine _ _ (sym passed) in
             let b = then-fine _ _ (a .1) in
             let rooms = neither _ _ (refuseIf-fine _ 5 0 (b .0)) in
             let pairs-room : x .n ≤ length steps / 2 = not-lt _ _ (rooms .0) in
@@ -141,14 +130,14 @@ module _ (bytes : List ℕ) (x : Extent) where
               },
             )
 
-        pub body-done : (steps′ outputs′ : List ℕ) → ListsTaken bytes (x .start) (x .width) (x .n) (x .q) steps outputs steps′ outputs′
-            → BodyRead bytes x steps outputs (done (x .p ∷ x .q ∷ x .n ∷ [])) steps′ outputs′
-        body-done steps′ outputs′ t =
-            let v = told-fine j _ told passed in
+        pub body-done : (told steps′ outputs′ : List ℕ) → told ≡ counts (fileSteps bytes x)
+            → ListsTaken bytes (x .start) (x .width) (x .n) (x .q) steps outputs steps′ outputs′
+            → BodyRead bytes x steps outputs (done (x .p ∷ x .q ∷ told)) steps′ outputs′
+        body-done told steps′ outputs′ is t =
             record {
-              answered = answer-done _ _ v;
-              steps-left = renewed _ _ steps _ v (t .steps-taken ∙ ap (λ (l : List ℕ). over l steps) (sym flat-steps));
-              outputs-left = renewed _ _ outputs _ v (t .outputs-taken);
+              answered = ap (λ (l : List ℕ). done (x .p ∷ x .q ∷ l)) is ∙ answer-done _ _ passed;
+              steps-left = renewed _ _ steps _ passed (t .steps-taken ∙ ap (λ (l : List ℕ). over l steps) (sym flat-steps));
+              outputs-left = renewed _ _ outputs _ passed (t .outputs-taken);
             }
 
 -- both together
@@ -172,7 +161,7 @@ module _ (L : Layout) (bytes steps outputs : List ℕ) where
       let same : bodyRule bytes y (length steps / 2) (length outputs) ≡ readRule L bytes (length steps / 2) (length outputs) =
       pass _ _ _ ok refl ∙ sym (rule-is (length steps / 2) (length outputs)) in
       record {
-        answered = r .answered ∙ ap (λ (v : Verdict). answer v (columnsOf bytes ∷ payslipsOf bytes ∷ lengthOf L bytes ∷ [])) same;
+        answered = r .answered ∙ ap (λ (v : Verdict). answer v (columnsOf bytes ∷ payslipsOf bytes ∷ counts (stepsOf L bytes))) same;
         steps-left = r .steps-left ∙ ap (λ (v : Verdict). onFine v (over (flat (stepsOf L bytes)) steps) steps) same;
         outputs-left = r .outputs-left ∙ ap (λ (v : Verdict). onFine v (over (outputsOf L bytes) outputs) outputs) same;
       }

@@ -1,12 +1,12 @@
 -- From the answer of `read` its verdict and the header's numbers are read back; where it is done, the chain stands at the front of both slices.
 use mathlib.Core.Path.{_≡_, refl, sym, ap, _∙_}
-use mathlib.Core.List.{List, [], _∷_}
+use mathlib.Core.List.{List, _∷_}
 use Prim.Native.Nat.{ℕ, _*_, _/_, _≤_}
 use native.Mathlib.Omega.{arith}
-use lib.ListN.{length, getD, take}
+use lib.ListN.{length, getD, take, drop}
 use Rattle.chain.specs.Verdict.{fine, refused}
 use Rattle.chain.specs.Written.{over}
-use Rattle.chain.specs.Chain.{flat}
+use Rattle.chain.specs.Chain.{flat, counts}
 use Rattle.chain.proofs.Rules.{renewed}
 use Rattle.chain.proofs.Told.{verdictIn, told, told-values}
 use Rattle.chain.proofs.Pairs.{length-flat}
@@ -15,7 +15,8 @@ use Rattle.layout.specs.declared.Layout.{Layout}
 use Rattle.layout.specs.File.{columnsOf, payslipsOf, lengthOf, stepsOf, outputsOf, readRule, readAnswer, readSteps, readOutputs}
 use Rattle.layout.proofs.Readable.{readable}
 use Rattle.layout.proofs.OneFile.{length-stepsOf, length-outputsOf}
-use Rattle.answers.specs.Answers.{readOf}
+use Rattle.answers.specs.Answers.{countsIn, readOf}
+use Rattle.answers.specs.declared.Counts.{Counts}
 use Rattle.answers.specs.declared.Reading.{Reading}
 use Rattle.answers.specs.declared.Reading.the-variants.{Chain, Refused}
 
@@ -38,13 +39,19 @@ module _ (L : Layout) (bytes steps outputs : List ℕ) (r : Reading) (answered :
   pub read-stops : (k s : ℕ) → r ≡ Refused k s → refused k s ≡ readRule L bytes (length steps / 2) (length outputs)
   read-stops k s e = sym (ap (λ (x : Reading). verdictIn (readOf x)) e) ∙ read-found
 
-  module _ (p q n : ℕ) (is : r ≡ Chain p q n) where
+  module _ (p q : ℕ) (c : Counts) (is : r ≡ Chain p q c) where
     pub read-passes : fine ≡ readRule L bytes (length steps / 2) (length outputs)
     read-passes = sym (ap (λ (x : Reading). verdictIn (readOf x)) is) ∙ read-found
 
-    sizes : _≡_ {A = List ℕ} (p ∷ q ∷ n ∷ []) (columnsOf bytes ∷ payslipsOf bytes ∷ lengthOf L bytes ∷ [])
+    abbrev n : ℕ
+    n = c .steps
+
+    sizes : _≡_ {A = List ℕ} (p ∷ q ∷ countsIn c) (columnsOf bytes ∷ payslipsOf bytes ∷ counts (stepsOf L bytes))
     unfolding readAnswer
     sizes = told-values _ _ _ (sym (ap readOf is) ∙ answered)
+
+    pub read-counts : countsIn c ≡ counts (stepsOf L bytes)
+    read-counts = ap (drop 2) sizes
 
     module _ (steps′ outputs′ : List ℕ) (es : steps′ ≡ readSteps L bytes (length outputs) steps)
         (eo : outputs′ ≡ readOutputs L bytes (length steps / 2) outputs) where
@@ -57,11 +64,12 @@ module _ (L : Layout) (bytes steps outputs : List ℕ) (r : Reading) (answered :
       new-outputs = eo ∙ sym (renewed _ _ outputs _ read-passes refl)
 
       pub taken : ChainTaken L bytes steps′ outputs′ p q n
+      unfolding counts
       taken =
           let ok = readable L bytes _ _ (sym read-passes) in
           let ep : p ≡ columnsOf bytes = ap (λ (l : List ℕ). getD l 0 0) sizes in
           let eq : q ≡ payslipsOf bytes = ap (λ (l : List ℕ). getD l 1 0) sizes in
-          let en : n ≡ lengthOf L bytes = ap (λ (l : List ℕ). getD l 2 0) sizes in
+          let en : n ≡ lengthOf L bytes = ap (λ (l : List ℕ). getD l 2 0) sizes ∙ length-stepsOf L bytes in
           let ls : length (flat (stepsOf L bytes)) ≡ 2 * n = omega (arith, length-flat (stepsOf L bytes), length-stepsOf L bytes) in
           let lo : length (outputsOf L bytes) ≡ q = omega (arith, length-outputsOf L bytes) in
           let room : 2 * n ≤ length steps = omega (arith, ok .pairs-room) in

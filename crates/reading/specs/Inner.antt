@@ -1,12 +1,12 @@
 -- Inner vocabulary: what the functions that read ask of bytes and of an extent, and find. Nobody has to believe it to believe an entry point's promise.
 use mathlib.Core.Path.{_≡_}
-use mathlib.Core.List.{List, [], _∷_}
+use mathlib.Core.List.{List, _∷_}
 use Prim.Native.Nat.{ℕ, _+_, _-_, _*_, _/_, _^_, _≤_, _<_}
 use lib.ListN.{length}
 use Rattle.chain.specs.Tests.{_<?_, _≠?_, _or_}
 use Rattle.chain.specs.Verdict.{Verdict, fine, refused, _then_, refuseIf, Answer, answer, onFine}
 use Rattle.chain.specs.Written.{over}
-use Rattle.chain.specs.Chain.{pairs, flat, lengthRule, chainRule}
+use Rattle.chain.specs.Chain.{pairs, flat, lengthRule, chainRule, counts}
 use Rattle.chain.specs.declared.Step.{Step}
 use Rattle.bits.specs.Bits.{bytesFor, fieldAt, fieldsAt}
 use Rattle.fields.specs.Inner.{widestNumber}
@@ -74,7 +74,7 @@ module _ (bytes : List ℕ) (x : Extent) where
 
   -- what reading by an extent answers and leaves
   pub record BodyRead (steps outputs : List ℕ) (a : Answer) (steps′ outputs′ : List ℕ) : Type 0 where
-    pub answered : a ≡ answer (bodyRule (length steps / 2) (length outputs)) (x .p ∷ x .q ∷ x .n ∷ [])
+    pub answered : a ≡ answer (bodyRule (length steps / 2) (length outputs)) (x .p ∷ x .q ∷ counts fileSteps)
     pub steps-left : steps′ ≡ onFine (bodyRule (length steps / 2) (length outputs)) (over (flat fileSteps) steps) steps
     pub outputs-left : outputs′ ≡ onFine (bodyRule (length steps / 2) (length outputs)) (over fileOutputs outputs) outputs
 

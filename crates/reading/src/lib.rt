@@ -2,8 +2,9 @@
 ghost use mathlib.Core.Path.{_≡_};
 ghost use Prim.Native.Nat.{_+_, _*_, _/_};
 ghost use lib.ListN.{length};
-ghost use Rattle.chain.specs.Judgement.{verdictOf};
-ghost use Rattle.chain.specs.Chain.{stepsRule, outputsRule, chainRule};
+ghost use Rattle.chain.specs.Judgement.{verdictOf, countedOf};
+ghost use Rattle.chain.specs.Chain.{stepsRule, outputsRule, chainRule, squaringsOf};
+ghost use Rattle.chain.specs.Inner.{countedBy};
 ghost use Rattle.fields.specs.Inner.{FieldsRoom};
 ghost use Rattle.layout.specs.Layout.{edition1};
 ghost use Rattle.layout.specs.File.{readAnswer, readSteps, readOutputs};
@@ -12,6 +13,7 @@ ghost use Rattle.answers.specs.Answers.{readOf};
 ghost use Rattle.reading.specs.Inner.{HeaderRoom, headerIn, headed, Proper, Contained, fileSteps, fileOutputs, bodyRule, BodyRead, FileRead, ListsTaken};
 use answers::Reading;
 use bits::Cursor;
+use chain::Counted;
 use chain::Judgement;
 use layout::Extent;
 use layout::Layout;
@@ -70,13 +72,14 @@ fn judge_header(layout: Layout, bytes: &[u8]) -> Heading
     }
 }
 
-// The steps of a file, in order: 9, 10, 11.
-fn judge_steps(bytes: &[u8], x: Extent) -> Judgement
+// The steps of a file, in order: 9, 10, 11; and how many of them are squarings.
+fn judge_steps(bytes: &[u8], x: Extent) -> Counted
     requires { ⌜ Contained (now bytes) x ⌝ }
-    ensures { λ r. ⌜ verdictOf r ≡ stepsRule (x .p) 1 (fileSteps (now (bytes .entry)) x) ⌝ }
+    ensures { λ r. ⌜ countedOf r ≡ countedBy (stepsRule (x .p) 1 (fileSteps (now (bytes .entry)) x)) (squaringsOf (fileSteps (now (bytes .entry)) x)) ⌝ }
 {
     let n = x.n;
     let mut c = Cursor { at: x.start };
+    let mut squarings: usize = 0;
     let mut s: usize = 0;
     while s < n {
         let step = c.take_two(bytes, x.width);
@@ -84,15 +87,16 @@ fn judge_steps(bytes: &[u8], x: Extent) -> Judgement
         let b = step.second as u32;
         match step::judge_step(x.p + s + 1, s + 1, a, b) {
             Judgement::Refused(number, place) => {
-                return Judgement::Refused(number, place);
+                return Counted::Refused(number, place);
             }
             Judgement::Fine => {}
         }
+        squarings += chain::squaring(a, b);
         let next = step.next;
         c = next;
         s += 1;
     }
-    Judgement::Fine
+    Counted::Fine(squarings)
 }
 
 // The outputs of a file: 12.
@@ -119,36 +123,42 @@ fn judge_outputs(bytes: &[u8], x: Extent) -> Judgement
     Judgement::Fine
 }
 
-// The chain of a file: steps, then 12.
-fn judge_chain(bytes: &[u8], x: Extent) -> Judgement
+// The chain of a file: steps, then 12; and how many of the steps are squarings.
+fn judge_chain(bytes: &[u8], x: Extent) -> Counted
     requires { ⌜ Contained (now bytes) x ⌝ }
-    ensures { λ r. ⌜ verdictOf r ≡ chainRule (x .p) (fileSteps (now (bytes .entry)) x) (fileOutputs (now (bytes .entry)) x) ⌝ }
+    ensures { λ r. ⌜ countedOf r ≡ countedBy (chainRule (x .p) (fileSteps (now (bytes .entry)) x) (fileOutputs (now (bytes .entry)) x))
+        (squaringsOf (fileSteps (now (bytes .entry)) x)) ⌝ }
 {
     match judge_steps(bytes, x) {
-        Judgement::Refused(number, place) => Judgement::Refused(number, place),
-        Judgement::Fine => judge_outputs(bytes, x),
+        Counted::Refused(number, place) => Counted::Refused(number, place),
+        Counted::Fine(squarings) => {
+            match judge_outputs(bytes, x) {
+                Judgement::Refused(number, place) => Counted::Refused(number, place),
+                Judgement::Fine => Counted::Fine(squarings),
+            }
+        }
     }
 }
 
 // 6, 5, 8, steps, 12, where there is room for so many pairs and places for so many outputs. n is not trusted before the length is right.
-fn judge_body(bytes: &[u8], x: Extent, room: usize, places: usize) -> Judgement
+fn judge_body(bytes: &[u8], x: Extent, room: usize, places: usize) -> Counted
     requires { ⌜ Proper x ⌝ }
-    ensures { λ r. ⌜ verdictOf r ≡ bodyRule (now (bytes .entry)) x room places ⌝ }
+    ensures { λ r. ⌜ countedOf r ≡ countedBy (bodyRule (now (bytes .entry)) x room places) (squaringsOf (fileSteps (now (bytes .entry)) x)) ⌝ }
 {
     let total = x.total;
     if bytes.len() != x.bytes {
-        return Judgement::Refused(6, 0);
+        return Counted::Refused(6, 0);
     }
     if room < x.n {
-        return Judgement::Refused(5, 0);
+        return Counted::Refused(5, 0);
     }
     if places < x.q {
-        return Judgement::Refused(5, 0);
+        return Counted::Refused(5, 0);
     }
     let end = Cursor { at: total };
     let filling = end.take(bytes, 8 * bytes.len() - total);
     if filling.value != 0 {
-        return Judgement::Refused(8, 0);
+        return Counted::Refused(8, 0);
     }
     judge_chain(bytes, x)
 }
@@ -182,13 +192,13 @@ fn read_body(x: Extent, bytes: &[u8], steps: &mut [u32], outputs: &mut [u32]) ->
         (now (steps .exit)) (now (outputs .exit)) ⌝ }
 {
     match judge_body(bytes, x, steps.len() / 2, outputs.len()) {
-        Judgement::Refused(number, place) => Reading::Refused(number, place),
-        Judgement::Fine => {
+        Counted::Refused(number, place) => Reading::Refused(number, place),
+        Counted::Fine(squarings) => {
             take_lists(bytes, x.start, x.width, x.n, x.q, steps, outputs);
             Reading::Chain {
                 p: x.p,
                 q: x.q,
-                n: x.n,
+                counts: answers::counts_of(x.n, squarings),
             }
         }
     }

@@ -1,9 +1,10 @@
 -- Inner vocabulary: what check and then run answer and leave, as one part of the path. Nobody has to believe it to believe an entry point's promise.
 use mathlib.Core.Path.{_≡_}
-use mathlib.Core.List.{List, [], _∷_}
+use mathlib.Core.List.{List}
 use Prim.Native.Nat.{ℕ}
 use lib.ListN.{length}
 use Rattle.chain.specs.Verdict.{_then_, Answer, answer, onFine}
+use Rattle.chain.specs.Chain.{counts}
 use Rattle.chain.specs.declared.Step.{Step}
 use Rattle.verify.specs.Verify.{verifyRule, verifyScratch}
 use Rattle.run.specs.Run.{runRule, runValues, runFigures}
@@ -12,7 +13,7 @@ use Rattle.run.specs.Run.{runRule, runValues, runFigures}
 module _ (p : ℕ) (steps : List Step) (outputs amounts : List ℕ) (scratch m : ℕ) (bases : List ℕ) where
   unfoldable pub receiveAnswer : ℕ → ℕ → Answer
   receiveAnswer valuesLent figuresLent =
-      answer (verifyRule p steps outputs amounts scratch then runRule p steps outputs m bases valuesLent figuresLent) (length steps ∷ [])
+      answer (verifyRule p steps outputs amounts scratch then runRule p steps outputs m bases valuesLent figuresLent) (counts steps)
 
   unfoldable pub receiveValues : ℕ → List ℕ → List ℕ
   receiveValues figuresLent old = onFine (verifyRule p steps outputs amounts scratch) (runValues p steps outputs m bases figuresLent old) old

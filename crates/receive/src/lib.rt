@@ -22,6 +22,6 @@ pub fn receive(
 {
     match checker::verify(p, steps, outputs, amounts, scratch) {
         Verified::Refused(number, place) => Ran::Refused(number, place),
-        Verified::Passed => runner::run(p, steps, outputs, m, bases, values, figures),
+        Verified::Passed(_) => runner::run(p, steps, outputs, m, bases, values, figures),
     }
 }

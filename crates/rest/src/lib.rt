@@ -3,9 +3,11 @@ ghost use mathlib.Core.Path.{_≡_};
 ghost use Prim.Native.Nat.{_/_};
 ghost use lib.ListN.{length};
 ghost use Rattle.chain.specs.Verdict.{fine, _then_};
-ghost use Rattle.chain.specs.Chain.{pairs};
-ghost use Rattle.chain.specs.Judgement.{verdictOf};
+ghost use Rattle.chain.specs.Chain.{pairs, squaringsOf};
+ghost use Rattle.chain.specs.Judgement.{verdictOf, countedOf};
+ghost use Rattle.chain.specs.Inner.{countedBy};
 ghost use Rattle.rest.specs.Inner.{EndAsked, endRule, restRule};
+use chain::Counted;
 use chain::Judgement;
 
 // After n steps: 12, then 5 where fewer cells are lent than there are values.
@@ -25,28 +27,30 @@ pub fn judge_end(p: usize, n: usize, outputs: &[u32], cells: usize) -> Judgement
     Judgement::Fine
 }
 
-// What was found before the steps; where that is nothing, the steps and what comes after them.
+// What was found before the steps; where that is nothing, the steps, with how many of them are squarings, and what comes after them.
 pub fn judge_rest(
     found: Judgement,
     p: usize,
     steps: &[u32],
     outputs: &[u32],
     cells: usize,
-) -> Judgement
+) -> Counted
     requires { ⌜ (verdictOf found ≡ fine → EndAsked p (length (now steps) / 2)) ⌝ }
-    ensures { λ r. ⌜ verdictOf r ≡ (verdictOf found then restRule p (pairs (now (steps .entry))) (now (outputs .entry)) cells) ⌝ }
+    ensures { λ r. ⌜ countedOf r ≡ countedBy (verdictOf found then restRule p (pairs (now (steps .entry))) (now (outputs .entry)) cells)
+        (squaringsOf (pairs (now (steps .entry)))) ⌝ }
 {
     match found {
-        Judgement::Refused(number, place) => {
-            return Judgement::Refused(number, place);
+        Judgement::Refused(number, place) => Counted::Refused(number, place),
+        Judgement::Fine => {
+            match legal::judge_steps(p, steps) {
+                Counted::Refused(number, place) => Counted::Refused(number, place),
+                Counted::Fine(squarings) => {
+                    match judge_end(p, steps.len() / 2, outputs, cells) {
+                        Judgement::Refused(number, place) => Counted::Refused(number, place),
+                        Judgement::Fine => Counted::Fine(squarings),
+                    }
+                }
+            }
         }
-        Judgement::Fine => {}
     }
-    match legal::judge_steps(p, steps) {
-        Judgement::Refused(number, place) => {
-            return Judgement::Refused(number, place);
-        }
-        Judgement::Fine => {}
-    }
-    judge_end(p, steps.len() / 2, outputs, cells)
 }

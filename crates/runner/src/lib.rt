@@ -2,17 +2,19 @@
 ghost use mathlib.Core.Path.{_≡_};
 ghost use Prim.Native.Nat.{_+_};
 ghost use lib.ListN.{length, take};
-ghost use Rattle.chain.specs.Judgement.{verdictOf};
+ghost use Rattle.chain.specs.Judgement.{countedOf};
 ghost use Rattle.chain.specs.Written.{over};
-ghost use Rattle.chain.specs.Chain.{pairs, values};
+ghost use Rattle.chain.specs.Chain.{pairs, values, squaringsOf};
+ghost use Rattle.chain.specs.Inner.{countedBy};
 ghost use Rattle.residue.specs.Residue.{timesMod};
 ghost use Rattle.run.specs.Run.{residues, runRule, runAnswer, runValues, runFigures};
 ghost use Rattle.answers.specs.Answers.{ranOf};
 ghost use Rattle.runner.specs.Inner.{MultiplyAsked, FillAsked};
 use answers::Ran;
+use chain::Counted;
 use chain::Judgement;
 
-// What is found against a run, before anything is written: 1, 4, 15, 16, steps, 12, 5.
+// What is found against a run, before anything is written: 1, 4, 15, 16, steps, 12, 5; and how many of the steps are squarings.
 fn judge(
     p: usize,
     steps: &[u32],
@@ -21,12 +23,20 @@ fn judge(
     bases: &[u32],
     room: usize,
     places: usize,
-) -> Judgement
-    ensures { λ r. ⌜ verdictOf r ≡ runRule p (pairs (now (steps .entry))) (now (outputs .entry)) m (now (bases .entry)) room places ⌝ }
+) -> Counted
+    ensures { λ r. ⌜ countedOf r ≡ countedBy (runRule p (pairs (now (steps .entry))) (now (outputs .entry)) m (now (bases .entry)) room places)
+        (squaringsOf (pairs (now (steps .entry)))) ⌝ }
 {
     let begun = run::judge_start(p, outputs.len(), steps.len() / 2, m, bases);
-    let judged = rest::judge_rest(begun, p, steps, outputs, room);
-    run::judge_figures(judged, outputs.len(), places)
+    match rest::judge_rest(begun, p, steps, outputs, room) {
+        Counted::Refused(number, place) => Counted::Refused(number, place),
+        Counted::Fine(squarings) => {
+            match run::judge_figures(Judgement::Fine, outputs.len(), places) {
+                Judgement::Refused(number, place) => Counted::Refused(number, place),
+                Judgement::Fine => Counted::Fine(squarings),
+            }
+        }
+    }
 }
 
 // Each step's product, after the p + 1 values that stand in the slice. The modulus is inverted once for all of them.
@@ -55,7 +65,7 @@ fn fill(p: usize, steps: &[u32], m: u32, bases: &[u32], values: &mut [u32])
     multiply(p, steps, m, values);
 }
 
-// Runs a chain over residues: its values 0 to p + n, its outputs' values as figures, and n, the multiplications made.
+// Runs a chain over residues: its values 0 to p + n, its outputs' values as figures, and its counts, n being the multiplications made.
 pub fn run(
     p: usize,
     steps: &[u32],
@@ -73,11 +83,11 @@ pub fn run(
         (length (now (values .entry))) (now (figures .entry)) ⌝ }
 {
     match judge(p, steps, outputs, m, bases, values.len(), figures.len()) {
-        Judgement::Refused(number, place) => Ran::Refused(number, place),
-        Judgement::Fine => {
+        Counted::Refused(number, place) => Ran::Refused(number, place),
+        Counted::Fine(squarings) => {
             fill(p, steps, m, bases, values);
             chain::show(outputs, values, figures);
-            Ran::Multiplications(steps.len() / 2)
+            Ran::Multiplications(answers::counts_of(steps.len() / 2, squarings))
         }
     }
 }

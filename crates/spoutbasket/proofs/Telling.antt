@@ -1,5 +1,5 @@
 -- In a walk by hand, `answer` passed on to the function that tells what a call handed back.
---     Words, wordsVal      the type of the four words, and the machine value of a reference to them
+--     Words, wordsVal      the type of the eight words, and the machine value of a reference to them
 --     ToTell           the token of the reference's lifetime, and what the reference owns.        asks-tell    with what the value handed back owns, that is what the function asks
 --     LastWords        what is had of the reference once the words are written
 -- Assumes nothing.
@@ -20,7 +20,7 @@ use denote.Ref.{RefT, MutRef}
 use denote.Steps.{nothing}
 
 abbrev pub Words : RattleType
-Words = Array u64 4
+Words = Array u64 8
 
 abbrev pub wordsVal : RefT (List ℕ) → Val
 wordsVal y = vptr (y .ptr .0) (y .ptr .1)

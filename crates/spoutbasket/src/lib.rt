@@ -1,5 +1,5 @@
 // The C interface: one function for each entry point, on numbers and slices, and for the check and the run a second one, with the steps as structs.
-// Each returns the refusal's number, 0 for none, and writes four words: the values that the call answers, or the refusal's place, and zeros.
+// Each returns the refusal's number, 0 for none, and writes eight words: the values that the call answers, or the refusal's place, and zeros.
 ghost use mathlib.Core.Path.{_≡_};
 ghost use mathlib.Core.List.{[], _∷_};
 ghost use Prim.Native.Nat.{_/_};
@@ -28,7 +28,7 @@ pub extern "C" fn spoutbasket_ceiling(
     amounts: &[u32],
     method: usize,
     k: usize,
-    answer: &mut [u64; 4],
+    answer: &mut [u64; 8],
 ) -> u32
     ensures { λ r. ⌜ r ≡ numberOf (ceilingAnswer p q (now (amounts .entry)) method k) ⌝ }
     ensures { λ r. ⌜ now (answer .exit) ≡ wordsOf (ceilingAnswer p q (now (amounts .entry)) method k) ⌝ }
@@ -47,7 +47,7 @@ pub extern "C" fn spoutbasket_compile(
     k: usize,
     steps: &mut [u32],
     outputs: &mut [u32],
-    answer: &mut [u64; 4],
+    answer: &mut [u64; 8],
 ) -> u32
     ensures { λ r. ⌜ r ≡ numberOf (compileAnswer p q (now (amounts .entry)) method k (length (now (steps .entry)) / 2) (length (now (outputs .entry)))) ⌝ }
     ensures { λ r. ⌜ now (answer .exit) ≡ wordsOf (compileAnswer p q (now (amounts .entry)) method k (length (now (steps .entry)) / 2)
@@ -61,7 +61,7 @@ pub extern "C" fn spoutbasket_compile(
 
 // The width of a file's numbers and its bytes, from the sizes of its chain.
 #[no_mangle]
-pub extern "C" fn spoutbasket_extent(p: usize, q: usize, n: usize, answer: &mut [u64; 4]) -> u32
+pub extern "C" fn spoutbasket_extent(p: usize, q: usize, n: usize, answer: &mut [u64; 8]) -> u32
     ensures { λ r. ⌜ r ≡ numberOf (extentAnswer edition1 p q n) ⌝ }
     ensures { λ r. ⌜ now (answer .exit) ≡ wordsOf (extentAnswer edition1 p q n) ⌝ }
 {
@@ -76,7 +76,7 @@ pub extern "C" fn spoutbasket_write(
     steps: &[u32],
     outputs: &[u32],
     bytes: &mut [u8],
-    answer: &mut [u64; 4],
+    answer: &mut [u64; 8],
 ) -> u32
     ensures { λ r. ⌜ r ≡ numberOf (writeAnswer edition1 p (pairs (now (steps .entry))) (now (outputs .entry)) (length (now (bytes .entry)))) ⌝ }
     ensures { λ r. ⌜ now (answer .exit) ≡ wordsOf (writeAnswer edition1 p (pairs (now (steps .entry))) (now (outputs .entry)) (length (now (bytes .entry)))) ⌝ }
@@ -92,7 +92,7 @@ pub extern "C" fn spoutbasket_read(
     bytes: &[u8],
     steps: &mut [u32],
     outputs: &mut [u32],
-    answer: &mut [u64; 4],
+    answer: &mut [u64; 8],
 ) -> u32
     ensures { λ r. ⌜ r ≡ numberOf (readAnswer edition1 (now (bytes .entry)) (length (now (steps .entry)) / 2) (length (now (outputs .entry)))) ⌝ }
     ensures { λ r. ⌜ now (answer .exit) ≡ wordsOf (readAnswer edition1 (now (bytes .entry)) (length (now (steps .entry)) / 2)
@@ -112,7 +112,7 @@ pub extern "C" fn spoutbasket_verify(
     outputs: &[u32],
     amounts: &[u32],
     scratch: &mut [u32],
-    answer: &mut [u64; 4],
+    answer: &mut [u64; 8],
 ) -> u32
     ensures { λ r. ⌜ r ≡ numberOf (verifyAnswer p (pairs (now (steps .entry))) (now (outputs .entry)) (now (amounts .entry))
         (length (now (scratch .entry)))) ⌝ }
@@ -132,7 +132,7 @@ pub extern "C" fn spoutbasket_verify_pairs(
     outputs: &[u32],
     amounts: &[u32],
     scratch: &mut [u32],
-    answer: &mut [u64; 4],
+    answer: &mut [u64; 8],
 ) -> u32
     ensures { λ r. ⌜ r ≡ numberOf (verifyAnswer p (now (steps .entry)) (now (outputs .entry)) (now (amounts .entry)) (length (now (scratch .entry)))) ⌝ }
     ensures { λ r. ⌜ now (answer .exit) ≡ wordsOf (verifyAnswer p (now (steps .entry)) (now (outputs .entry)) (now (amounts .entry))
@@ -153,7 +153,7 @@ pub extern "C" fn spoutbasket_run(
     bases: &[u32],
     values: &mut [u32],
     figures: &mut [u32],
-    answer: &mut [u64; 4],
+    answer: &mut [u64; 8],
 ) -> u32
     ensures { λ r. ⌜ r ≡ numberOf (runAnswer p (pairs (now (steps .entry))) (now (outputs .entry)) m (now (bases .entry))
         (length (now (values .entry))) (length (now (figures .entry)))) ⌝ }
@@ -178,7 +178,7 @@ pub extern "C" fn spoutbasket_run_pairs(
     bases: &[u32],
     values: &mut [u32],
     figures: &mut [u32],
-    answer: &mut [u64; 4],
+    answer: &mut [u64; 8],
 ) -> u32
     ensures { λ r. ⌜ r ≡ numberOf (runAnswer p (now (steps .entry)) (now (outputs .entry)) m (now (bases .entry)) (length (now (values .entry)))
         (length (now (figures .entry)))) ⌝ }
@@ -204,7 +204,7 @@ pub extern "C" fn spoutbasket_pool(
     outputs2: &[u32],
     steps: &mut [u32],
     outputs: &mut [u32],
-    answer: &mut [u64; 4],
+    answer: &mut [u64; 8],
 ) -> u32
     ensures { λ r. ⌜ r ≡ numberOf (poolAnswer (part p1 (pairs (now (steps1 .entry))) (now (outputs1 .entry)))
         (part p2 (pairs (now (steps2 .entry))) (now (outputs2 .entry))) (length (now (steps .entry)) / 2) (length (now (outputs .entry)))) ⌝ }
@@ -226,7 +226,7 @@ pub extern "C" fn spoutbasket_unpack(
     q: usize,
     bytes: &[u8],
     amounts: &mut [u32],
-    answer: &mut [u64; 4],
+    answer: &mut [u64; 8],
 ) -> u32
     ensures { λ r. ⌜ r ≡ numberOf (unpackAnswer p q (now (bytes .entry)) (length (now (amounts .entry)))) ⌝ }
     ensures { λ r. ⌜ now (answer .exit) ≡ wordsOf (unpackAnswer p q (now (bytes .entry)) (length (now (amounts .entry)))) ⌝ }
@@ -243,7 +243,7 @@ pub extern "C" fn spoutbasket_pack(
     q: usize,
     amounts: &[u32],
     bytes: &mut [u8],
-    answer: &mut [u64; 4],
+    answer: &mut [u64; 8],
 ) -> u32
     ensures { λ r. ⌜ r ≡ numberOf (packAnswer p q (now (amounts .entry)) (length (now (bytes .entry)))) ⌝ }
     ensures { λ r. ⌜ now (answer .exit) ≡ wordsOf (packAnswer p q (now (amounts .entry)) (length (now (bytes .entry)))) ⌝ }
@@ -264,7 +264,7 @@ pub extern "C" fn spoutbasket_choose(
     steps: &mut [u32],
     outputs: &mut [u32],
     numbers: &mut [u32],
-    answer: &mut [u64; 4],
+    answer: &mut [u64; 8],
 ) -> u32
     ensures { λ r. ⌜ r ≡ numberOf (choiceAnswer (choice p q (now (amounts .entry)) (now (a .entry)) (now (b .entry)) (length (now (steps .entry)) / 2)
         (length (now (outputs .entry))) (length (now (numbers .entry))))) ⌝ }
@@ -281,10 +281,10 @@ pub extern "C" fn spoutbasket_choose(
 pub extern "C" fn spoutbasket_list(
     bytes: &[u8],
     text: &mut [u8; listing::MOST_TEXT],
-    answer: &mut [u64; 4],
+    answer: &mut [u64; 8],
 ) -> u32
     ensures { λ r. ⌜ r ≡ 0 ⌝ }
-    ensures { λ r. ⌜ now (answer .exit) ≡ length (listing (now (bytes .entry))) ∷ 0 ∷ 0 ∷ 0 ∷ [] ⌝ }
+    ensures { λ r. ⌜ now (answer .exit) ≡ length (listing (now (bytes .entry))) ∷ 0 ∷ 0 ∷ 0 ∷ 0 ∷ 0 ∷ 0 ∷ 0 ∷ [] ⌝ }
     ensures { λ r. ⌜ now (text .exit) ≡ over (listing (now (bytes .entry))) (now (text .entry)) ⌝ }
 {
     let length = listing::list(bytes, text);
@@ -309,7 +309,7 @@ pub extern "C" fn spoutbasket_path(
     scratch: &mut [u32],
     values: &mut [u32],
     figures: &mut [u32],
-    answer: &mut [u64; 4],
+    answer: &mut [u64; 8],
 ) -> u32
     ensures { λ r. ⌜ r ≡ numberOf (pathAnswer p q (now (amounts .entry)) method k
         (lent (now (steps .entry)) (now (outputs .entry)) (now (bytes .entry)) (now (received .entry)) (now (results .entry)) (now (scratch .entry))
@@ -352,7 +352,7 @@ ghost use Rattle.phrases.specs.Phrases.{phraseNumber, phraseWords, phraseText};
 pub extern "C" fn spoutbasket_numbers(
     text: &[u8],
     numbers: &mut [u32],
-    answer: &mut [u64; 4],
+    answer: &mut [u64; 8],
 ) -> u32
     ensures { λ r. ⌜ r ≡ numberTold (numbersOf (now (text .entry)) (length (now (numbers .entry))) .answer) ⌝ }
     ensures { λ r. ⌜ now (answer .exit) ≡ wordsTold (numbersOf (now (text .entry)) (length (now (numbers .entry))) .answer) ⌝ }
@@ -363,7 +363,7 @@ pub extern "C" fn spoutbasket_numbers(
 
 // A table of amounts, one payslip a line, read over the front of the lent ones. The words answer p and q, or where and why it was turned down.
 #[no_mangle]
-pub extern "C" fn spoutbasket_table(text: &[u8], amounts: &mut [u32], answer: &mut [u64; 4]) -> u32
+pub extern "C" fn spoutbasket_table(text: &[u8], amounts: &mut [u32], answer: &mut [u64; 8]) -> u32
     ensures { λ r. ⌜ r ≡ numberTold (tableOf (now (text .entry)) (length (now (amounts .entry))) .answer) ⌝ }
     ensures { λ r. ⌜ now (answer .exit) ≡ wordsTold (tableOf (now (text .entry)) (length (now (amounts .entry))) .answer) ⌝ }
     ensures { λ r. ⌜ now (amounts .exit) ≡ over (tableOf (now (text .entry)) (length (now (amounts .entry))) .numbers) (now (amounts .entry)) ⌝ }
@@ -373,7 +373,7 @@ pub extern "C" fn spoutbasket_table(text: &[u8], amounts: &mut [u32], answer: &m
 
 // The words for a refusal's number, over the front of a text; the answer is their length.
 #[no_mangle]
-pub extern "C" fn spoutbasket_phrase(number: u32, text: &mut [u8], answer: &mut [u64; 4]) -> u32
+pub extern "C" fn spoutbasket_phrase(number: u32, text: &mut [u8], answer: &mut [u64; 8]) -> u32
     ensures { λ r. ⌜ r ≡ phraseNumber number (length (now (text .entry))) ⌝ }
     ensures { λ r. ⌜ now (answer .exit) ≡ phraseWords number (length (now (text .entry))) ⌝ }
     ensures { λ r. ⌜ now (text .exit) ≡ phraseText number (now (text .entry)) ⌝ }

@@ -8,7 +8,8 @@ use lib.ListN.{length}
 use lib.Pow.{pow-mono}
 use Rattle.chain.specs.declared.Step.{Step}
 use Rattle.products.specs.Product.{payslips}
-use Rattle.products.specs.Inner.{stepsIn, StepsRoom, StepsStored}
+use Rattle.products.specs.Inner.{stepsIn, begun, StepsRoom, StepsStored}
+use Rattle.products.specs.declared.Progress.{Progress}
 use Rattle.tables.specs.Table.{table}
 use Rattle.tables.specs.Inner.{TableAsked}
 use Rattle.methods.specs.Inner.{ChainRoom, ChainStored, PayslipsRoom}
@@ -46,19 +47,19 @@ module _ {p q : ℕ} {amounts : List ℕ} {k : ℕ} {inputs : List ℕ} (asked :
   counted = straus-count p q amounts k (asked .chain .ranges .k-some)
 
   module _ {old outputs : List ℕ} (fits : ChainRoom q (strausCount p q amounts k) old outputs) where
-    pub table-room : StepsRoom p old 0 (Table old)
+    pub table-room : StepsRoom p old begun (Table old)
     table-room =
         rw (table-is old)
         (begin-room (strausPayslip p amounts k) (payslip-begins p amounts k) (strausTable p k) q (asked .chain .ranges .sheet .p-low) fits counted)
 
-    pub after-table : {cells : List ℕ} {n : ℕ} → StepsStored old cells n (Table old)
-        → PayslipsRoom p q cells n (payslips (strausPayslip p amounts k) (stepsIn cells n) q .steps) outputs
+    pub after-table : {cells : List ℕ} {r : Progress} → StepsStored old cells r (Table old)
+        → PayslipsRoom p q cells r (payslips (strausPayslip p amounts k) (stepsIn cells (r .steps)) q .steps) outputs
     after-table st =
         payslips-room (strausPayslip p amounts k) (payslip-begins p amounts k) (strausTable p k) q (asked .chain .ranges .sheet .p-low) fits counted
         (rw (table-is old) at st)
 
-  pub chain-made : {old cells outputs₀ cells′ outputs′ : List ℕ} {n : ℕ} → StepsStored old cells n (Table old)
-      → ChainStored cells outputs₀ cells′ outputs′ (payslips (strausPayslip p amounts k) (stepsIn cells n) q)
-      → ChainStored old outputs₀ cells′ outputs′ (straus p q amounts k)
+  pub chain-made : {old cells outputs₀ cells′ outputs′ : List ℕ} {s s′ : Progress} → StepsStored old cells s (Table old)
+      → ChainStored cells outputs₀ cells′ outputs′ s′ (payslips (strausPayslip p amounts k) (stepsIn cells (s .steps)) q)
+      → ChainStored old outputs₀ cells′ outputs′ s′ (straus p q amounts k)
   unfolding straus
   chain-made {old} st r = chain-stored (strausPayslip p amounts k) (payslip-begins p amounts k) (strausTable p k) q (rw (table-is old) at st) r

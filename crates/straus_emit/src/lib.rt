@@ -12,6 +12,7 @@ ghost use Rattle.straus.specs.Straus.{bases, strausDigits, strausPayslip, strau
 ghost use Rattle.straus.specs.Inner.{StrausAsked, PayslipAsked};
 ghost use Rattle.straus_emit.specs.Inner.{PayslipOver, ChainOver, Counted, raisedAt, maskAt, vectorAt, digitsMade, DigitsAsked};
 use products::PartialProduct;
+use products::Progress;
 
 // How many digits the largest amount of payslip i has.
 fn digit_count(p: usize, amounts: &[u32], k: usize, i: usize) -> usize
@@ -61,14 +62,14 @@ fn vector(p: usize, cells: &[u64], masks: &[u64], s: usize) -> u32
 
 // One digit more of a product: squared k times, then times value y.
 fn take_digit(p: usize, k: usize, m: PartialProduct, y: u32, steps: &mut [u32]) -> PartialProduct
-    requires { ⌜ StepsRoom p (now steps) (m .n) (times p (squared p k (productIn (now steps) m)) y .steps) ⌝ }
-    ensures { λ r. ⌜ Emitted (now (steps .entry)) (now (steps .exit)) (r .n) (r .value) (times p (squared p k (productIn (now (steps .entry)) m)) y) ⌝ }
+    requires { ⌜ StepsRoom p (now steps) (m .progress) (times p (squared p k (productIn (now steps) m)) y .steps) ⌝ }
+    ensures { λ r. ⌜ Emitted (now (steps .entry)) (now (steps .exit)) (r .progress) (r .value) (times p (squared p k (productIn (now (steps .entry)) m)) y) ⌝ }
 {
     let s = products::squared(p, k, m, steps);
     products::times(p, s, y, steps)
 }
 
-// The product of the digits in the cells after n steps, by Horner's rule, the top digit first.
+// The product of the digits in the cells, by Horner's rule, the top digit first.
 fn take_digits(
     p: usize,
     k: usize,
@@ -76,15 +77,19 @@ fn take_digits(
     cells: &[u64],
     masks: &[u64],
     digits: usize,
-    n: usize,
+    progress: Progress,
     steps: &mut [u32],
 ) -> PartialProduct
-    requires { ⌜ WithRoom (DigitsAsked p k (now inputs) (now cells) (now masks) digits)
-        (StepsRoom p (now steps) n (digitsMade p k (now inputs) (now cells) (now masks) digits (stepsIn (now steps) n) digits .steps)) ⌝ }
-    ensures { λ r. ⌜ Emitted (now (steps .entry)) (now (steps .exit)) (r .n) (r .value)
-        (digitsMade p k (now (inputs .entry)) (now (cells .entry)) (now (masks .entry)) digits (stepsIn (now (steps .entry)) n) digits) ⌝ }
+    requires { ⌜ WithRoom (DigitsAsked p k (now inputs) (now cells) (now masks) digits) (StepsRoom p (now steps) progress
+        (digitsMade p k (now inputs) (now cells) (now masks) digits (stepsIn (now steps) (progress .steps)) digits .steps)) ⌝ }
+    ensures { λ r. ⌜ Emitted (now (steps .entry)) (now (steps .exit)) (r .progress) (r .value)
+        (digitsMade p k (now (inputs .entry)) (now (cells .entry)) (now (masks .entry)) digits (stepsIn (now (steps .entry)) (progress .steps))
+        digits) ⌝ }
 {
-    let mut r = PartialProduct { n: n, value: 0 };
+    let mut r = PartialProduct {
+        progress: progress,
+        value: 0,
+    };
     let mut d: usize = 0;
     while d < digits {
         let t = vector(p, cells, masks, k * (digits - (d + 1)));
@@ -95,53 +100,54 @@ fn take_digits(
     r
 }
 
-// Payslip i after n steps: its amounts are laid out once, and then its digits taken.
+// Payslip i: its amounts are laid out once, and then its digits taken.
 fn make_payslip(
     p: usize,
     amounts: &[u32],
     k: usize,
     inputs: &[u32],
     i: usize,
-    n: usize,
+    progress: Progress,
     steps: &mut [u32],
 ) -> PartialProduct
     requires { ⌜ WithRoom (PayslipOver p (now amounts) k (now inputs) i)
-        (StepsRoom p (now steps) n (strausPayslip p (now amounts) k i (stepsIn (now steps) n) .steps)) ⌝ }
-    ensures { λ r. ⌜ Emitted (now (steps .entry)) (now (steps .exit)) (r .n) (r .value)
-        (strausPayslip p (now (amounts .entry)) k i (stepsIn (now (steps .entry)) n)) ⌝ }
+        (StepsRoom p (now steps) progress (strausPayslip p (now amounts) k i (stepsIn (now steps) (progress .steps)) .steps)) ⌝ }
+    ensures { λ r. ⌜ Emitted (now (steps .entry)) (now (steps .exit)) (r .progress) (r .value)
+        (strausPayslip p (now (amounts .entry)) k i (stepsIn (now (steps .entry)) (progress .steps))) ⌝ }
 {
     let mut cells = [0u64; chain::MOST_COLUMNS];
     raise_amounts(p, amounts, k, i, &mut cells);
     let mut masks = [0u64; chain::MOST_COLUMNS];
     fill_masks(p, k, &mut masks);
     let digits = digit_count(p, amounts, k, i);
-    take_digits(p, k, inputs, &cells, &masks, digits, n, steps)
+    take_digits(p, k, inputs, &cells, &masks, digits, progress, steps)
 }
 
-// The payslips in order after n steps: their steps, and their products as outputs.
+// The payslips in order: their steps, and their products as outputs.
 fn make_payslips(
     p: usize,
     q: usize,
     amounts: &[u32],
     k: usize,
     inputs: &[u32],
-    n: usize,
+    progress: Progress,
     steps: &mut [u32],
     outputs: &mut [u32],
-)
-    requires { ⌜ WithRoom (ChainOver p q (now amounts) k (now inputs))
-        (PayslipsRoom p q (now steps) n (payslips (strausPayslip p (now amounts) k) (stepsIn (now steps) n) q .steps) (now outputs)) ⌝ }
-    ensures { λ r. ⌜ ChainStored (now (steps .entry)) (now (outputs .entry)) (now (steps .exit)) (now (outputs .exit))
-        (payslips (strausPayslip p (now (amounts .entry)) k) (stepsIn (now (steps .entry)) n) q) ⌝ }
+) -> Progress
+    requires { ⌜ WithRoom (ChainOver p q (now amounts) k (now inputs)) (PayslipsRoom p q (now steps) progress
+        (payslips (strausPayslip p (now amounts) k) (stepsIn (now steps) (progress .steps)) q .steps) (now outputs)) ⌝ }
+    ensures { λ r. ⌜ ChainStored (now (steps .entry)) (now (outputs .entry)) (now (steps .exit)) (now (outputs .exit)) r
+        (payslips (strausPayslip p (now (amounts .entry)) k) (stepsIn (now (steps .entry)) (progress .steps)) q) ⌝ }
 {
-    let mut s = n;
+    let mut s = progress;
     let mut i: usize = 0;
     while i < q {
         let r = make_payslip(p, amounts, k, inputs, i, s, steps);
-        s = r.n;
+        s = r.progress;
         outputs[i] = r.value;
         i += 1;
     }
+    s
 }
 
 // The table of the bases, then the payslips.
@@ -153,12 +159,17 @@ fn make_chain(
     inputs: &[u32],
     steps: &mut [u32],
     outputs: &mut [u32],
-)
+) -> Progress
     requires { ⌜ WithRoom (ChainOver p q (now amounts) k (now inputs)) (ChainRoom q (strausCount p q (now amounts) k) (now steps) (now outputs)) ⌝ }
-    ensures { λ r. ⌜ ChainStored (now (steps .entry)) (now (outputs .entry)) (now (steps .exit)) (now (outputs .exit)) (straus p q (now (amounts .entry)) k) ⌝ }
+    ensures { λ r. ⌜ ChainStored (now (steps .entry)) (now (outputs .entry)) (now (steps .exit)) (now (outputs .exit)) r
+        (straus p q (now (amounts .entry)) k) ⌝ }
 {
-    let n = tables::make_table(p, k, inputs, 0, steps);
-    make_payslips(p, q, amounts, k, inputs, n, steps, outputs);
+    let none = Progress {
+        steps: 0,
+        squarings: 0,
+    };
+    let table = tables::make_table(p, k, inputs, none, steps);
+    make_payslips(p, q, amounts, k, inputs, table, steps, outputs)
 }
 
 // The values of the bases.
@@ -174,11 +185,19 @@ fn fill_bases(p: usize, cells: &mut [u32])
 }
 
 // The chain: its steps, first and second in turn, and its outputs.
-pub fn emit(p: usize, q: usize, amounts: &[u32], k: usize, steps: &mut [u32], outputs: &mut [u32])
+pub fn emit(
+    p: usize,
+    q: usize,
+    amounts: &[u32],
+    k: usize,
+    steps: &mut [u32],
+    outputs: &mut [u32],
+) -> Progress
     requires { ⌜ WithRoom (StrausAsked p q (now amounts) k) (ChainRoom q (strausCount p q (now amounts) k) (now steps) (now outputs)) ⌝ }
-    ensures { λ r. ⌜ ChainStored (now (steps .entry)) (now (outputs .entry)) (now (steps .exit)) (now (outputs .exit)) (straus p q (now (amounts .entry)) k) ⌝ }
+    ensures { λ r. ⌜ ChainStored (now (steps .entry)) (now (outputs .entry)) (now (steps .exit)) (now (outputs .exit)) r
+        (straus p q (now (amounts .entry)) k) ⌝ }
 {
     let mut inputs = [0u32; chain::MOST_COLUMNS];
     fill_bases(p, &mut inputs);
-    make_chain(p, q, amounts, k, &inputs[..p], steps, outputs);
+    make_chain(p, q, amounts, k, &inputs[..p], steps, outputs)
 }

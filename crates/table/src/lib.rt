@@ -145,7 +145,7 @@ fn read_table(text: &[u8], amounts: &mut [u32]) -> Read
 }
 
 // Reads a table over the front of the lent amounts, and answers its columns and its payslips.
-pub fn table(text: &[u8], amounts: &mut [u32], answer: &mut [u64; 4]) -> u32
+pub fn table(text: &[u8], amounts: &mut [u32], answer: &mut [u64; 8]) -> u32
     ensures { λ r. ⌜ r ≡ numberTold (tableOf (now (text .entry)) (length (now (amounts .entry))) .answer) ⌝ }
     ensures { λ r. ⌜ now (answer .exit) ≡ wordsTold (tableOf (now (text .entry)) (length (now (amounts .entry))) .answer) ⌝ }
     ensures { λ r. ⌜ now (amounts .exit) ≡ over (tableOf (now (text .entry)) (length (now (amounts .entry))) .numbers) (now (amounts .entry)) ⌝ }

@@ -14,10 +14,11 @@ use Rattle.chain.proofs.Rules.{eq-yes, eq-no}
 use Rattle.digits.specs.Digits.{digitCount}
 use Rattle.digits.proofs.Count.{count-low, low-count, count-full, count-few, weights-rise}
 use Rattle.tables.specs.Table.{isUnit, tableNext, table}
-use Rattle.products.specs.Inner.{stepsIn, StepsRoom, StepsStored}
+use Rattle.products.specs.Inner.{stepsIn, SoFar, MoreRoom, StepsRoom, StepsStored}
+use Rattle.products.specs.declared.Progress.{Progress}
 use Rattle.products.proofs.Sound.{Begins, begins-length, begins-rise}
-use Rattle.products.proofs.Emitted.{stored-own, stored-is, stored-on}
-use Rattle.tables.specs.Inner.{RowAsked, Longer}
+use Rattle.products.proofs.Emitted.{stored-own, stored-is, stored-on, stored-so-far}
+use Rattle.tables.specs.Inner.{RowAsked, OneMore, Longer}
 use Rattle.tables.proofs.Table.{next-zero, next-unit, table-count}
 use Rattle.tables.proofs.Tabling.{next-begins, next-front}
 
@@ -83,6 +84,11 @@ below-unit k d some = by-size (2 ^ (k * d)) refl (pow-pos (k * d))
     by-size zero e h = absurd (omega arith)
     by-size (suc t) e h = omega (arith, count-full k some t d (sym e), count-few k t)
 
+-- a step more stands in the slice too
+pub more-so-far : {cells cells′ : List ℕ} {s s′ : Progress} {steps : List Step} → 2 * (s .steps + 1) ≤ length cells → OneMore cells cells′ s s′ steps
+    → SoFar cells′ s′
+more-so-far h more = stored-so-far (more .stored) (omega (arith, more .next, more .stored .count))
+
 -- the table in the making, after the steps of front
 module _ (k : ℕ) (inputs : List ℕ) (at : ℕ) where
   abbrev After : List Step → ℕ → List Step
@@ -95,21 +101,21 @@ module _ (k : ℕ) (inputs : List ℕ) (at : ℕ) where
   after-begins front =
       begins-rise (After front) (λ t. rw (← next-front k inputs at t front (table k inputs at t)) (next-begins k inputs at t (After front t)))
 
-  table-on : (old cells cells′ : List ℕ) (front : List Step) (s s′ t : ℕ) → StepsStored old cells s (After front t)
-      → StepsStored cells cells′ s′ (tableNext k inputs at t (stepsIn cells s)) → StepsStored old cells′ s′ (After front (t + 1))
+  table-on : (old cells cells′ : List ℕ) (front : List Step) (s s′ : Progress) (t : ℕ) → StepsStored old cells s (After front t)
+      → StepsStored cells cells′ s′ (tableNext k inputs at t (stepsIn cells (s .steps))) → StepsStored old cells′ s′ (After front (t + 1))
   table-on old cells cells′ front s s′ t st new =
       let u = rw (stored-is st) at new in
       rw (after-next front t) (stored-on st (next-begins k inputs at t (After front t)) u)
 
-  pub longer-own : (cells : List ℕ) (s t : ℕ) → Longer k inputs at cells s t cells s t
+  pub longer-own : (cells : List ℕ) (s : Progress) (t : ℕ) → Longer k inputs at cells s t cells s t
   longer-own cells s t = record { stored = λ old front st. st }
 
-  pub longer-next : (cells : List ℕ) (s t : ℕ) (cells′ cells″ : List ℕ) (s′ t′ : ℕ) → Longer k inputs at cells s t cells′ s′ t′
-      → StepsStored cells′ cells″ (s′ + 1) (tableNext k inputs at t′ (stepsIn cells′ s′)) → Longer k inputs at cells s t cells″ (s′ + 1) (t′ + 1)
-  longer-next cells s t cells′ cells″ s′ t′ before new =
-      record { stored = λ old front st. table-on old cells′ cells″ front s′ (s′ + 1) t′ (before .stored old front st) new }
+  pub longer-next : (cells : List ℕ) (s : Progress) (t : ℕ) (cells′ cells″ : List ℕ) (s′ s″ : Progress) (t′ : ℕ) → Longer k inputs at cells s t cells′ s′ t′
+      → OneMore cells′ cells″ s′ s″ (tableNext k inputs at t′ (stepsIn cells′ (s′ .steps))) → Longer k inputs at cells s t cells″ s″ (t′ + 1)
+  longer-next cells s t cells′ cells″ s′ s″ t′ before new =
+      record { stored = λ old front st. table-on old cells′ cells″ front s′ s″ t′ (before .stored old front st) (new .stored) }
 
-  pub longer-end : (cells : List ℕ) (s t : ℕ) (cells′ : List ℕ) (s′ t′ u end v : ℕ) → t ≡ u + 1 → t′ ≤ end → end ≤ t′ → end ≡ v
+  pub longer-end : (cells : List ℕ) (s : Progress) (t : ℕ) (cells′ : List ℕ) (s′ : Progress) (t′ u end v : ℕ) → t ≡ u + 1 → t′ ≤ end → end ≤ t′ → end ≡ v
       → Longer k inputs at cells s t cells′ s′ t′ → Longer k inputs at cells s (u + 1) cells′ s′ v
   longer-end cells s t cells′ s′ t′ u end v first h g e more =
       let last : t′ ≡ v = omega arith in
@@ -125,7 +131,7 @@ module _ (k : ℕ) (inputs : List ℕ) (at : ℕ) where
         by-unit (suc t) b e =
             rw add-one (ap (λ (steps : List Step). front ++ steps) (next-unit k some inputs at t (table k inputs at (suc t)) b))
 
-    pub row-stored : (cells cells′ : List ℕ) (s s′ : ℕ) → StepsStored old cells s (After front (2 ^ (k * d)))
+    pub row-stored : (cells cells′ : List ℕ) (s s′ : Progress) → StepsStored old cells s (After front (2 ^ (k * d)))
         → Longer k inputs at cells s (2 ^ (k * d) + 1) cells′ s′ (2 ^ (k * (d + 1))) → StepsStored old cells′ s′ (After front (2 ^ (k * (d + 1))))
     row-stored cells cells′ s s′ st more = more .stored old front (rw unit-next st)
 
@@ -143,20 +149,24 @@ module _ (k : ℕ) (inputs : List ℕ) (at : ℕ) where
           weights-rise k some d (d + 1) (omega arith),
         )
 
-    pub row-room : (p n T : ℕ) (cells : List ℕ) (s : ℕ) → StepsRoom p old n (After front (2 ^ (k * T))) → d < T → length cells ≡ length old
-        → StepsStored old cells s (After front (2 ^ (k * d))) → 2 * (s + (2 ^ (k * (d + 1)) - 2 ^ (k * d) - 1)) ≤ length cells
-    row-room p n T cells s room inside same st =
+    pub row-room : (p : ℕ) (r : Progress) (T : ℕ) (cells : List ℕ) (s : Progress) → StepsRoom p old r (After front (2 ^ (k * T))) → d < T
+        → length cells ≡ length old → StepsStored old cells s (After front (2 ^ (k * d))) → MoreRoom cells s (2 ^ (k * (d + 1)) - 2 ^ (k * d) - 1)
+    row-room p r T cells s room inside same st =
         let le : d + 1 ≤ T = omega arith in
         let wide : 2 ^ (k * (d + 1)) ≤ 2 ^ (k * T) = pow-mono (mul-le-mul-left k le) in
-        omega (arith, st .count, row-steps, begins-length (after-begins front (2 ^ (k * (d + 1))) (2 ^ (k * T)) wide), room .cells-hold)
+        let longer = begins-length (after-begins front (2 ^ (k * (d + 1))) (2 ^ (k * T)) wide) in
+        record {
+          so-far = stored-so-far st (omega (arith, row-steps, longer, room .cells-hold));
+          enough = omega (arith, st .count, row-steps, longer, room .cells-hold);
+        }
 
   -- the whole table
-  pub table-start : (p : ℕ) (cells : List ℕ) (n : ℕ) (steps : List Step) → 0 < k → StepsRoom p cells n steps
-      → StepsStored cells cells n (After (stepsIn cells n) (2 ^ (k * 0)))
-  table-start p cells n steps some room =
-      rw (mul-zero, next-zero k some inputs at [], append-nil (stepsIn cells n)) (stored-own cells n (room .so-far))
+  pub table-start : (p : ℕ) (cells : List ℕ) (r : Progress) (steps : List Step) → 0 < k → StepsRoom p cells r steps
+      → StepsStored cells cells r (After (stepsIn cells (r .steps)) (2 ^ (k * 0)))
+  table-start p cells r steps some room =
+      rw (mul-zero, next-zero k some inputs at [], append-nil (stepsIn cells (r .steps))) (stored-own cells r (room .so-far))
 
-  pub table-end : (old cells : List ℕ) (front : List Step) (s d : ℕ) → d ≤ length inputs → length inputs ≤ d
+  pub table-end : (old cells : List ℕ) (front : List Step) (s : Progress) (d : ℕ) → d ≤ length inputs → length inputs ≤ d
       → StepsStored old cells s (After front (2 ^ (k * d))) → StepsStored old cells s (After front (2 ^ (k * length inputs)))
   table-end old cells front s d h g st =
       let last : length inputs ≡ d = omega arith in

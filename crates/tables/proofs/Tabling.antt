@@ -4,7 +4,7 @@ use mathlib.Core.Path.{_≡_, refl, sym, _∙_}
 use mathlib.Core.List.{List, [], _∷_, _++_, append-assoc}
 use Prim.Native.Nat.{ℕ, zero, suc, _+_, _-_, _*_, _^_, _≤_, _<_}
 use native.Mathlib.Omega.{arith}
-use lib.ListN.{length, getD}
+use lib.ListN.{length, getD, length-append}
 use lib.Pow.{pow-pos}
 use Rattle.chain.specs.Tests.{_=?_, _or_}
 use Rattle.chain.specs.declared.Step.{Step}
@@ -14,8 +14,11 @@ use Rattle.digits.proofs.Count.{low-count, count-high, count-some, count-few}
 use Rattle.digits.proofs.Words.{digit-place}
 use Rattle.products.specs.Product.{ordered}
 use Rattle.tables.specs.Table.{isUnit, entry, lowest, tableNext}
-use Rattle.products.specs.Inner.{stepsIn, StepsStored}
+use Rattle.products.specs.Inner.{stepsIn, SoFar, StepsStored}
+use Rattle.products.specs.declared.Progress.{Progress}
+use Rattle.tables.specs.Inner.{OneMore}
 use Rattle.products.proofs.Sound.{Begins, begins-own, begins-more}
+use Rattle.products.proofs.Emitted.{length-stepsIn}
 use Rattle.tables.proofs.Rest.{lowest-below, rest-high, rest-count}
 
 count-nonzero : (k t : ℕ) → 0 < t → 0 < digitCount k t
@@ -87,11 +90,15 @@ module _ (k : ℕ) (inputs : List ℕ) (at t : ℕ) where
   unfolding tableNext
   new-entry before h u = rw (or-none (t =? 0) (isUnit k t) (eq-no t 0 (omega arith)) u)
 
-  pub entry-stored : (cells cells′ : List ℕ) (n l w rest : ℕ) → 0 < t → isUnit k t ≡ false → l ≡ lowest k t → w ≡ 2 ^ (k * l)
-      → rest ≡ entry k inputs at (t - w) → StepsStored cells cells′ (n + 1) (stepsIn cells n ++ ordered rest (getD inputs l 0) ∷ [])
-      → StepsStored cells cells′ (n + 1) (tableNext k inputs at t (stepsIn cells n))
-  entry-stored cells cells′ n l w rest h u is weight r s =
-      rw (new-entry (stepsIn cells n) h u, ← is, ← weight, ← r) s
+  pub entry-stored : (cells cells′ : List ℕ) (s s′ : Progress) (l w rest : ℕ) → 0 < t → isUnit k t ≡ false → l ≡ lowest k t → w ≡ 2 ^ (k * l)
+      → rest ≡ entry k inputs at (t - w) → SoFar cells s
+      → StepsStored cells cells′ s′ (stepsIn cells (s .steps) ++ ordered rest (getD inputs l 0) ∷ [])
+      → OneMore cells cells′ s s′ (tableNext k inputs at t (stepsIn cells (s .steps)))
+  entry-stored cells cells′ s s′ l w rest h u is weight r so-far st =
+      record {
+        stored = rw (new-entry (stepsIn cells (s .steps)) h u, ← is, ← weight, ← r) st;
+        next = st .count ∙ length-append (stepsIn cells (s .steps)) _ ∙ omega (arith, length-stepsIn cells s so-far);
+      }
 
   -- whatever stands before them
   pub next-begins : (before : List Step) → Begins before (tableNext k inputs at t before)

@@ -8,7 +8,7 @@ use answers::Reading;
 use tell::tell;
 
 // What the extent answered.
-pub fn tell_measured(measured: Measured, answer: &mut [u64; 4]) -> u32
+pub fn tell_measured(measured: Measured, answer: &mut [u64; 8]) -> u32
     ensures { λ r. ⌜ ToldAs (measuredOf measured) r (now (answer .exit)) ⌝ }
 {
     match measured {
@@ -18,17 +18,25 @@ pub fn tell_measured(measured: Measured, answer: &mut [u64; 4]) -> u32
 }
 
 // What a read answered.
-pub fn tell_read(reading: Reading, answer: &mut [u64; 4]) -> u32
+pub fn tell_read(reading: Reading, answer: &mut [u64; 8]) -> u32
     ensures { λ r. ⌜ ToldAs (readOf reading) r (now (answer .exit)) ⌝ }
 {
     match reading {
         Reading::Refused(number, place) => tell(number, place, 0, 0, answer),
-        Reading::Chain { p, q, n } => tell(0, p, q, n, answer),
+        Reading::Chain { p, q, counts } => tell::tell_words(
+            0,
+            p,
+            q,
+            counts.steps,
+            counts.squarings,
+            counts.products,
+            answer,
+        ),
     }
 }
 
 // What the chooser answered.
-pub fn tell_chosen(chosen: Chosen, answer: &mut [u64; 4]) -> u32
+pub fn tell_chosen(chosen: Chosen, answer: &mut [u64; 8]) -> u32
     ensures { λ r. ⌜ ToldAs (choiceAnswer (choiceOf chosen)) r (now (answer .exit)) ⌝ }
 {
     match chosen {

@@ -10,7 +10,7 @@ use answers::Written;
 use tell::tell;
 
 // What was answered to who asked for the ceiling.
-pub fn tell_quoted(quoted: Quoted, answer: &mut [u64; 4]) -> u32
+pub fn tell_quoted(quoted: Quoted, answer: &mut [u64; 8]) -> u32
     ensures { λ r. ⌜ ToldAs (quotedOf quoted) r (now (answer .exit)) ⌝ }
 {
     match quoted {
@@ -20,17 +20,17 @@ pub fn tell_quoted(quoted: Quoted, answer: &mut [u64; 4]) -> u32
 }
 
 // What a compile answered.
-pub fn tell_compiled(compiled: Compiled, answer: &mut [u64; 4]) -> u32
+pub fn tell_compiled(compiled: Compiled, answer: &mut [u64; 8]) -> u32
     ensures { λ r. ⌜ ToldAs (compiledOf compiled) r (now (answer .exit)) ⌝ }
 {
     match compiled {
         Compiled::Refused(number, place) => tell(number, place, 0, 0, answer),
-        Compiled::Steps(n) => tell(0, n, 0, 0, answer),
+        Compiled::Chain(counts) => tell::tell_counts(counts, answer),
     }
 }
 
 // What a write answered.
-pub fn tell_written(written: Written, answer: &mut [u64; 4]) -> u32
+pub fn tell_written(written: Written, answer: &mut [u64; 8]) -> u32
     ensures { λ r. ⌜ ToldAs (writtenOf written) r (now (answer .exit)) ⌝ }
 {
     match written {
@@ -40,7 +40,7 @@ pub fn tell_written(written: Written, answer: &mut [u64; 4]) -> u32
 }
 
 // What the whole path answered.
-pub fn tell_figured(figured: Figured, answer: &mut [u64; 4]) -> u32
+pub fn tell_figured(figured: Figured, answer: &mut [u64; 8]) -> u32
     ensures { λ r. ⌜ ToldAs (figuredOf figured) r (now (answer .exit)) ⌝ }
 {
     match figured {
@@ -54,7 +54,7 @@ pub fn tell_figured(figured: Figured, answer: &mut [u64; 4]) -> u32
 }
 
 // What unpack or pack answered.
-pub fn tell_transferred(transferred: Transferred, answer: &mut [u64; 4]) -> u32
+pub fn tell_transferred(transferred: Transferred, answer: &mut [u64; 8]) -> u32
     ensures { λ r. ⌜ ToldAs (transferredOf transferred) r (now (answer .exit)) ⌝ }
 {
     match transferred {

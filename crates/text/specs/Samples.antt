@@ -61,8 +61,8 @@ pub record Samples : Type 0 where
   -- "1 2 x\n"
   pub late : numbersOf (49 ∷ 32 ∷ 50 ∷ 32 ∷ 120 ∷ 10 ∷ []) 1 ≡ outcome (Refused 5 1 3 1 2) (1 ∷ [])
   -- how they are told
-  pub toldValues : wordsTold (Values 4 0) ≡ 4 ∷ 0 ∷ 0 ∷ 0 ∷ []
-  pub toldRefused : wordsTold (Refused 5 2 3 7 8) ≡ 2 ∷ 3 ∷ 7 ∷ 8 ∷ []
+  pub toldValues : wordsTold (Values 4 0) ≡ 4 ∷ 0 ∷ 0 ∷ 0 ∷ 0 ∷ 0 ∷ 0 ∷ 0 ∷ []
+  pub toldRefused : wordsTold (Refused 5 2 3 7 8) ≡ 2 ∷ 3 ∷ 7 ∷ 8 ∷ 0 ∷ 0 ∷ 0 ∷ 0 ∷ []
   pub toldNumber : numberTold (Refused 5 2 3 7 8) ≡ 5
   -- places: in the second line, at the start, at a newline, past the end
   pub spot : spotOf letter 5 ≡ record { line = 2; column = 2 }

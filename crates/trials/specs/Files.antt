@@ -37,7 +37,7 @@ files =
     (answered (writeAnswer edition1 3 (pairs stepsJ) outputsJ 17) ++ writeBytes edition1 3 (pairs stepsJ) outputsJ (nines 17))
     gives (0 ∷ 15 ∷ fileJ ++ nines 2)
     ∷ (answered (readAnswer edition1 fileJ 10 5) ++ readSteps edition1 fileJ 5 (nines 20) ++ readOutputs edition1 fileJ 10 (nines 5))
-    gives (0 ∷ 3 ∷ 4 ∷ 9 ∷ stepsJ ++ 9 ∷ 9 ∷ outputsJ ++ 9 ∷ [])
+    gives (0 ∷ 3 ∷ 4 ∷ 9 ∷ 3 ∷ 6 ∷ stepsJ ++ 9 ∷ 9 ∷ outputsJ ++ 9 ∷ [])
     -- and listed: 3 4 9, then 1 3 0 2, and so on (Spec 9)
     ∷ listing fileJ
     gives (digitsLine (3 ∷ 4 ∷ 9 ∷ []) ++ digitsLine (1 ∷ 3 ∷ 0 ∷ 2 ∷ []) ++ digitsLine (2 ∷ 1 ∷ 2 ∷ 0 ∷ [])
@@ -64,7 +64,7 @@ files =
     ∷ 0x08 ∷ 0x42 ∷ 0x10 ∷ 0x84 ∷ 0x21 ∷ 0x08 ∷ 0x42 ∷ 0x10 ∷ 0x84 ∷ 0x21 ∷ 0x08 ∷ 0x42 ∷ 0x10 ∷ 0x84 ∷ 0x21 ∷ 0x08 ∷ 0x42 ∷ 0x10
     ∷ 0x84 ∷ 0x21 ∷ 0x08 ∷ 0x42 ∷ 0x10 ∷ 0x84 ∷ 0x21 ∷ 0x00 ∷ [])
     -- no filling bit where the fields fill the last byte; each of case A's seven is looked at (Spec 5.3)
-    ∷ answered (readAnswer edition1 (0x10 ∷ 0x0c ∷ 0x00 ∷ 0x0f ∷ []) 0 4) gives (0 ∷ 1 ∷ 4 ∷ 0 ∷ [])
+    ∷ answered (readAnswer edition1 (0x10 ∷ 0x0c ∷ 0x00 ∷ 0x0f ∷ []) 0 4) gives (0 ∷ 1 ∷ 4 ∷ 0 ∷ 0 ∷ 0 ∷ [])
     ∷ answered (readAnswer edition1 (0x11 ∷ 0x00 ∷ 0x00 ∷ 0x34 ∷ 0x5b ∷ 0x86 ∷ 0xc0 ∷ []) 3 1) gives (8 ∷ 0 ∷ [])
     ∷ answered (readAnswer edition1 (0x11 ∷ 0x00 ∷ 0x00 ∷ 0x34 ∷ 0x5b ∷ 0x86 ∷ 0x88 ∷ []) 3 1) gives (8 ∷ 0 ∷ [])
     -- an odd last number belongs to no step (Spec 2.6)
@@ -73,7 +73,7 @@ files =
     ∷ (answered (runAnswer 3 (pairs stepsJ) outputsJ 10000 (3 ∷ 5 ∷ 7 ∷ []) 14 5)
     ++ runValues 3 (pairs stepsJ) outputsJ 10000 (3 ∷ 5 ∷ 7 ∷ []) 5 (nines 14)
     ++ runFigures 3 (pairs stepsJ) outputsJ 10000 (3 ∷ 5 ∷ 7 ∷ []) 14 (nines 5))
-    gives (0 ∷ 9 ∷ 1 ∷ 3 ∷ 5 ∷ 7 ∷ 9 ∷ 25 ∷ 49 ∷ 27 ∷ 1323 ∷ 75 ∷ 27 ∷ 675 ∷ 4725 ∷ 9 ∷ 1323 ∷ 75 ∷ 49 ∷ 4725 ∷ 9 ∷ [])
+    gives (0 ∷ 9 ∷ 3 ∷ 6 ∷ 1 ∷ 3 ∷ 5 ∷ 7 ∷ 9 ∷ 25 ∷ 49 ∷ 27 ∷ 1323 ∷ 75 ∷ 27 ∷ 675 ∷ 4725 ∷ 9 ∷ 1323 ∷ 75 ∷ 49 ∷ 4725 ∷ 9 ∷ [])
     -- products of residues that 32 bits do not hold: (m − 1)² modulo m is 1 (Spec 6)
     ∷ runValues 1 (by 1 1 ∷ []) (2 ∷ []) 4294967295 (4294967294 ∷ []) 1 (nines 3) gives (1 ∷ 4294967294 ∷ 1 ∷ [])
     -- the figures of case J (Spec 1.3, 11)

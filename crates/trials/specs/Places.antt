@@ -50,7 +50,7 @@ places =
     ∷ judged 3 [] (1 ∷ []) (1 ∷ 0 ∷ 1 ∷ []) gives (14 ∷ 1 ∷ [])
     ∷ judged 1 [] (0 ∷ 1 ∷ 1 ∷ []) (0 ∷ 1 ∷ 0 ∷ []) gives (14 ∷ 3 ∷ [])
     -- right payslips: columns and payslips in the sheet's order
-    ∷ judged 2 (by 1 1 ∷ by 3 2 ∷ []) (4 ∷ 2 ∷ 0 ∷ []) (2 ∷ 1 ∷ 0 ∷ 1 ∷ 0 ∷ 0 ∷ []) gives (0 ∷ [])
+    ∷ judged 2 (by 1 1 ∷ by 3 2 ∷ []) (4 ∷ 2 ∷ 0 ∷ []) (2 ∷ 1 ∷ 0 ∷ 1 ∷ 0 ∷ 0 ∷ []) gives (0 ∷ 2 ∷ 1 ∷ 1 ∷ [])
     -- 12: a right output before two wrong ones, by write, check, run and read (p = 2, outputs 2, 3 and 3)
     ∷ byAll 1 [] (1 ∷ 2 ∷ 3 ∷ []) (0 ∷ 0 ∷ 0 ∷ []) (3 ∷ []) gives (12 ∷ 2 ∷ 12 ∷ 2 ∷ 12 ∷ 2 ∷ [])
     ∷ answered (readAnswer edition1 (0x11 ∷ 0x08 ∷ 0x00 ∷ 0x0b ∷ 0xc0 ∷ []) 9 9) gives (12 ∷ 2 ∷ [])

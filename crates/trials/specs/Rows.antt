@@ -9,7 +9,7 @@ use native.Mathlib.Nat.{not-suc-le-zero, le-of-suc-le-suc}
 use Rattle.chain.specs.Tests.{_<?_, _≤?_, _=?_, _≠?_, _or_}
 use Rattle.chain.specs.Verdict.{Verdict, fine, refused, _then_, refuseIf, refuseAt, Answer, done, refusal, answer, onFine}
 use Rattle.chain.specs.Written.{over}
-use Rattle.chain.specs.Chain.{sizesRule, lengthRule, shapeRule, stepRule, chainRule, legalRule, exponents}
+use Rattle.chain.specs.Chain.{sizesRule, lengthRule, shapeRule, stepRule, chainRule, legalRule, exponents, one, squaringsOf, productsOf, counts}
 use Rattle.sheet.specs.Sheet.{amountsRule, sheetRule}
 use Rattle.digits.specs.Digits.{digitCount, bitLength}
 use Rattle.residue.specs.Residue.{figure}
@@ -89,7 +89,8 @@ chosen (neither n s) = 0 ∷ n ∷ s ∷ []
 
 -- all that the tables compute with: chains, the check and the run
 unfoldable pub chainDefinitions : Unit {0}
-unfolding _<?_ _≤?_ _=?_ _≠?_ _or_ _then_ refuseIf refuseAt answer onFine over sizesRule lengthRule stepRule chainRule legalRule shapeRule exponents
+unfolding _<?_ _≤?_ _=?_ _≠?_ _or_ _then_ refuseIf refuseAt answer onFine over sizesRule lengthRule stepRule chainRule legalRule shapeRule exponents one
+    squaringsOf productsOf counts
 chainDefinitions = tt
 
 unfoldable pub checkDefinitions : Unit {0}

@@ -78,38 +78,38 @@ unfoldable pub trials : List Row
 unfolding definitions
 trials =
     -- A: Straus 1 on (3,2): pairs (2,1) (3,3) (4,1), output 5
-    compiled 2 sheetA 1 1 3 gives (0 ∷ 3 ∷ 2 ∷ 1 ∷ 3 ∷ 3 ∷ 4 ∷ 1 ∷ 9 ∷ 5 ∷ 9 ∷ [])
+    compiled 2 sheetA 1 1 3 gives (0 ∷ 3 ∷ 1 ∷ 2 ∷ 2 ∷ 1 ∷ 3 ∷ 3 ∷ 4 ∷ 1 ∷ 9 ∷ 5 ∷ 9 ∷ [])
     ∷ counted 2 sheetA 1 1 3 gives (3 ∷ 3 ∷ [])
     -- its file as listed, and read back; its check; 675 modulo 1,000 for bases 3 and 5
     ∷ written 2 stepsA (5 ∷ []) 8 gives (0 ∷ 7 ∷ fileA ++ 9 ∷ [])
-    ∷ readBack fileA 4 gives (0 ∷ 2 ∷ 1 ∷ 3 ∷ 2 ∷ 1 ∷ 3 ∷ 3 ∷ 4 ∷ 1 ∷ 9 ∷ 9 ∷ 5 ∷ 9 ∷ [])
-    ∷ checked 2 sheetA (pairs stepsA) 5 gives (0 ∷ 0 ∷ 0 ∷ 0 ∷ 0 ∷ 0 ∷ 0 ∷ 9 ∷ [])
-    ∷ ran 2 stepsA 5 1000 (3 ∷ 5 ∷ []) gives (0 ∷ 3 ∷ 1 ∷ 3 ∷ 5 ∷ 15 ∷ 225 ∷ 675 ∷ 9 ∷ 9 ∷ 9 ∷ 675 ∷ 9 ∷ [])
+    ∷ readBack fileA 4 gives (0 ∷ 2 ∷ 1 ∷ 3 ∷ 1 ∷ 2 ∷ 2 ∷ 1 ∷ 3 ∷ 3 ∷ 4 ∷ 1 ∷ 9 ∷ 9 ∷ 5 ∷ 9 ∷ [])
+    ∷ checked 2 sheetA (pairs stepsA) 5 gives (0 ∷ 3 ∷ 1 ∷ 2 ∷ 0 ∷ 0 ∷ 0 ∷ 0 ∷ 0 ∷ 0 ∷ 9 ∷ [])
+    ∷ ran 2 stepsA 5 1000 (3 ∷ 5 ∷ []) gives (0 ∷ 3 ∷ 1 ∷ 2 ∷ 1 ∷ 3 ∷ 5 ∷ 15 ∷ 225 ∷ 675 ∷ 9 ∷ 9 ∷ 9 ∷ 675 ∷ 9 ∷ [])
     ∷ (figure 2 1000 (3 ∷ 5 ∷ []) sheetA 0 ∷ []) gives (675 ∷ [])
     -- and its listing, "2 1 3" and "1 3 2"
     ∷ listing fileA gives (50 ∷ 32 ∷ 49 ∷ 32 ∷ 51 ∷ 10 ∷ 49 ∷ 32 ∷ 51 ∷ 32 ∷ 50 ∷ 10 ∷ [])
     -- B: the same, Yao 1
-    ∷ compiled 2 sheetA 2 1 4 gives (0 ∷ 4 ∷ 1 ∷ 1 ∷ 2 ∷ 2 ∷ 3 ∷ 1 ∷ 5 ∷ 4 ∷ 9 ∷ 6 ∷ 9 ∷ [])
+    ∷ compiled 2 sheetA 2 1 4 gives (0 ∷ 4 ∷ 2 ∷ 2 ∷ 1 ∷ 1 ∷ 2 ∷ 2 ∷ 3 ∷ 1 ∷ 5 ∷ 4 ∷ 9 ∷ 6 ∷ 9 ∷ [])
     ∷ counted 2 sheetA 2 1 4 gives (4 ∷ 5 ∷ [])
     -- C: the same, partition 2
-    ∷ compiled 2 sheetA 3 2 5 gives (0 ∷ 5 ∷ 1 ∷ 1 ∷ 2 ∷ 2 ∷ 3 ∷ 1 ∷ 4 ∷ 2 ∷ 5 ∷ 4 ∷ 9 ∷ 7 ∷ 9 ∷ [])
+    ∷ compiled 2 sheetA 3 2 5 gives (0 ∷ 5 ∷ 2 ∷ 3 ∷ 1 ∷ 1 ∷ 2 ∷ 2 ∷ 3 ∷ 1 ∷ 4 ∷ 2 ∷ 5 ∷ 4 ∷ 9 ∷ 7 ∷ 9 ∷ [])
     ∷ counted 2 sheetA 3 2 5 gives (5 ∷ 5 ∷ [])
     -- D: 11, Brauer 2
-    ∷ compiled 1 (11 ∷ []) 1 2 5 gives (0 ∷ 5 ∷ 1 ∷ 1 ∷ 2 ∷ 1 ∷ 2 ∷ 2 ∷ 4 ∷ 4 ∷ 5 ∷ 3 ∷ 9 ∷ 6 ∷ 9 ∷ [])
+    ∷ compiled 1 (11 ∷ []) 1 2 5 gives (0 ∷ 5 ∷ 3 ∷ 2 ∷ 1 ∷ 1 ∷ 2 ∷ 1 ∷ 2 ∷ 2 ∷ 4 ∷ 4 ∷ 5 ∷ 3 ∷ 9 ∷ 6 ∷ 9 ∷ [])
     ∷ counted 1 (11 ∷ []) 1 2 5 gives (5 ∷ 5 ∷ [])
     -- E: 11, Yao 2
-    ∷ compiled 1 (11 ∷ []) 2 2 5 gives (0 ∷ 5 ∷ 1 ∷ 1 ∷ 2 ∷ 2 ∷ 3 ∷ 1 ∷ 4 ∷ 1 ∷ 5 ∷ 4 ∷ 9 ∷ 6 ∷ 9 ∷ [])
+    ∷ compiled 1 (11 ∷ []) 2 2 5 gives (0 ∷ 5 ∷ 2 ∷ 3 ∷ 1 ∷ 1 ∷ 2 ∷ 2 ∷ 3 ∷ 1 ∷ 4 ∷ 1 ∷ 5 ∷ 4 ∷ 9 ∷ 6 ∷ 9 ∷ [])
     ∷ counted 1 (11 ∷ []) 2 2 5 gives (5 ∷ 5 ∷ [])
     -- F: a payslip of zeros has output 0, and the figure of the empty product for any modulus
-    ∷ compiled 1 (0 ∷ []) 1 1 0 gives (0 ∷ 0 ∷ 9 ∷ 0 ∷ 9 ∷ [])
+    ∷ compiled 1 (0 ∷ []) 1 1 0 gives (0 ∷ 0 ∷ 0 ∷ 0 ∷ 9 ∷ 0 ∷ 9 ∷ [])
     ∷ counted 1 (0 ∷ []) 1 1 0 gives (0 ∷ 0 ∷ [])
-    ∷ ran 1 [] 0 1000 (3 ∷ []) gives (0 ∷ 0 ∷ 1 ∷ 3 ∷ 9 ∷ 9 ∷ 9 ∷ 9 ∷ 9 ∷ 9 ∷ 9 ∷ 1 ∷ 9 ∷ [])
-    ∷ ran 1 [] 0 1 (0 ∷ []) gives (0 ∷ 0 ∷ 0 ∷ 0 ∷ 9 ∷ 9 ∷ 9 ∷ 9 ∷ 9 ∷ 9 ∷ 9 ∷ 0 ∷ 9 ∷ [])
+    ∷ ran 1 [] 0 1000 (3 ∷ []) gives (0 ∷ 0 ∷ 0 ∷ 0 ∷ 1 ∷ 3 ∷ 9 ∷ 9 ∷ 9 ∷ 9 ∷ 9 ∷ 9 ∷ 9 ∷ 1 ∷ 9 ∷ [])
+    ∷ ran 1 [] 0 1 (0 ∷ []) gives (0 ∷ 0 ∷ 0 ∷ 0 ∷ 0 ∷ 0 ∷ 9 ∷ 9 ∷ 9 ∷ 9 ∷ 9 ∷ 9 ∷ 9 ∷ 0 ∷ 9 ∷ [])
     ∷ (figure 1 1000 (3 ∷ []) (0 ∷ []) 0 ∷ figure 1 1 (0 ∷ []) (0 ∷ []) 0 ∷ []) gives (1 ∷ 0 ∷ [])
     -- G: a chain whoever made it, output 9, passes for 63
-    ∷ checked 1 (63 ∷ []) stepsG 9 gives (0 ∷ replicate 10 0 ++ 9 ∷ [])
+    ∷ checked 1 (63 ∷ []) stepsG 9 gives (0 ∷ 8 ∷ 4 ∷ 4 ∷ replicate 10 0 ++ 9 ∷ [])
     -- H: squarings in a row, up to the last exponent that is allowed and one further
-    ∷ checked 1 (2 ^ 31 ∷ []) (doublings 31) 32 gives (0 ∷ replicate 33 0 ++ 9 ∷ [])
+    ∷ checked 1 (2 ^ 31 ∷ []) (doublings 31) 32 gives (0 ∷ 31 ∷ 31 ∷ 0 ∷ replicate 33 0 ++ 9 ∷ [])
     ∷ checked 1 (2 ^ 31 ∷ []) (doublings 32) 32 gives (13 ∷ 32 ∷ replicate 34 0 ++ 9 ∷ [])
     ∷ []
 

@@ -128,7 +128,7 @@ fieldRows =
     ∷ writtenBack (18 ∷ 52 ∷ 86 ∷ 120 ∷ 159 ∷ []) gives (18 ∷ 52 ∷ 86 ∷ 120 ∷ 156 ∷ [])
     ∷ writtenBack (18 ∷ 52 ∷ 86 ∷ 120 ∷ 156 ∷ []) gives (18 ∷ 52 ∷ 86 ∷ 120 ∷ 156 ∷ [])
     -- a payslip read from fields is compiled as any other
-    ∷ compiled (unpacked 2 1 fieldsA) gives (0 ∷ 3 ∷ stepsA)
+    ∷ compiled (unpacked 2 1 fieldsA) gives (0 ∷ 3 ∷ 1 ∷ 2 ∷ stepsA)
     ∷ []
 
 pub fields-hold : (d : Row) (k : ℕ) → k < length fieldRows → Holds (getD fieldRows k d)

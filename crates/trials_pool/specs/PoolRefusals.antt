@@ -50,7 +50,7 @@ poolRefusals =
     ∷ pooling (noStep 1) (payslips 65) 1 2 gives (1 ∷ 0 ∷ nines 4)
     ∷ pooling (payslips 32) (payslips 33) 1 65 gives (1 ∷ 0 ∷ nines 67)
     ∷ pooling (payslips 64) (payslips 1) 1 65 gives (1 ∷ 0 ∷ nines 67)
-    ∷ pooling (payslips 32) (payslips 32) 1 64 gives (0 ∷ 0 ∷ nines 2 ++ replicate 64 0)
+    ∷ pooling (payslips 32) (payslips 32) 1 64 gives (0 ∷ 0 ∷ 0 ∷ 0 ∷ nines 2 ++ replicate 64 0)
     -- 17: fewer columns in either part
     ∷ pooling (noStep 1) (noStep 2) 1 2 gives (17 ∷ 0 ∷ nines 4)
     ∷ pooling (noStep 2) (noStep 1) 1 2 gives (17 ∷ 0 ∷ nines 4)
@@ -58,7 +58,7 @@ poolRefusals =
     ∷ pooling (tooLong 1 1) (noStep 1) 1 2 gives (4 ∷ 0 ∷ nines 4)
     ∷ pooling (noStep 1) (tooLong 1 1) 1 2 gives (4 ∷ 0 ∷ nines 4)
     ∷ pooling (repeated 8000 1 1) (repeated 8001 1 1) 1 2 gives (4 ∷ 0 ∷ nines 4)
-    ∷ answered (poolAnswer (repeated 8000 1 1) (repeated 8000 1 1) 16000 2) gives (0 ∷ 16000 ∷ [])
+    ∷ answered (poolAnswer (repeated 8000 1 1) (repeated 8000 1 1) 16000 2) gives (0 ∷ 16000 ∷ 16000 ∷ 0 ∷ [])
     -- 9, 10, 11: in the first part, then in the second, whose step s has place n + s
     ∷ pooling (oneStep 2 1 0) chainA 4 2 gives (9 ∷ 1 ∷ nines 10)
     ∷ pooling chainA (oneStep 2 1 0) 4 2 gives (9 ∷ 4 ∷ nines 10)

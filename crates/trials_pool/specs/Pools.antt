@@ -68,32 +68,32 @@ unfoldable pub pools : List Row
 unfolding poolDefinitions
 pools =
     -- case A with itself: with a pair and an output more than is needed, then with just as many, then with an odd cell more
-    pooling chainA chainA 7 3 gives (0 ∷ 6 ∷ stepsA ++ 2 ∷ 1 ∷ 6 ∷ 6 ∷ 7 ∷ 1 ∷ 9 ∷ 9 ∷ 5 ∷ 8 ∷ 9 ∷ [])
-    ∷ pooling chainA chainA 6 2 gives (0 ∷ 6 ∷ stepsA ++ 2 ∷ 1 ∷ 6 ∷ 6 ∷ 7 ∷ 1 ∷ 5 ∷ 8 ∷ [])
+    pooling chainA chainA 7 3 gives (0 ∷ 6 ∷ 2 ∷ 4 ∷ stepsA ++ 2 ∷ 1 ∷ 6 ∷ 6 ∷ 7 ∷ 1 ∷ 9 ∷ 9 ∷ 5 ∷ 8 ∷ 9 ∷ [])
+    ∷ pooling chainA chainA 6 2 gives (0 ∷ 6 ∷ 2 ∷ 4 ∷ stepsA ++ 2 ∷ 1 ∷ 6 ∷ 6 ∷ 7 ∷ 1 ∷ 5 ∷ 8 ∷ [])
     ∷ poolSteps chainA chainA 2 (nines 13) gives (stepsA ++ 2 ∷ 1 ∷ 6 ∷ 6 ∷ 7 ∷ 1 ∷ 9 ∷ [])
     -- with case B, in both orders
-    ∷ pooling chainA chainB 7 2 gives (0 ∷ 7 ∷ stepsA ++ 1 ∷ 1 ∷ 2 ∷ 2 ∷ 6 ∷ 1 ∷ 8 ∷ 7 ∷ 5 ∷ 9 ∷ [])
-    ∷ pooling chainB chainA 7 2 gives (0 ∷ 7 ∷ 1 ∷ 1 ∷ 2 ∷ 2 ∷ 3 ∷ 1 ∷ 5 ∷ 4 ∷ 2 ∷ 1 ∷ 7 ∷ 7 ∷ 8 ∷ 1 ∷ 6 ∷ 9 ∷ [])
+    ∷ pooling chainA chainB 7 2 gives (0 ∷ 7 ∷ 3 ∷ 4 ∷ stepsA ++ 1 ∷ 1 ∷ 2 ∷ 2 ∷ 6 ∷ 1 ∷ 8 ∷ 7 ∷ 5 ∷ 9 ∷ [])
+    ∷ pooling chainB chainA 7 2 gives (0 ∷ 7 ∷ 3 ∷ 4 ∷ 1 ∷ 1 ∷ 2 ∷ 2 ∷ 3 ∷ 1 ∷ 5 ∷ 4 ∷ 2 ∷ 1 ∷ 7 ∷ 7 ∷ 8 ∷ 1 ∷ 6 ∷ 9 ∷ [])
     -- output 0 and bases, as operands and outputs, keep their numbers
-    ∷ pooling chainA square 4 5 gives (0 ∷ 4 ∷ stepsA ++ 2 ∷ 2 ∷ 5 ∷ 0 ∷ 1 ∷ 2 ∷ 6 ∷ [])
-    ∷ pooling square square 2 8 gives (0 ∷ 2 ∷ 2 ∷ 2 ∷ 2 ∷ 2 ∷ 0 ∷ 1 ∷ 2 ∷ 3 ∷ 0 ∷ 1 ∷ 2 ∷ 4 ∷ [])
-    ∷ pooling wide wide 2 4 gives (0 ∷ 2 ∷ 16 ∷ 16 ∷ 16 ∷ 16 ∷ 16 ∷ 17 ∷ 16 ∷ 18 ∷ [])
+    ∷ pooling chainA square 4 5 gives (0 ∷ 4 ∷ 2 ∷ 2 ∷ stepsA ++ 2 ∷ 2 ∷ 5 ∷ 0 ∷ 1 ∷ 2 ∷ 6 ∷ [])
+    ∷ pooling square square 2 8 gives (0 ∷ 2 ∷ 2 ∷ 0 ∷ 2 ∷ 2 ∷ 2 ∷ 2 ∷ 0 ∷ 1 ∷ 2 ∷ 3 ∷ 0 ∷ 1 ∷ 2 ∷ 4 ∷ [])
+    ∷ pooling wide wide 2 4 gives (0 ∷ 2 ∷ 2 ∷ 0 ∷ 16 ∷ 16 ∷ 16 ∷ 16 ∷ 16 ∷ 17 ∷ 16 ∷ 18 ∷ [])
     -- a part without steps: before another it raises nothing, after it nothing is raised
-    ∷ pooling stepless chainA 3 3 gives (0 ∷ 3 ∷ stepsA ++ 0 ∷ 2 ∷ 5 ∷ [])
-    ∷ pooling chainA stepless 3 3 gives (0 ∷ 3 ∷ stepsA ++ 5 ∷ 0 ∷ 2 ∷ [])
-    ∷ pooling stepless stepless 0 4 gives (0 ∷ 0 ∷ 0 ∷ 2 ∷ 0 ∷ 2 ∷ [])
+    ∷ pooling stepless chainA 3 3 gives (0 ∷ 3 ∷ 1 ∷ 2 ∷ stepsA ++ 0 ∷ 2 ∷ 5 ∷ [])
+    ∷ pooling chainA stepless 3 3 gives (0 ∷ 3 ∷ 1 ∷ 2 ∷ stepsA ++ 5 ∷ 0 ∷ 2 ∷ [])
+    ∷ pooling stepless stepless 0 4 gives (0 ∷ 0 ∷ 0 ∷ 0 ∷ 0 ∷ 2 ∷ 0 ∷ 2 ∷ [])
     -- the check against both sheets; with an amount of the first and of the second changed
-    ∷ checkedPool chainA chainB (3 ∷ 2 ∷ 3 ∷ 2 ∷ []) gives (0 ∷ [])
+    ∷ checkedPool chainA chainB (3 ∷ 2 ∷ 3 ∷ 2 ∷ []) gives (0 ∷ 7 ∷ 3 ∷ 4 ∷ [])
     ∷ checkedPool chainA chainB (3 ∷ 1 ∷ 3 ∷ 2 ∷ []) gives (14 ∷ 1 ∷ [])
     ∷ checkedPool chainA chainB (3 ∷ 2 ∷ 3 ∷ 1 ∷ []) gives (14 ∷ 2 ∷ [])
-    ∷ checkedPool square chainA (0 ∷ 0 ∷ 1 ∷ 0 ∷ 0 ∷ 1 ∷ 0 ∷ 2 ∷ 3 ∷ 2 ∷ []) gives (0 ∷ [])
+    ∷ checkedPool square chainA (0 ∷ 0 ∷ 1 ∷ 0 ∷ 0 ∷ 1 ∷ 0 ∷ 2 ∷ 3 ∷ 2 ∷ []) gives (0 ∷ 4 ∷ 2 ∷ 2 ∷ [])
     -- an exponent too large in the second part, and in both: 13 at its place in the pool
     ∷ answered (verifyAnswer 1 (pooledSteps (squarings 2) (squarings 32)) (0 ∷ 0 ∷ []) (0 ∷ 0 ∷ []) 40) gives (13 ∷ 34 ∷ [])
     ∷ answered (verifyAnswer 1 (pooledSteps (squarings 33) (squarings 32)) (0 ∷ 0 ∷ []) (0 ∷ 0 ∷ []) 80) gives (13 ∷ 32 ∷ [])
     -- the figures of the first, then of the second
-    ∷ figuresPool chainA chainB 3 gives (0 ∷ 7 ∷ 675 ∷ 675 ∷ 9 ∷ [])
-    ∷ figuresPool square chainA 5 gives (0 ∷ 4 ∷ 1 ∷ 3 ∷ 5 ∷ 25 ∷ 675 ∷ [])
-    ∷ figuresPool chainA square 5 gives (0 ∷ 4 ∷ 675 ∷ 1 ∷ 3 ∷ 5 ∷ 25 ∷ [])
+    ∷ figuresPool chainA chainB 3 gives (0 ∷ 7 ∷ 3 ∷ 4 ∷ 675 ∷ 675 ∷ 9 ∷ [])
+    ∷ figuresPool square chainA 5 gives (0 ∷ 4 ∷ 2 ∷ 2 ∷ 1 ∷ 3 ∷ 5 ∷ 25 ∷ 675 ∷ [])
+    ∷ figuresPool chainA square 5 gives (0 ∷ 4 ∷ 2 ∷ 2 ∷ 675 ∷ 1 ∷ 3 ∷ 5 ∷ 25 ∷ [])
     ∷ []
 
 pub pools-hold : (d : Row) (k : ℕ) → k < length pools → Holds (getD pools k d)

@@ -1,7 +1,7 @@
 -- Inner vocabulary: what the functions of this crate ask and leave. Nobody has to believe it to believe an entry point's promise.
 use mathlib.Core.Path.{_≡_}
 use mathlib.Core.Bool.{cond}
-use mathlib.Core.List.{List, []}
+use mathlib.Core.List.{List}
 use Prim.Native.Nat.{ℕ, zero, suc, _+_, _*_, _<_}
 use lib.ListN.{length, getD, take, drop, set, replicate}
 use Rattle.chain.specs.Tests.{_=?_}
@@ -55,7 +55,7 @@ pub record ColumnsHeld (found wanted : Verdict) (top : ℕ) (old new : List ℕ)
   pub verdict : found ≡ wanted
   pub past : drop top new ≡ drop top old
 
--- the check's end: the cells below `top` cleared, and the answer to what was found
-pub record Finished (found : Verdict) (top : ℕ) (old new : List ℕ) (r : Answer) : Type 0 where
-  pub answered : r ≡ answer found []
+-- the check's end: the cells below `top` cleared, and the answer to what was found, with what is told of a chain that passed
+pub record Finished (found : Verdict) (passed : List ℕ) (top : ℕ) (old new : List ℕ) (r : Answer) : Type 0 where
+  pub answered : r ≡ answer found passed
   pub cleared : new ≡ over (replicate top 0) old

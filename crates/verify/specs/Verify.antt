@@ -6,7 +6,7 @@ use lib.ListN.{length, getD, drop, replicate}
 use Rattle.chain.specs.Tests.{_<?_, _=?_}
 use Rattle.chain.specs.Verdict.{Verdict, _then_, refuseIf, refuseAt, Answer, answer, onFine}
 use Rattle.chain.specs.Written.{over}
-use Rattle.chain.specs.Chain.{mostSteps, mostAmount, shapeRule, chainRule, exponents}
+use Rattle.chain.specs.Chain.{mostSteps, mostAmount, shapeRule, chainRule, exponents, counts}
 use Rattle.chain.specs.declared.Step.{Step}
 use Rattle.sheet.specs.Sheet.{amount, amountsRule}
 
@@ -66,9 +66,9 @@ verifyRule p steps outputs amounts scratch =
     then exponentsRule p steps
     then payslipsRule p amounts steps outputs
 
--- Spec 10.6: that the chain passed
+-- Spec 10.6, Req 05: n, the squarings and the other products of a chain that passed
 unfoldable pub verifyAnswer : ℕ → List Step → List ℕ → List ℕ → ℕ → Answer
-verifyAnswer p steps outputs amounts scratch = answer (verifyRule p steps outputs amounts scratch) []
+verifyAnswer p steps outputs amounts scratch = answer (verifyRule p steps outputs amounts scratch) (counts steps)
 
 -- Spec 10.5: the scratch is cleared on 13, 14 and passing, else as it was
 unfoldable pub verifyScratch : ℕ → List Step → List ℕ → List ℕ → List ℕ → List ℕ

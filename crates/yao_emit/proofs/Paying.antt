@@ -10,6 +10,7 @@ use Rattle.digits.proofs.Range.{sum-on}
 use Rattle.sheet.specs.Sheet.{amount}
 use Rattle.products.specs.Product.{Made, made, times}
 use Rattle.products.specs.Inner.{stepsIn, StepsRoom, Emitted}
+use Rattle.products.specs.declared.Progress.{Progress}
 use Rattle.products.proofs.Sound.{Begins, begins-own, begins-on, begins-rise}
 use Rattle.products.proofs.Product.{times-begins}
 use Rattle.products.proofs.Emitted.{stored-own, stored-room, emits-room, emits-on}
@@ -26,30 +27,30 @@ join-begins col m =
     begins-on (sweep-begin col (m .steps) 0 (2 ^ col .k - 1) (omega arith)) (times-begins (col .p) (made (r .steps) (m .value)) (r .a))
 
 -- a column's products, then the payslip's product times a
-module _ (col : Column) (cells : List ℕ) (n v : ℕ) (room : StepsRoom (col .p) cells n (joined col (made (stepsIn cells n) v) .steps)) where
+module _ (col : Column) (cells : List ℕ) (n : Progress) (v : ℕ) (room : StepsRoom (col .p) cells n (joined col (made (stepsIn cells (n .steps)) v) .steps)) where
   abbrev swept : Sweep
-  swept = sweepIn col (stepsIn cells n) (2 ^ col .k - 1)
+  swept = sweepIn col (stepsIn cells (n .steps)) (2 ^ col .k - 1)
 
   into : Begins (swept .steps) (times (col .p) (made (swept .steps) v) (swept .a) .steps)
   into = times-begins (col .p) (made (swept .steps) v) (swept .a)
 
-  pub sweep-room : StepsRoom (col .p) cells n (sweepIn col (stepsIn cells n) (2 ^ col .k - 1) .steps)
-  sweep-room = stored-room room (stored-own cells n (room .so-far)) (sweep-begin col (stepsIn cells n) 0 (2 ^ col .k - 1) (omega arith)) into
+  pub sweep-room : StepsRoom (col .p) cells n (sweepIn col (stepsIn cells (n .steps)) (2 ^ col .k - 1) .steps)
+  sweep-room = stored-room room (stored-own cells n (room .so-far)) (sweep-begin col (stepsIn cells (n .steps)) 0 (2 ^ col .k - 1) (omega arith)) into
 
-  module _ (cells′ : List ℕ) (n′ a b : ℕ) (e : SweepEmitted cells cells′ n′ a b (sweepIn col (stepsIn cells n) (2 ^ col .k - 1))) where
+  module _ (cells′ : List ℕ) (n′ : Progress) (a b : ℕ) (e : SweepEmitted cells cells′ n′ a b (sweepIn col (stepsIn cells (n .steps)) (2 ^ col .k - 1))) where
     entered : Emitted cells cells′ n′ v (made (swept .steps) v)
     entered = record { stored = e .stored; value = refl }
 
     by-value : times (col .p) (made (swept .steps) v) a ≡ times (col .p) (made (swept .steps) v) (swept .a)
     by-value = ap (times (col .p) (made (swept .steps) v)) (e .a-is)
 
-    pub join-room : StepsRoom (col .p) cells′ n′ (times (col .p) (made (stepsIn cells′ n′) v) a .steps)
+    pub join-room : StepsRoom (col .p) cells′ n′ (times (col .p) (made (stepsIn cells′ (n′ .steps)) v) a .steps)
     join-room =
         emits-room room (λ m. times (col .p) m a) entered (times-begins (col .p) _ a)
         (rw by-value (begins-own (times (col .p) (made (swept .steps) v) (swept .a) .steps)))
 
-    pub join-on : (cells″ : List ℕ) (n″ v″ : ℕ) → Emitted cells′ cells″ n″ v″ (times (col .p) (made (stepsIn cells′ n′) v) a)
-        → Emitted cells cells″ n″ v″ (joined col (made (stepsIn cells n) v))
+    pub join-on : (cells″ : List ℕ) (n″ : Progress) (v″ : ℕ) → Emitted cells′ cells″ n″ v″ (times (col .p) (made (stepsIn cells′ (n′ .steps)) v) a)
+        → Emitted cells cells″ n″ v″ (joined col (made (stepsIn cells (n .steps)) v))
     join-on cells″ n″ v″ t =
         subst (λ (m : Made). Emitted cells cells″ n″ v″ m) by-value (emits-on (λ m. times (col .p) m a) entered (times-begins (col .p) _ a) t)
 
@@ -69,7 +70,7 @@ module _ (p q : ℕ) (amounts : List ℕ) (k i : ℕ) where
   slip-begins before = columns-begin before 0 p (omega arith)
 
   -- the next column: J its digits, x its amount, first the value before its powers
-  module _ (before : List Step) (old cells : List ℕ) (m v c first J x : ℕ) (e : Emitted old cells m v (yaoPayslip p q amounts k i before c))
+  module _ (before : List Step) (old cells : List ℕ) (m : Progress) (v c first J x : ℕ) (e : Emitted old cells m v (yaoPayslip p q amounts k i before c))
       (is-first : first ≡ p + sumTo c (yaoSquarings p q amounts k)) (is-digits : J ≡ yaoDigits p q amounts k c) (is-amount : x ≡ amount p amounts i c) where
     abbrev column : Column
     column = record { p = p; k = k; c = c; first = first; digits = J; x = x }
@@ -80,15 +81,15 @@ module _ (p q : ℕ) (amounts : List ℕ) (k i : ℕ) where
     more : Begins (yaoPayslip p q amounts k i before c .steps) (joined column (yaoPayslip p q amounts k i before c) .steps)
     more = join-begins column (yaoPayslip p q amounts k i before c)
 
-    pub column-room : (n : ℕ) → StepsRoom p old n (yaoPayslip p q amounts k i before p .steps) → c < p
-        → StepsRoom p cells m (joined column (made (stepsIn cells m) v) .steps)
+    pub column-room : (n : Progress) → StepsRoom p old n (yaoPayslip p q amounts k i before p .steps) → c < p
+        → StepsRoom p cells m (joined column (made (stepsIn cells (m .steps)) v) .steps)
     column-room n room less = emits-room room (joined column) e more (rw next-is (columns-begin before (suc c) p less))
 
-    pub column-on : (cells′ : List ℕ) (m′ v′ : ℕ) → Emitted cells cells′ m′ v′ (joined column (made (stepsIn cells m) v))
+    pub column-on : (cells′ : List ℕ) (m′ : Progress) (v′ : ℕ) → Emitted cells cells′ m′ v′ (joined column (made (stepsIn cells (m .steps)) v))
         → Emitted old cells′ m′ v′ (yaoPayslip p q amounts k i before (c + 1))
     column-on cells′ m′ v′ t = rw (add-one c, ← next-is) (emits-on (joined column) e more t)
 
-  pub columns-end : (before : List Step) (old cells : List ℕ) (m v c : ℕ) → c ≤ p → p ≤ c → Emitted old cells m v (yaoPayslip p q amounts k i before c)
+  pub columns-end : (before : List Step) (old cells : List ℕ) (m : Progress) (v c : ℕ) → c ≤ p → p ≤ c → Emitted old cells m v (yaoPayslip p q amounts k i before c)
       → Emitted old cells m v (yaoPayslip p q amounts k i before p)
   columns-end before old cells m v c h g e =
       let last : c ≡ p = omega arith in

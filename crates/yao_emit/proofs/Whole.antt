@@ -8,7 +8,8 @@ use Rattle.chain.specs.Chain.{mostColumns}
 use Rattle.chain.specs.declared.Step.{Step}
 use Rattle.digits.proofs.Listed.{length-list, getD-list}
 use Rattle.products.specs.Product.{payslips}
-use Rattle.products.specs.Inner.{stepsIn, StepsRoom, StepsStored}
+use Rattle.products.specs.Inner.{stepsIn, begun, StepsRoom, StepsStored}
+use Rattle.products.specs.declared.Progress.{Progress}
 use Rattle.methods.specs.Powers.{countsOf, squarings}
 use Rattle.methods.specs.Inner.{ChainRoom, ChainStored, PayslipsRoom}
 use Rattle.methods.proofs.Columns.{squarings-same}
@@ -46,16 +47,16 @@ module _ {p q : ℕ} {amounts : List ℕ} {k : ℕ} {columns counts : List ℕ} 
   counted = yao-count p q amounts k (asked .chain .ranges .k-some)
 
   module _ {old outputs : List ℕ} (fits : ChainRoom q (yaoCount p q amounts k) old outputs) where
-    pub squarings-room : StepsRoom p old 0 Squared
+    pub squarings-room : StepsRoom p old begun Squared
     squarings-room = rw squared-is (begin-room (yaoSlip p q amounts k) (slip-begins p q amounts k) start q (asked .chain .ranges .sheet .p-low) fits counted)
 
-    pub after-squarings : {steps : List ℕ} {n : ℕ} → StepsStored old steps n Squared
-        → PayslipsRoom p q steps n (payslips (yaoSlip p q amounts k) (stepsIn steps n) q .steps) outputs
+    pub after-squarings : {steps : List ℕ} {r : Progress} → StepsStored old steps r Squared
+        → PayslipsRoom p q steps r (payslips (yaoSlip p q amounts k) (stepsIn steps (r .steps)) q .steps) outputs
     after-squarings st =
         payslips-room (yaoSlip p q amounts k) (slip-begins p q amounts k) start q (asked .chain .ranges .sheet .p-low) fits counted (rw squared-is at st)
 
-  pub chain-made : {old steps outputs₀ steps′ outputs′ : List ℕ} {n : ℕ} → StepsStored old steps n Squared
-      → ChainStored steps outputs₀ steps′ outputs′ (payslips (yaoSlip p q amounts k) (stepsIn steps n) q)
-      → ChainStored old outputs₀ steps′ outputs′ (yao p q amounts k)
+  pub chain-made : {old steps outputs₀ steps′ outputs′ : List ℕ} {s s′ : Progress} → StepsStored old steps s Squared
+      → ChainStored steps outputs₀ steps′ outputs′ s′ (payslips (yaoSlip p q amounts k) (stepsIn steps (s .steps)) q)
+      → ChainStored old outputs₀ steps′ outputs′ s′ (yao p q amounts k)
   unfolding yao
   chain-made st r = chain-stored (yaoSlip p q amounts k) (slip-begins p q amounts k) start q (rw squared-is at st) r

@@ -5,6 +5,7 @@ use Prim.Native.Nat.{ℕ, _+_, _-_, _*_, _^_, _≤_, _<_}
 use Rattle.chain.specs.declared.Step.{Step}
 use Rattle.products.specs.Product.{Made, made, times}
 use Rattle.products.specs.Inner.{StepsStored}
+use Rattle.products.specs.declared.Progress.{Progress}
 use Rattle.digits.specs.Range.{listTo}
 use Rattle.methods.specs.Powers.{powerAt}
 use Rattle.yao.specs.Yao.{gather, Sweep, sweep, yaoPayslip}
@@ -36,7 +37,7 @@ joined col m =
     times (col .p) (made (r .steps) (m .value)) (r .a)
 
 -- a slice holds the steps of a sweep over what it held before
-pub record SweepEmitted (before cells : List ℕ) (n a b : ℕ) (r : Sweep) : Type 0 where
+pub record SweepEmitted (before cells : List ℕ) (n : Progress) (a b : ℕ) (r : Sweep) : Type 0 where
   pub stored : StepsStored before cells n (r .steps)
   pub a-is : a ≡ r .a
   pub b-is : b ≡ r .b

@@ -11,6 +11,7 @@ ghost use Rattle.yao.specs.Yao.{gatherOne, yaoPayslip, yao, yaoCount, yaoMost};
 ghost use Rattle.yao.specs.Inner.{DigitsFew, YaoAsked, YaoPayslipAsked, squaringsIn};
 ghost use Rattle.yao_emit.specs.Inner.{Reach, gatherIn, sweepIn, joined, SweepEmitted, SquaringsCounted, yaoSlip};
 use products::PartialProduct;
+use products::Progress;
 
 // A column of a payslip: the sheet's columns p and the parameter k, its place c, the value after which its powers are made, how many they are, and its
 // amount x.
@@ -23,9 +24,9 @@ pub struct Column {
     pub x: u32,
 }
 
-// The two products of a column, and the number of steps so far.
+// The two products of a column, and the steps so far.
 pub struct Pair {
-    pub n: usize,
+    pub progress: Progress,
     pub a: u32,
     pub b: u32,
 }
@@ -39,8 +40,8 @@ fn gather_one(
     power: u32,
     steps: &mut [u32],
 ) -> PartialProduct
-    requires { ⌜ StepsRoom p (now steps) (b .n) (gatherOne p digit d (productIn (now steps) b) power .steps) ⌝ }
-    ensures { λ r. ⌜ Emitted (now (steps .entry)) (now (steps .exit)) (r .n) (r .value)
+    requires { ⌜ StepsRoom p (now steps) (b .progress) (gatherOne p digit d (productIn (now steps) b) power .steps) ⌝ }
+    ensures { λ r. ⌜ Emitted (now (steps .entry)) (now (steps .exit)) (r .progress) (r .value)
         (gatherOne p digit d (productIn (now (steps .entry)) b) power) ⌝ }
 {
     if digit == d {
@@ -51,8 +52,8 @@ fn gather_one(
 
 // b times each power whose digit is d, lowest first.
 fn gather_powers(column: Column, d: u32, b: PartialProduct, steps: &mut [u32]) -> PartialProduct
-    requires { ⌜ WithRoom (Reach column) (StepsRoom (column .p) (now steps) (b .n) (gatherIn column d (column .digits) (productIn (now steps) b) .steps)) ⌝ }
-    ensures { λ r. ⌜ Emitted (now (steps .entry)) (now (steps .exit)) (r .n) (r .value)
+    requires { ⌜ WithRoom (Reach column) (StepsRoom (column .p) (now steps) (b .progress) (gatherIn column d (column .digits) (productIn (now steps) b) .steps)) ⌝ }
+    ensures { λ r. ⌜ Emitted (now (steps .entry)) (now (steps .exit)) (r .progress) (r .value)
         (gatherIn column d (column .digits) (productIn (now (steps .entry)) b)) ⌝ }
 {
     let mut r = b;
@@ -73,29 +74,43 @@ fn gather_powers(column: Column, d: u32, b: PartialProduct, steps: &mut [u32]) -
 }
 
 // The products of a column: for each digit from the largest down, b takes up its powers, then a takes up b.
-fn sweep_column(column: Column, n: usize, steps: &mut [u32]) -> Pair
-    requires { ⌜ WithRoom (Reach column) (StepsRoom (column .p) (now steps) n (sweepIn column (stepsIn (now steps) n) (2 ^ column .k - 1) .steps)) ⌝ }
-    ensures { λ r. ⌜ SweepEmitted (now (steps .entry)) (now (steps .exit)) (r .n) (r .a) (r .b)
-        (sweepIn column (stepsIn (now (steps .entry)) n) (2 ^ column .k - 1)) ⌝ }
+fn sweep_column(column: Column, progress: Progress, steps: &mut [u32]) -> Pair
+    requires { ⌜ WithRoom (Reach column)
+        (StepsRoom (column .p) (now steps) progress (sweepIn column (stepsIn (now steps) (progress .steps)) (2 ^ column .k - 1) .steps)) ⌝ }
+    ensures { λ r. ⌜ SweepEmitted (now (steps .entry)) (now (steps .exit)) (r .progress) (r .a) (r .b)
+        (sweepIn column (stepsIn (now (steps .entry)) (progress .steps)) (2 ^ column .k - 1)) ⌝ }
 {
     let top = digits::power(column.k);
-    let mut s = Pair { n: n, a: 0, b: 0 };
+    let mut s = Pair {
+        progress: progress,
+        a: 0,
+        b: 0,
+    };
     let mut i: u32 = 0;
     while i + 1 < top {
+        let before = s.progress;
         let b = gather_powers(
             column,
             top - (i + 1),
-            PartialProduct { n: s.n, value: s.b },
+            PartialProduct {
+                progress: before,
+                value: s.b,
+            },
             steps,
         );
+        let gathered = b.progress;
         let a = products::times(
             column.p,
-            PartialProduct { n: b.n, value: s.a },
+            PartialProduct {
+                progress: gathered,
+                value: s.a,
+            },
             b.value,
             steps,
         );
+        let taken = a.progress;
         s = Pair {
-            n: a.n,
+            progress: taken,
             a: a.value,
             b: b.value,
         };
@@ -118,17 +133,26 @@ fn all_squarings(p: usize, k: usize, columns: &[u32], counts: &mut [u32])
 
 // The product times the power x of a column's base.
 fn join_column(column: Column, m: PartialProduct, steps: &mut [u32]) -> PartialProduct
-    requires { ⌜ WithRoom (Reach column) (StepsRoom (column .p) (now steps) (m .n) (joined column (productIn (now steps) m) .steps)) ⌝ }
-    ensures { λ r. ⌜ Emitted (now (steps .entry)) (now (steps .exit)) (r .n) (r .value)
+    requires { ⌜ WithRoom (Reach column) (StepsRoom (column .p) (now steps) (m .progress) (joined column (productIn (now steps) m) .steps)) ⌝ }
+    ensures { λ r. ⌜ Emitted (now (steps .entry)) (now (steps .exit)) (r .progress) (r .value)
         (joined column (productIn (now (steps .entry)) m)) ⌝ }
 {
-    let n = m.n;
+    let before = m.progress;
     let v = m.value;
-    let s = sweep_column(column, n, steps);
-    products::times(column.p, PartialProduct { n: s.n, value: v }, s.a, steps)
+    let s = sweep_column(column, before, steps);
+    let swept = s.progress;
+    products::times(
+        column.p,
+        PartialProduct {
+            progress: swept,
+            value: v,
+        },
+        s.a,
+        steps,
+    )
 }
 
-// Payslip i after n steps, column by column.
+// Payslip i, column by column.
 fn make_payslip(
     p: usize,
     q: usize,
@@ -136,15 +160,18 @@ fn make_payslip(
     k: usize,
     columns: &[u32],
     i: usize,
-    n: usize,
+    progress: Progress,
     steps: &mut [u32],
 ) -> PartialProduct
     requires { ⌜ WithRoom (YaoPayslipAsked p q (now amounts) k (now columns) i)
-        (StepsRoom p (now steps) n (yaoPayslip p q (now amounts) k i (stepsIn (now steps) n) p .steps)) ⌝ }
-    ensures { λ r. ⌜ Emitted (now (steps .entry)) (now (steps .exit)) (r .n) (r .value)
-        (yaoPayslip p q (now (amounts .entry)) k i (stepsIn (now (steps .entry)) n) p) ⌝ }
+        (StepsRoom p (now steps) progress (yaoPayslip p q (now amounts) k i (stepsIn (now steps) (progress .steps)) p .steps)) ⌝ }
+    ensures { λ r. ⌜ Emitted (now (steps .entry)) (now (steps .exit)) (r .progress) (r .value)
+        (yaoPayslip p q (now (amounts .entry)) k i (stepsIn (now (steps .entry)) (progress .steps)) p) ⌝ }
 {
-    let mut r = PartialProduct { n: n, value: 0 };
+    let mut r = PartialProduct {
+        progress: progress,
+        value: 0,
+    };
     let mut first = p;
     let mut c: usize = 0;
     while c < p {
@@ -164,30 +191,31 @@ fn make_payslip(
     r
 }
 
-// The payslips in order after n steps: their steps, and their products as outputs.
+// The payslips in order: their steps, and their products as outputs.
 fn make_payslips(
     p: usize,
     q: usize,
     amounts: &[u32],
     k: usize,
     columns: &[u32],
-    n: usize,
+    progress: Progress,
     steps: &mut [u32],
     outputs: &mut [u32],
-)
-    requires { ⌜ WithRoom (YaoAsked p q (now amounts) k (now columns))
-        (PayslipsRoom p q (now steps) n (payslips (yaoSlip p q (now amounts) k) (stepsIn (now steps) n) q .steps) (now outputs)) ⌝ }
-    ensures { λ r. ⌜ ChainStored (now (steps .entry)) (now (outputs .entry)) (now (steps .exit)) (now (outputs .exit))
-        (payslips (yaoSlip p q (now (amounts .entry)) k) (stepsIn (now (steps .entry)) n) q) ⌝ }
+) -> Progress
+    requires { ⌜ WithRoom (YaoAsked p q (now amounts) k (now columns)) (PayslipsRoom p q (now steps) progress
+        (payslips (yaoSlip p q (now amounts) k) (stepsIn (now steps) (progress .steps)) q .steps) (now outputs)) ⌝ }
+    ensures { λ r. ⌜ ChainStored (now (steps .entry)) (now (outputs .entry)) (now (steps .exit)) (now (outputs .exit)) r
+        (payslips (yaoSlip p q (now (amounts .entry)) k) (stepsIn (now (steps .entry)) (progress .steps)) q) ⌝ }
 {
-    let mut s = n;
+    let mut s = progress;
     let mut i: usize = 0;
     while i < q {
         let r = make_payslip(p, q, amounts, k, columns, i, s, steps);
-        s = r.n;
+        s = r.progress;
         outputs[i] = r.value;
         i += 1;
     }
+    s
 }
 
 // The squarings of the columns' bases, then the payslips.
@@ -200,12 +228,13 @@ fn make_chain(
     counts: &[u32],
     steps: &mut [u32],
     outputs: &mut [u32],
-)
+) -> Progress
     requires { ⌜ WithRoom (SquaringsCounted p q (now amounts) k (now columns) (now counts)) (ChainRoom q (yaoCount p q (now amounts) k) (now steps) (now outputs)) ⌝ }
-    ensures { λ r. ⌜ ChainStored (now (steps .entry)) (now (outputs .entry)) (now (steps .exit)) (now (outputs .exit)) (yao p q (now (amounts .entry)) k) ⌝ }
+    ensures { λ r. ⌜ ChainStored (now (steps .entry)) (now (outputs .entry)) (now (steps .exit)) (now (outputs .exit)) r
+        (yao p q (now (amounts .entry)) k) ⌝ }
 {
-    let n = methods::square_columns(p, counts, steps);
-    make_payslips(p, q, amounts, k, columns, n, steps, outputs);
+    let squared = methods::square_columns(p, counts, steps);
+    make_payslips(p, q, amounts, k, columns, squared, steps, outputs)
 }
 
 // The chain: its steps, first and second in turn, and its outputs.
@@ -217,13 +246,14 @@ pub fn emit(
     largest: &[u32],
     steps: &mut [u32],
     outputs: &mut [u32],
-)
+) -> Progress
     requires { ⌜ WithRoom (AskedByLargest yaoMost p q (now amounts) k (now largest)) (ChainRoom q (yaoCount p q (now amounts) k) (now steps) (now outputs)) ⌝ }
-    ensures { λ r. ⌜ ChainStored (now (steps .entry)) (now (outputs .entry)) (now (steps .exit)) (now (outputs .exit)) (yao p q (now (amounts .entry)) k) ⌝ }
+    ensures { λ r. ⌜ ChainStored (now (steps .entry)) (now (outputs .entry)) (now (steps .exit)) (now (outputs .exit)) r
+        (yao p q (now (amounts .entry)) k) ⌝ }
 {
     let mut columns = [0u32; chain::MOST_COLUMNS];
     measuring::measure_digits(p, k, largest, &mut columns);
     let mut counts = [0u32; chain::MOST_COLUMNS];
     all_squarings(p, k, &columns, &mut counts);
-    make_chain(p, q, amounts, k, &columns, &counts[..p], steps, outputs);
+    make_chain(p, q, amounts, k, &columns, &counts[..p], steps, outputs)
 }

@@ -25,7 +25,7 @@ read-file : (c : tie.After-columns)
     → let r = c .before .before .before .before .before .before in
     let s = r .before .before .before .before .before .before .before .before in
     let g = c .columns .given .0 in
-    Good edition1 (now (s .args .bytes)) (r .read .last .1 .0) (r .read .last .1 .1 .0) (g .0) (g .1 .0) (g .1 .1 .0)
+    Good edition1 (now (s .args .bytes)) (r .read .last .1 .0) (r .read .last .1 .1 .0) (g .0) (g .1 .0) (g .1 .1 .0 .steps)
 read-file c =
     let r = c .before .before .before .before .before .before in
     let s = r .before .before .before .before .before .before .before .before in
@@ -57,23 +57,23 @@ returns-2 c =
     refusal-says _ _ _ _ _ _ (other-payslips _ _ _ _ _ _ _ _ _ t (c .if2 .taken))
 
 mul-verify : tie.Need-mul-verify
-mul-verify c = omega (arith, read-file (c .before .before .before) .taken .few)
+mul-verify c = omega (arith, read-file (c .before .before .before .before) .taken .few)
 
 slice-reshare-prefix-verify : tie.Need-slice-reshare-prefix-verify
-slice-reshare-prefix-verify c = read-file (c .before .before .before) .taken .steps-room
+slice-reshare-prefix-verify c = read-file (c .before .before .before .before) .taken .steps-room
 
 slice-aggregate-verify : tie.Need-slice-aggregate-verify
-slice-aggregate-verify c = sym (length-take-le _ _ (read-file (c .before .before .before .before) .taken .steps-room))
+slice-aggregate-verify c = sym (length-take-le _ _ (read-file (c .before .before .before .before .before) .taken .steps-room))
 
 slice-reshare-prefix-verify-2 : tie.Need-slice-reshare-prefix-verify-2
 slice-reshare-prefix-verify-2 c =
-    let e = c .before .if2 .left in
-    omega (arith, read-file (c .before .before .before .before) .taken .outputs-room)
+    let e = c .before .before .if2 .left in
+    omega (arith, read-file (c .before .before .before .before .before) .taken .outputs-room)
 
 slice-aggregate-verify-2 : tie.Need-slice-aggregate-verify-2
 slice-aggregate-verify-2 c =
-    let e = c .before .before .if2 .left in
-    sym (length-take-le _ _ (omega (arith, read-file (c .before .before .before .before .before) .taken .outputs-room)))
+    let e = c .before .before .before .if2 .left in
+    sym (length-take-le _ _ (omega (arith, read-file (c .before .before .before .before .before .before) .taken .outputs-room)))
 
 verify-requires : tie.Need-verify-requires
 verify-requires c κs = search needs
@@ -113,7 +113,7 @@ same-length-9 c = search needs
 returns-4 : tie.Need-returns-4
 returns-4 c =
     let v = c .before .before .before .before .before in
-    let e = v .before .before .before .before in
+    let e = v .before .before .before .before .before in
     let k = e .before .before .before in
     let s = k .before .before .before .before .before .before .before .before .before .before .before .before .before .before in
     refusal-says _ _ _ _ _ _
@@ -132,12 +132,12 @@ same-length-12 c = search needs
 returns-5 : tie.Need-returns-5
 returns-5 c =
     let v = c .before .before .before .before in
-    let e = v .before .before .before .before in
+    let e = v .before .before .before .before .before in
     let k = e .before .before .before in
     let s = k .before .before .before .before .before .before .before .before .before .before .before .before .before .before in
     record {
       verdict =
-          all-held _ _ _ _ _ _ _ _ _ (read-file k) (e .before .if1 .left) (e .if2 .left) _ (s .pre .numbers-enough) _ (answer-clause (v .verify .ensures))
+          all-held _ _ _ _ _ _ _ _ _ (read-file k) (e .before .if1 .left) (e .if2 .left) _ (s .pre .numbers-enough) _ (answer-clause (v .verify .ensures)) _
           (c .enum-told .given .1);
       count = λ f. read-file k .taken .long;
     }

@@ -5,7 +5,7 @@ use mathlib.Core.List.{[]}
 use native.Mathlib.Omega.{arith}
 use denote.Ref.{now}
 use Rattle.answers.proofs.Clauses.{answer-clause, only-slice-clause}
-use Rattle.compile.proofs.Answers.{compile-refused, was-accepted, was-counted, few-pairs, few-outputs, compiled}
+use Rattle.compile.proofs.Answers.{compile-refused, was-accepted, was-counted, few-pairs, few-outputs, squarings-within, compiled}
 use Rattle.compile.proofs.compile.Statement.{statement}
 use Rattle.compile.proofs.compile.Tie as tie
 
@@ -50,6 +50,9 @@ emit-requires c κs =
       room = record { steps-fit = omega (arith, counted, e .before .if1 .left); outputs-fit = e .if2 .left };
     }
 
+counts-of-requires : tie.Need-counts-of-requires
+counts-of-requires c κs = omega (arith, squarings-within (c .before .before .before .before .emit .ensures))
+
 returns-3 : tie.Need-returns-3
 returns-3 c =
     let n = c .before in
@@ -65,13 +68,13 @@ same-length-2 c = search needs
 
 returns-4 : tie.Need-returns-4
 returns-4 c =
-    let w = c .before .before .before .before in
+    let w = c .before .before .before .before .before in
     let e = w .before .before .before .before in
     let n = e .before .before .before in
     let j = n .before .before .before in
     let a = j .before .before .before .before .before .args in
     compiled (a .p) (a .q) (now (a .amounts)) (a .method) (a .k) _ (answer-clause (j .judge-accepted .ensures)) (now (a .steps)) (now (a .outputs)) _ (n .n .given .1)
-    (e .before .if1 .left) (e .if2 .left) _ _ (w .emit .ensures)
+    (e .before .if1 .left) (e .if2 .left) _ _ _ _ (w .emit .ensures) (c .counts-of .ensures)
 
 pub compile-spec : {M : Type 1} → statement M
 compile-spec =
@@ -85,6 +88,7 @@ compile-spec =
     returns-2
     slice-aggregate-emit
     emit-requires
+    counts-of-requires
     returns-3
     same-length
     same-length-2

@@ -8,7 +8,8 @@ use Rattle.methods.specs.Inner.{ChainRoom}
 use Rattle.quote.specs.ByMethod.{methodOf}
 use Rattle.quote.proofs.Fits.{first-asks, other-asks}
 use Rattle.compile.proofs.Fits.{Accepted, accepted}
-use Rattle.quote.proofs.ByMethod.{is-straus, is-yao, is-partition, same-count, emitted}
+use Rattle.quote.proofs.ByMethod.{is-straus, is-yao, is-partition, same-count}
+use Rattle.compile.proofs.ByMethod.{emitted}
 use Rattle.compile.proofs.emit.Statement.{statement}
 use Rattle.compile.proofs.emit.Tie as tie
 

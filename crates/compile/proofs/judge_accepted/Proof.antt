@@ -1,6 +1,7 @@
 -- Each return is a line of the rule: what was refused before the steps were counted, the length's refusal, or none; the columns were measured by then.
 use borrow.Author.Needs.{needs}
 use mathlib.Core.Path.{sym}
+use Rattle.chain.specs.Inner.{countedBy}
 use Rattle.answers.proofs.Clauses.{answer-clause, only-slice-clause}
 use Rattle.quote.proofs.Answers.{stopped}
 use Rattle.compile.proofs.Answers.{all-accepted, quote-passed, quote-refused, too-long}
@@ -29,6 +30,7 @@ same-length : tie.Need-same-length
 same-length c = search needs
 
 returns : tie.Need-returns
+unfolding countedBy
 returns c =
     let t = c .before .before .before .before .before in
     stopped _ _ _ _ (quote-refused _ _ _ _ _ _ (answer-clause (t .judge-quote .ensures)) _ _ (c .before .number .given .1))
@@ -37,6 +39,7 @@ same-length-2 : tie.Need-same-length-2
 same-length-2 c = search needs
 
 returns-2 : tie.Need-returns-2
+unfolding countedBy
 returns-2 c =
     let l = c .before .before .before in
     let n = l .before .before in

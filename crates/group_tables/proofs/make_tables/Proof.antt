@@ -14,16 +14,16 @@ use Rattle.group_tables.proofs.make_tables.Statement.{statement}
 use Rattle.group_tables.proofs.make_tables.Tie as tie
 
 abbrev Inv-loop : tie.InvT-loop
-Inv-loop s members n steps₀ end₀ g₀ steps end g =
-    (g ≤ s .groups) × (length steps ≡ length steps₀) × StepsStored steps₀ steps end (groupTables (s .p) (s .c) members (stepsIn steps₀ n) g)
+Inv-loop s members steps₀ end₀ g₀ steps end g =
+    (g ≤ s .groups) × (length steps ≡ length steps₀) × StepsStored steps₀ steps end (groupTables (s .p) (s .c) members (stepsIn steps₀ (end₀ .steps)) g)
 
 abbrev μ-loop : tie.MeasureT-loop
-μ-loop s members n steps₀ end₀ g₀ steps end g = s .groups - g
+μ-loop s members steps₀ end₀ g₀ steps end g = s .groups - g
 
 loop-holds : tie.Need-loop-holds Inv-loop μ-loop
 loop-holds c =
     let s = c .before .before in
-    (search needs, search needs, stored-own (s .args .steps .now) (s .args .n) (s .pre .room .so-far))
+    (search needs, search needs, stored-own (s .args .steps .now) (s .args .progress) (s .pre .room .so-far))
 
 mul-from : tie.Need-mul-from Inv-loop μ-loop
 mul-from c =
@@ -99,7 +99,7 @@ returns : tie.Need-returns Inv-loop μ-loop
 returns c =
     let start = c .before .before in
     let a = start .before .before .before .args in
-    tables-end (a .s) (a .members .now) (stepsIn (a .steps .now) (a .n)) (start .loop .g) (start .loop .inv .2) (search needs) (search needs)
+    tables-end (a .s) (a .members .now) (stepsIn (a .steps .now) (a .progress .steps)) (start .loop .g) (start .loop .inv .2) (search needs) (search needs)
 
 pub make-tables-spec : {M : Type 1} → statement M
 make-tables-spec =

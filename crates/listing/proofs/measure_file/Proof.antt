@@ -8,6 +8,7 @@ use Rattle.answers.proofs.Clauses.{answer-clause, first-slice-clause, second-sl
 use Rattle.chain.specs.Judgement.{verdictOf}
 use Rattle.chain.proofs.Rules.{told-refused, told-fine}
 use Rattle.layout.specs.Layout.{edition1}
+use Rattle.reading.proofs.Told.{read-counts}
 use Rattle.reading.proofs.Good.{Good, read-refused, read-good}
 use Rattle.listing.proofs.Judged.{listing-refused, too-long, unread, columns-few, steps-fine, outputs-fine, outputs-few, room, measured, listing-done}
 use Rattle.listing.proofs.measure_file.Statement.{statement}
@@ -29,7 +30,7 @@ enum-known-p c = search needs
 read-file : (c : tie.After-p)
     → let r = c .before .before .before .before .before .before in
     Good edition1 (now (r .before .before .before .before .before .before .before .before .before .args .bytes)) (r .read .last .1 .0) (r .read .last .1 .1 .0)
-    (c .p .given .0 .0) (c .p .given .0 .1 .0) (c .p .given .0 .1 .1 .0)
+    (c .p .given .0 .0) (c .p .given .0 .1 .0) (c .p .given .0 .1 .1 .0 .steps)
 read-file c =
     let r = c .before .before .before .before .before .before in
     let s = r .before .before .before .before .before .before .before .before .before in
@@ -39,23 +40,23 @@ read-file c =
     (c .p .given .1) _ _ (first-slice-clause e) (second-slice-clause e)
 
 mul-measure : tie.Need-mul-measure
-mul-measure c = omega (arith, read-file (c .before) .taken .few)
+mul-measure c = omega (arith, read-file (c .before .before) .taken .few)
 
 slice-reshare-prefix-measure : tie.Need-slice-reshare-prefix-measure
-slice-reshare-prefix-measure c = read-file (c .before) .taken .steps-room
+slice-reshare-prefix-measure c = read-file (c .before .before) .taken .steps-room
 
 slice-aggregate-measure : tie.Need-slice-aggregate-measure
-slice-aggregate-measure c = sym (length-take-le _ _ (read-file (c .before .before) .taken .steps-room))
+slice-aggregate-measure c = sym (length-take-le _ _ (read-file (c .before .before .before) .taken .steps-room))
 
 slice-reshare-prefix-measure-2 : tie.Need-slice-reshare-prefix-measure-2
-slice-reshare-prefix-measure-2 c = read-file (c .before .before) .taken .outputs-room
+slice-reshare-prefix-measure-2 c = read-file (c .before .before .before) .taken .outputs-room
 
 slice-aggregate-measure-2 : tie.Need-slice-aggregate-measure-2
-slice-aggregate-measure-2 c = sym (length-take-le _ _ (read-file (c .before .before .before) .taken .outputs-room))
+slice-aggregate-measure-2 c = sym (length-take-le _ _ (read-file (c .before .before .before .before) .taken .outputs-room))
 
 measure-requires : tie.Need-measure-requires
 measure-requires c κs =
-    let k = c .before .before .before .before .before in
+    let k = c .before .before .before .before .before .before in
     let s = k .before .before .before .before .before .before .before .before .before .before .before .before .before .before .before in
     let t = read-file k in
     record {
@@ -111,7 +112,7 @@ same-length-6 c = search needs
 returns-3 : tie.Need-returns-3
 returns-3 c =
     let m = c .before .before .before .before .before .before .before in
-    let k = m .before .before .before .before .before .before in
+    let k = m .before .before .before .before .before .before .before in
     let r = k .before .before .before .before .before .before in
     listing-refused _ _ _ _
     (measured _ _ _ _ _ _ (read-file k) (r .before .before .before .if1 .left) _ (told-refused _ _ _ _ (m .measure .ensures .told-is) (c .before .number2 .given .1)))
@@ -131,10 +132,12 @@ same-length-10 c = search needs
 returns-4 : tie.Need-returns-4
 returns-4 c =
     let m = c .before .before .before .before .before .before in
-    let k = m .before .before .before .before .before .before in
+    let k = m .before .before .before .before .before .before .before in
     let r = k .before .before .before .before .before .before in
     let passed = c .enum-told .given .1 in
-    listing-done _ _ _ _ _ _ (read-file k) (r .before .before .before .if1 .left) _ (told-fine _ _ (m .measure .ensures .told-is) passed)
+    let a = r .before .before .before .before .before .before .before .before .before .args in
+    let told = read-counts edition1 (now (a .bytes)) (now (a .steps)) (now (a .outputs)) _ (answer-clause (r .read .ensures)) _ _ _ (k .p .given .1) in
+    listing-done _ _ _ _ _ _ (read-file k) (r .before .before .before .if1 .left) _ _ told (told-fine _ _ (m .measure .ensures .told-is) passed)
     (m .measure .ensures .holds (ap verdictOf passed))
 
 pub measure-file-spec : {M : Type 1} → statement M

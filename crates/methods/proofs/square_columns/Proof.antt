@@ -11,10 +11,11 @@ use Rattle.methods.proofs.square_columns.Statement.{statement}
 use Rattle.methods.proofs.square_columns.Tie as tie
 
 abbrev Inv-loop : tie.InvT-loop
-Inv-loop p counts steps₀ n₀ c₀ steps n c = (c ≤ length counts) × (length steps ≡ length steps₀) × StepsStored steps₀ steps n (squarings p (countsOf counts) c)
+Inv-loop p counts steps₀ progress₀ c₀ steps progress c =
+    (c ≤ length counts) × (length steps ≡ length steps₀) × StepsStored steps₀ steps progress (squarings p (countsOf counts) c)
 
 abbrev μ-loop : tie.MeasureT-loop
-μ-loop p counts steps₀ n₀ c₀ steps n c = length counts - c
+μ-loop p counts steps₀ progress₀ c₀ steps progress c = length counts - c
 
 loop-holds : tie.Need-loop-holds Inv-loop μ-loop
 loop-holds c = search (needs, squaring-columns)

@@ -116,7 +116,7 @@ Advance 𝓤 H A at-mem run = tripleOf 𝓤 H A advance.signature (advance.spec 
 
 module _ {M : Type 1} (𝓤 : URA M) (H : Heap 𝓤) (A : Atoms 𝓤) (W : Given 𝓤 H A) (at-mem : Memory → SProp 𝓤) (run : Routine → Fun 𝓤)
     (κ κ₂ : Lft) (q q₂ : Share) (b o b₂ o₂ : ℕ) (γ γ₂ : GName) (t₀ : Task) (ys : List Step) (zs : List ℕ)
-    (is₀ : TaskIs t₀) (gn : Room R (length ys)) (gm : Room u32 (length zs)) (able : Able t₀ ys (length zs)) where
+    (is₀ : TaskIs t₀) (gn : Room R (length ys)) (gm : Room u32 (length zs)) (able : Able t₀ 0 ys (length zs)) where
   -- `cells`, under the name δ at the list l, and its machine value
   abbrev y : GName → List ℕ → RefT (List ℕ)
   y δ l = record { ptr = (b₂, o₂); name = δ; now = l }
@@ -313,7 +313,7 @@ module _ {M : Type 1} (𝓤 : URA M) (H : Heap 𝓤) (A : Atoms 𝓤) (W : Given
           ready : Ready (u .task) j s (length (u .cells))
           ready =
               subst (Ready (u .task) j s) (sym (long u)) (subst (λ (t : Task). Ready t j s (length zs)) (sym (ap (λ (s : Left). s .task) (u .so-far)))
-              (ready-at ys j (length zs) less bytes t₀ zs able))
+              (ready-at ys (length zs) j less bytes t₀ zs able))
 
           next : (t′ : Task) (l′ : List ℕ) → TaskIs t′ → Advanced (u .task) (u .cells) j t′ l′ → Turn
           next t′ l′ is e =
@@ -405,7 +405,7 @@ module _ {M : Type 1} (𝓤 : URA M) (H : Heap 𝓤) (A : Atoms 𝓤) (W : Given
   this-walks = walked 𝓤 H A this.ended stayed (this.clauses 𝓤 H A at-mem run) (WpFn 𝓤 H (𝓣 .C) (𝓣 .Λ) code.function)
       (λ κs. (taskVals, (slice-vals, (slice-vals, tt))))
       (λ κs. (task-tells, (shr-slice-tells (named 0) (κs .0) R, (mut-slice-tells (named 1) (κs .1 .0) u32, tt))))
-      (λ κs qs bounds a g are. needs 𝓤 (Able (a .0) (a .1 .0 .now) (length (a .1 .1 .0 .now))) _ (λ able.
+      (λ κs qs bounds a g are. needs 𝓤 (Able (a .0) 0 (a .1 .0 .now) (length (a .1 .1 .0 .now))) _ (λ able.
       walk 𝓤 H A W at-mem run (κs .0) (κs .1 .0) (qs .0) (qs .1 .0) (a .1 .0 .ptr .0) (a .1 .0 .ptr .1) (a .1 .1 .0 .ptr .0) (a .1 .1 .0 .ptr .1) (a .1 .0 .name)
       (a .1 .1 .0 .name) (a .0) (a .1 .0 .now) (a .1 .1 .0 .now) (task-is (a .0) _ (are .0)) (are .1 .0 .0 .1) (are .1 .1 .0 .0 .1) able 𝓣 known known₂))
 

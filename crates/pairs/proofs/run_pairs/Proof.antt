@@ -40,7 +40,6 @@ use denote.Triple.Table.{entered, cited}
 use denote.Triple.Walked.{says, Stays, stay-dropped, gave-slice, walkOf, goes-dropped, goes-gave-slice, Walks, walked, walk-meets}
 use denote.Exit.{yes}
 use Rattle.chain.specs.Verdict.{fine, _then_}
-use Rattle.chain.specs.Inner.{FiguresAble}
 use Rattle.chain.specs.declared.Step.{Step}
 use Rattle.chain.proofs.Step as T
 use Rattle.run.specs.Run.{runAnswer, runValues, runFigures}
@@ -50,7 +49,7 @@ use Rattle.answers.specs.Answers.{ranOf}
 use Rattle.answers.specs.declared.Ran.{Ran}
 use Rattle.answers.proofs.Ran as E
 use Rattle.answers.proofs.Ran.Laws as E′
-use Rattle.pairs.specs.Inner.{foundBy, unless, RunAble, RunStarted, RunEnded}
+use Rattle.pairs.specs.Inner.{foundBy, squaringsIn, unless, RunAble, RunStarted, RunEndAble, RunEnded}
 use Rattle.pairs.specs.declared.Task.{Task}
 use Rattle.pairs.specs.declared.Task.the-variants.{Judging}
 use Rattle.pairs.proofs.Task as K
@@ -59,7 +58,7 @@ use Rattle.pairs.proofs.Calls.{shares, cellsAt, Cells, Leaves, calls-le
 use Rattle.pairs.proofs.Facts.{three-facts, ends-saying}
 use Rattle.pairs.proofs.Machine.{taskVal, taskVals, TaskIs, task-tells, task-told, task-is, task-typed, has-task}
 use Rattle.pairs.proofs.Passes.{Pass, passes}
-use Rattle.pairs.proofs.Running.{open-able, start-able, multiply-able, figures-able, ran-answer, ran-values, ran-figures}
+use Rattle.pairs.proofs.Running.{open-able, start-able, multiply-able, end-able, ran-answer, ran-values, ran-figures}
 use Rattle.pairs.proofs.pass.Symbol as pass-def
 use Rattle.pairs.proofs.pass.Symbol.{name as #pairs·pass}
 use Rattle.pairs.proofs.pass.Met as pass-thm
@@ -191,7 +190,7 @@ module _ {M : Type 1} (𝓤 : URA M) (H : Heap 𝓤) (A : Atoms 𝓤) (W : Given
       nothing ! $ move ! (2 ∷ 0 ∷ []) $ join ! $ join ! $ frame ! $ done !
 
   abbrev Opened : Task → Type 0
-  Opened t = t ≡ unless (startRule p (length (x₁ .now)) (length (x .now)) m (x₂ .now)) (Judging p)
+  Opened t = t ≡ unless (startRule p (length (x₁ .now)) (length (x .now)) m (x₂ .now)) (Judging p 0)
 
   said-open : (t : Task) → ent 𝓤 (ensured 𝓤 H A opens.ended (opens.clauses 𝓤 H A at-mem run) (κ₂, tt) given-open tt t) (fact 𝓤 (Opened t))
   said-open t = exE 𝓤 _ (λ ws. snd∗ 𝓤 (sem 𝓤 H A (lasts opens.ended (κ₂, tt) given-open ws)) (fact 𝓤 (Opened t)))
@@ -199,7 +198,7 @@ module _ {M : Type 1} (𝓤 : URA M) (H : Heap 𝓤) (A : Atoms 𝓤) (W : Given
   -- ---- the call of `run_start` with the task t, where the values are l
   module _ (t : Task) (l : List ℕ) where
     abbrev Started : Task → List ℕ → Type 0
-    Started t′ l′ = RunStarted (foundBy t then endRule p (length (x .now)) (x₁ .now) (length l) then figuresRule (length (x₁ .now)) places) p m (x₂ .now) l l′ t′
+    Started t′ l′ = RunStarted (foundBy t then endRule p (length (x .now)) (x₁ .now) (length l) then figuresRule (length (x₁ .now)) places) p (squaringsIn t) m (x₂ .now) l l′ t′
 
     -- what comes back of what is handed over
     abbrev Back : Item 𝓤
@@ -274,7 +273,7 @@ module _ {M : Type 1} (𝓤 : URA M) (H : Heap 𝓤) (A : Atoms 𝓤) (W : Given
       tt,
     )
 
-    asks-end : TaskIs t → (foundBy t ≡ fine → FiguresAble (x₁ .now) (length l) places)
+    asks-end : TaskIs t → (foundBy t ≡ fine → RunEndAble (length (x .now)) (squaringsIn t) (x₁ .now) (length l) places)
         → ent 𝓤 (⋆ 𝓤 H A (‵ (flft κ₁ q₁) ∷ ‵ (flft κ₃ q₃) ∷ ‵ (flft κ₄ q₄) ∷ Outputs ∷ Values l ∷ Figures ∷ [])) (End 𝓤 H A at-mem run .pre to-end)
     asks-end is able =
         qed W (‵ (flft κ₁ q₁) ∷ ‵ (flft κ₃ q₃) ∷ ‵ (flft κ₄ q₄) ∷ Outputs ∷ Values l ∷ Figures ∷ []) ∵ says ! able $
@@ -283,7 +282,7 @@ module _ {M : Type 1} (𝓤 : URA M) (H : Heap 𝓤) (A : Atoms 𝓤) (W : Given
         owned ! usize (Is usize) (uint-makes 𝓤 H A W w64) (length (x .now)) _ (refl, g .0) $ fjoin ! $ has-task ! t is $ fjoin ! $ done !
 
     abbrev EndedAs : Ran → List ℕ → List ℕ → Type 0
-    EndedAs r l′ fs = RunEnded (foundBy t) (length (x .now)) (x₁ .now) l l′ (x₄ .now) fs (ranOf r)
+    EndedAs r l′ fs = RunEnded (foundBy t) (length (x .now)) (squaringsIn t) (x₁ .now) l l′ (x₄ .now) fs (ranOf r)
 
   module _ (C : Calls 𝓤 H) (Λ : Loops 𝓤 H) (fm : FmC 𝓤 H (W .laws) C) (known : Triple 𝓤 (C #pairs·pass) (Pass 𝓤 H A at-mem run))
       (known₁ : Triple 𝓤 (C #pairs·run-open) (Open 𝓤 H A at-mem run)) (known₂ : Triple 𝓤 (C #pairs·run-start) (Start 𝓤 H A at-mem run))
@@ -377,7 +376,7 @@ module _ {M : Type 1} (𝓤 : URA M) (H : Heap 𝓤) (A : Atoms 𝓤) (W : Given
         (and-then ! (load ! (from ! (fld ! refl (stop !))) (look-in ! 42 (sub ! 1 refl (whole !)))) (no-more !)))) (from ! (stop !))
         (init ! 10 refl (tt, (tt, (record { fits = g₄ .0 }, tt)))) $
         move ! (5 ∷ 1 ∷ 9 ∷ 4 ∷ 0 ∷ 8 ∷ []) $ group ! 6 $ use1 W (raw (End 𝓤 H A at-mem run .pre (to-end t₄ l₄)))
-        (asks-end t₄ l₄ is₄ (figures-able p (x .now) (x₁ .now) m (x₂ .now) (x₃ .now) places t₁ opened t₂ l₂ gone t₃ l₃ begun len₃ t₄ l₄ gone′ len₄)) $
+        (asks-end t₄ l₄ is₄ (end-able p (x .now) (x₁ .now) m (x₂ .now) (x₃ .now) places t₁ opened t₂ l₂ gone t₃ l₃ begun len₃ t₄ l₄ gone′ len₄)) $
         -- [what `run_end` asks; steps'; κ's token; bases'; κ₂'s; _23; …]
         calls-at ! fm (End 𝓤 H A at-mem run) known₃ (to-end t₄ l₄)
         (and-then ! (load ! (from ! (stop !)) (look ! 27 refl)) (and-then ! (load ! (from ! (stop !)) (look ! 35 refl)) (and-then ! (load !

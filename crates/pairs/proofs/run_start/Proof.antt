@@ -49,8 +49,11 @@ start-requires c κs =
     let fits = ended _ _ _ _ (sym (f .before .judge-end .ensures) ∙ fine-both .0) .cells-fit in
     (a .modulus, omega (arith, a .bases-are-p))
 
+squarings-requires : tie.Need-squarings-requires
+squarings-requires c κs = search needs
+
 inverse-requires : tie.Need-inverse-requires
-inverse-requires c κs = able (c .before .before .before .before .before .before .before .before) .modulus
+inverse-requires c κs = able (c .before .before .before .before .before .before .before .before .before) .modulus
 
 returns : tie.Need-returns
 returns c = search (judging, starting) depth 8
@@ -60,18 +63,18 @@ returns-2 c =
     let f = c .before .before .before in
     let n = found-none (f .before .before) in
     let told = told-after _ _ _ _ (f .before .judge-end .ensures) (f .judge-figures .ensures) in
-    start-refused _ _ _ _ _ _ _ (pass _ _ _ n (told-refused _ _ _ _ told (c .before .number2 .given .1)))
+    start-refused _ _ _ _ _ _ _ _ (pass _ _ _ n (told-refused _ _ _ _ told (c .before .number2 .given .1)))
 
 same-length : tie.Need-same-length
 same-length c = search needs
 
 returns-3 : tie.Need-returns-3
 returns-3 c =
-    let e = c .before .before .before .before .before in
+    let e = c .before .before .before .before .before .before in
     let f = e .before .before in
     let n = found-none (f .before .before) in
     let told = told-after _ _ _ _ (f .before .judge-end .ensures) (f .judge-figures .ensures) in
-    start-fine _ _ _ _ _ _ _ (pass _ _ _ n (told-fine _ _ told (e .enum-told2 .given .1))) (search needs) (search needs)
+    start-fine _ _ _ _ _ _ _ _ _ (pass _ _ _ n (told-fine _ _ told (e .enum-told2 .given .1))) (search needs) (search needs) (search needs)
 
 pub run-start-spec : {M : Type 1} → statement M
 run-start-spec =
@@ -85,6 +88,7 @@ run-start-spec =
     enum-known-number-2
     enum-told-2
     start-requires
+    squarings-requires
     inverse-requires
     returns
     returns-2

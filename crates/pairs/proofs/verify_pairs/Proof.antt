@@ -64,7 +64,7 @@ use Rattle.answers.specs.Answers.{verifiedOf}
 use Rattle.answers.specs.declared.Verified.{Verified}
 use Rattle.answers.proofs.Verified as E
 use Rattle.answers.proofs.Verified.Laws as E′
-use Rattle.pairs.specs.Inner.{foundBy, unless, left, Able, placeIn, ColumnTaken, CheckEnded}
+use Rattle.pairs.specs.Inner.{foundBy, squaringsIn, unless, left, Able, placeIn, ColumnTaken, CheckEnded}
 use Rattle.pairs.specs.declared.Task.{Task}
 use Rattle.pairs.specs.declared.Task.the-variants.{Judging, Adding}
 use Rattle.pairs.proofs.Task as K
@@ -243,7 +243,7 @@ module _ {M : Type 1} (𝓤 : URA M) (H : Heap 𝓤) (A : Atoms 𝓤) (W : Given
       nothing ! $ move ! (2 ∷ 0 ∷ []) $ join ! $ join ! $ frame ! $ done !
 
   abbrev Opened : Task → Type 0
-  Opened t = t ≡ unless (startRule p (length (x₁ .now)) (length (x .now)) (x₂ .now)) (Judging p)
+  Opened t = t ≡ unless (startRule p (length (x₁ .now)) (length (x .now)) (x₂ .now)) (Judging p 0)
 
   said-open : (t : Task) → ent 𝓤 (ensured 𝓤 H A opens.ended (opens.clauses 𝓤 H A at-mem run) (κ₂, tt) given-open tt t) (fact 𝓤 (Opened t))
   said-open t = exE 𝓤 _ (λ ws. snd∗ 𝓤 (sem 𝓤 H A (lasts opens.ended (κ₂, tt) given-open ws)) (fact 𝓤 (Opened t)))
@@ -268,7 +268,7 @@ module _ {M : Type 1} (𝓤 : URA M) (H : Heap 𝓤) (A : Atoms 𝓤) (W : Given
         owned ! usize (Is usize) (uint-makes 𝓤 H A W w64) p _ (refl, p-fits) $ fjoin ! $ has-task ! t is $ fjoin ! $ done !
 
     abbrev Started : Task → Type 0
-    Started t′ = t′ ≡ unless (foundBy t then endRule p (length (x .now)) (x₁ .now) room) (Adding p)
+    Started t′ = t′ ≡ unless (foundBy t then endRule p (length (x .now)) (x₁ .now) room) (Adding p (squaringsIn t))
 
     said-start : (t′ : Task) → ent 𝓤 (ensured 𝓤 H A starts.ended (starts.clauses 𝓤 H A at-mem run) (κ₁, tt) given-start tt t′) (fact 𝓤 (Started t′))
     said-start t′ = exE 𝓤 _ (λ ws. snd∗ 𝓤 (sem 𝓤 H A (lasts starts.ended (κ₁, tt) given-start ws)) (fact 𝓤 (Started t′)))
@@ -276,7 +276,7 @@ module _ {M : Type 1} (𝓤 : URA M) (H : Heap 𝓤) (A : Atoms 𝓤) (W : Given
   -- ---- the call of `column_start` for column c, where the scratch is l
   module _ (c : ℕ) (l : List ℕ) where
     abbrev Begun : Task → List ℕ → Type 0
-    Begun t l′ = left t l′ ≡ left (Adding p) (columnStart p c l)
+    Begun t l′ = left t l′ ≡ left (Adding p 0) (columnStart p c l)
 
     module _ (ν : ℕ) (δ : GName) where
       abbrev given-begin : Args begins.signature (ν ∷ [], tt)
@@ -375,7 +375,7 @@ module _ {M : Type 1} (𝓤 : URA M) (H : Heap 𝓤) (A : Atoms 𝓤) (W : Given
       tt,
     )
 
-    asks-end : TaskIs t → FoundIs f → (foundBy t ≡ fine → p + length (x .now) < length l)
+    asks-end : TaskIs t → FoundIs f → (foundBy t ≡ fine → (squaringsIn t ≤ length (x .now)) × (p + length (x .now) < length l))
         → ent 𝓤 (⋆ 𝓤 H A (‵ (flft κ₃ q₃) ∷ Scratch l ∷ [])) (End 𝓤 H A at-mem run .pre to-end)
     asks-end is f-is able =
         qed W (‵ (flft κ₃ q₃) ∷ Scratch l ∷ []) ∵ says ! able $ nothing ! $ move ! (1 ∷ 0 ∷ []) $ join ! $ frame ! $
@@ -383,7 +383,7 @@ module _ {M : Type 1} (𝓤 : URA M) (H : Heap 𝓤) (A : Atoms 𝓤) (W : Given
         owned ! usize (Is usize) (uint-makes 𝓤 H A W w64) p _ (refl, p-fits) $ fjoin ! $ has-found ! f f-is $ fjoin ! $ has-task ! t is $ fjoin ! $ done !
 
     abbrev EndedAs : Verified → List ℕ → Type 0
-    EndedAs r l′ = CheckEnded (foundBy t) f (p + length (x .now) + 1) l l′ (verifiedOf r)
+    EndedAs r l′ = CheckEnded (foundBy t) f (length (x .now)) (squaringsIn t) (p + length (x .now) + 1) l l′ (verifiedOf r)
 
   -- ---- the loop, where the calls before it have left t₁, t₂ and t₃, and `turns` has returned k
   module _ (t₁ : Task) (opened : Opened t₁) (t₂ : Task) (l₂ : List ℕ) (gone : Gone t₁ (x .now) (x₃ .now) t₂ l₂) (t₃ : Task) (is₃ : TaskIs t₃) (started : Started t₂ t₃)
@@ -526,7 +526,7 @@ module _ {M : Type 1} (𝓤 : URA M) (H : Heap 𝓤) (A : Atoms 𝓤) (W : Given
           fits : p < length l
           fits = column-room p (x .now) (x₁ .now) (x₂ .now) (x₃ .now) t₁ opened t₂ l₂ gone t₃ started k count c less f l len
 
-          able : (t : Task) (l′ : List ℕ) → Begun c l t l′ → length l′ ≡ room → Able t (x .now) (length l′)
+          able : (t : Task) (l′ : List ℕ) → Begun c l t l′ → length l′ ≡ room → Able t 0 (x .now) (length l′)
           able = add-able p (x .now) (x₁ .now) (x₂ .now) (x₃ .now) t₁ opened t₂ l₂ gone t₃ started k count c less f l len
 
           compared : (l′ : List ℕ) → length l′ ≡ room → Comparable p c (x₁ .now) (x₂ .now) (length l′)

@@ -13,12 +13,12 @@ use Rattle.partition_emit.proofs.make_parts.Statement.{statement}
 use Rattle.partition_emit.proofs.make_parts.Tie as tie
 
 abbrev Inv-loop : tie.InvT-loop
-Inv-loop s members numbers n steps₀ r₀ g₀ steps r g =
+Inv-loop s members numbers steps₀ r₀ g₀ steps r g =
     (g ≤ s .groups) × (length steps ≡ length steps₀)
-    × Emitted steps₀ steps (r .n) (r .value) (partsBy s members (countsOf numbers) (stepsIn steps₀ n) g)
+    × Emitted steps₀ steps (r .progress) (r .value) (partsBy s members (countsOf numbers) (stepsIn steps₀ (r₀ .progress .steps)) g)
 
 abbrev μ-loop : tie.MeasureT-loop
-μ-loop s members numbers n steps₀ r₀ g₀ steps r g = s .groups - g
+μ-loop s members numbers steps₀ r₀ g₀ steps r g = s .groups - g
 
 loop-holds : tie.Need-loop-holds Inv-loop μ-loop
 loop-holds c =
@@ -48,10 +48,10 @@ times-requires c κs =
     let s = start .before .before .before .before in
     let a = s .args in
     let steps = a .steps .now in
-    let before = stepsIn steps (a .n) in
+    let before = stepsIn steps (a .progress .steps) in
     let number = countsOf (a .numbers .now) in
     let room = part-room (a .s) (a .members .now) number before steps _ _ _ (start .loop .g) _ (start .loop .inv .2) (valued .part-value .ensures) in
-    room (a .n) (s .pre .room) (search needs)
+    room (a .progress) (s .pre .room) (search needs)
 
 add-g : tie.Need-add-g Inv-loop μ-loop
 add-g c = search needs
@@ -67,7 +67,7 @@ loop-again c =
     let s = start .before .before .before .before in
     let a = s .args in
     let steps = a .steps .now in
-    let before = stepsIn steps (a .n) in
+    let before = stepsIn steps (a .progress .steps) in
     let number = countsOf (a .numbers .now) in
     let more = part-on (a .s) (a .members .now) number before steps _ _ _ (start .loop .g) _ (start .loop .inv .2) (valued .part-value .ensures) in
     (search needs, search needs, more _ _ _ (timed .times .ensures))
@@ -81,7 +81,7 @@ returns c =
     let a = start .before .before .before .before .args in
     let steps = a .steps .now in
     let number = countsOf (a .numbers .now) in
-    parts-end (a .s) (a .members .now) number (stepsIn steps (a .n)) steps _ _ _ (start .loop .g) (start .loop .inv .2) (search needs) (search needs)
+    parts-end (a .s) (a .members .now) number (stepsIn steps (a .progress .steps)) steps _ _ _ (start .loop .g) (start .loop .inv .2) (search needs) (search needs)
 
 pub make-parts-spec : {M : Type 1} → statement M
 make-parts-spec =

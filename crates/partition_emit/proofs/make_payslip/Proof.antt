@@ -30,7 +30,7 @@ make-parts-requires c κs =
     let numbers : List ℕ = take (a .s .groups) (numbered .number-parts .last .1 .1 .1 .1 .0) in
     let at = numbers-at (a .s) (a .amounts .now) (a .i) _ _ (numbered .number-parts .ensures) in
     let long = numbers-long (a .s) (a .amounts .now) (a .i) _ _ (numbered .number-parts .ensures) in
-    let same = payslip-is (s .pre .ready) (a .i) numbers at (stepsIn (a .steps .now) (a .n)) in
+    let same = payslip-is (s .pre .ready) (a .i) numbers at (stepsIn (a .steps .now) (a .progress .steps)) in
     let ready = payslip-numbered (s .pre .ready) (a .i) numbers at (sym long) in
     record { asked = ready; room = rw same (s .pre .room) }
 
@@ -48,7 +48,7 @@ returns c =
     let a = s .args in
     let numbers : List ℕ = take (a .s .groups) (numbered .number-parts .last .1 .1 .1 .1 .0) in
     let at = numbers-at (a .s) (a .amounts .now) (a .i) _ _ (numbered .number-parts .ensures) in
-    let same = payslip-is (s .pre .ready) (a .i) numbers at (stepsIn (a .steps .now) (a .n)) in
+    let same = payslip-is (s .pre .ready) (a .i) numbers at (stepsIn (a .steps .now) (a .progress .steps)) in
     rw (← same) (made .make-parts .ensures)
 
 pub make-payslip-spec : {M : Type 1} → statement M

@@ -16,11 +16,11 @@ use Rattle.partition_emit.proofs.make_payslips.Statement.{statement}
 use Rattle.partition_emit.proofs.make_payslips.Tie as tie
 
 abbrev Inv-loop : tie.InvT-loop
-Inv-loop s amounts bits members n cells₀ steps₀ outputs₀ end₀ i₀ cells steps outputs end i =
-    Paying (s .q) (payslipOf s amounts) (stepsIn steps₀ n) steps₀ outputs₀ i steps outputs end × (length cells ≡ length cells₀)
+Inv-loop s amounts bits members cells₀ steps₀ outputs₀ end₀ i₀ cells steps outputs end i =
+    Paying (s .q) (payslipOf s amounts) (stepsIn steps₀ (end₀ .steps)) steps₀ outputs₀ i steps outputs end × (length cells ≡ length cells₀)
 
 abbrev μ-loop : tie.MeasureT-loop
-μ-loop s amounts bits members n cells₀ steps₀ outputs₀ end₀ i₀ cells steps outputs end i = s .q - i
+μ-loop s amounts bits members cells₀ steps₀ outputs₀ end₀ i₀ cells steps outputs end i = s .q - i
 
 -- a payslip only appends steps
 each : (s : tie.Start Inv-loop μ-loop) (i : ℕ) (before : List Step) → Begins before (payslipOf (s .args .s) (s .args .amounts .now) i before .steps)
@@ -31,7 +31,7 @@ loop-holds c =
     let s = c .before .before .before .before .before .before in
     let a = s .args in
     let slip = payslipOf (a .s) (a .amounts .now) in
-    (paying-start (a .s .p) (a .s .q) slip (a .steps .now) (a .outputs .now) (a .n) (s .pre .room), search needs)
+    (paying-start (a .s .p) (a .s .q) slip (a .steps .now) (a .outputs .now) (a .progress) (s .pre .room), search needs)
 
 make-payslip-requires : tie.Need-make-payslip-requires Inv-loop μ-loop
 make-payslip-requires c κs =
@@ -57,8 +57,8 @@ loop-less c = search needs
 
 loop-again : tie.Need-loop-again Inv-loop μ-loop
 loop-again c =
-    let paid = c .before .before .before .before in
-    let start = c .before .before .before .before .before .before .before .before .before in
+    let paid = c .before .before .before .before .before in
+    let start = paid .before .before .before .before .before in
     let s = start .before .before .before .before .before .before .before in
     let a = s .args in
     let more = paying-on (payslipOf (a .s) (a .amounts .now)) (each s) (start .loop .inv .0) (s .pre .room) (search needs) in

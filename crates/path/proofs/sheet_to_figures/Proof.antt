@@ -27,13 +27,13 @@ abbrev compiling : tie.After-compiled → tie.After-compile
 compiling c = c .before .before .before .before .before .before
 
 abbrev compiled-before : tie.After-dispatch → tie.After-compiled
-compiled-before d = d .before .before .before .before .before .before .before
+compiled-before d = d .before .before .before .before .before .before .before .before
 
 abbrev dispatching : tie.After-columns → tie.After-dispatch
 dispatching c = c .before .before .before .before .before .before .before .before
 
 abbrev columns-before : tie.After-receive → tie.After-columns
-columns-before e = e .before .before .before .before .before .before .before
+columns-before e = e .before .before .before .before .before .before .before .before
 
 abbrev dispatched-by : tie.After-receive → tie.After-dispatch
 dispatched-by e = dispatching (columns-before e)
@@ -63,19 +63,19 @@ accepted-at c =
     (now (s .args .outputs)) _ (answer-clause (r .compile .ensures)) _ (c .compiled .given .1)
 
 counted-at : (c : tie.After-compiled) → let s = start (compiling c) in
-    c .compiled .given .0 .0 ≡ count (s .args .p) (s .args .q) (now (s .args .amounts)) (s .args .method) (s .args .k)
+    c .compiled .given .0 .0 .steps ≡ count (s .args .p) (s .args .q) (now (s .args .amounts)) (s .args .method) (s .args .k)
 counted-at c =
     let r = compiling c in
     let s = start r in
     compile-counts (s .args .p) (s .args .q) (now (s .args .amounts)) (s .args .method) (s .args .k) (now (s .args .steps))
-    (now (s .args .outputs)) _ (answer-clause (r .compile .ensures)) _ (c .compiled .given .1)
+    (now (s .args .outputs)) _ (answer-clause (r .compile .ensures)) _ (c .compiled .given .1) (low r)
 
 -- the chain that compile filled
 filled-at : (c : tie.After-compiled)
     → let r = compiling c in
     let s = start r in
     Filled (s .args .p) (s .args .q) (now (s .args .amounts)) (s .args .method) (s .args .k)
-    (r .compile .last .1 .1 .1 .1 .1 .0) (r .compile .last .1 .1 .1 .1 .1 .1 .0) (c .compiled .given .0 .0)
+    (r .compile .last .1 .1 .1 .1 .1 .0) (r .compile .last .1 .1 .1 .1 .1 .1 .0) (c .compiled .given .0 .0 .steps)
 filled-at c =
     let r = compiling c in
     let s = start r in
@@ -88,7 +88,7 @@ taken-at : (c : tie.After-columns)
     let s = start (compiling (compiled-before d)) in
     let g = c .columns .given .0 in
     ChainTaken edition1 (written (s .args .p) (s .args .q) (now (s .args .amounts)) (s .args .method) (s .args .k))
-    (d .dispatch .last .1 .1 .1 .1 .0) (d .dispatch .last .1 .1 .1 .1 .1 .0) (g .0) (g .1 .0) (g .1 .1 .0)
+    (d .dispatch .last .1 .1 .1 .1 .0) (d .dispatch .last .1 .1 .1 .1 .1 .0) (g .0) (g .1 .0) (g .1 .1 .0 .steps)
 taken-at c =
     let d = dispatching c in
     let n = compiled-before d in
@@ -111,19 +111,19 @@ enum-known-compiled : tie.Need-enum-known-compiled
 enum-known-compiled c = search needs
 
 mul-dispatch : tie.Need-mul-dispatch
-mul-dispatch c = omega (arith, filled-at (c .before) .few)
+mul-dispatch c = omega (arith, filled-at (c .before .before) .few)
 
 slice-reshare-prefix-dispatch : tie.Need-slice-reshare-prefix-dispatch
-slice-reshare-prefix-dispatch c = filled-at (c .before) .steps-room
+slice-reshare-prefix-dispatch c = filled-at (c .before .before) .steps-room
 
 slice-aggregate-dispatch : tie.Need-slice-aggregate-dispatch
-slice-aggregate-dispatch c = sym (length-take-le _ _ (filled-at (c .before .before) .steps-room))
+slice-aggregate-dispatch c = sym (length-take-le _ _ (filled-at (c .before .before .before) .steps-room))
 
 slice-reshare-prefix-dispatch-2 : tie.Need-slice-reshare-prefix-dispatch-2
-slice-reshare-prefix-dispatch-2 c = filled-at (c .before .before) .outputs-room
+slice-reshare-prefix-dispatch-2 c = filled-at (c .before .before .before) .outputs-room
 
 slice-aggregate-dispatch-2 : tie.Need-slice-aggregate-dispatch-2
-slice-aggregate-dispatch-2 c = sym (length-take-le _ _ (filled-at (c .before .before .before) .outputs-room))
+slice-aggregate-dispatch-2 c = sym (length-take-le _ _ (filled-at (c .before .before .before .before) .outputs-room))
 
 dispatch-requires : tie.Need-dispatch-requires
 dispatch-requires c κs = search needs
@@ -135,19 +135,19 @@ enum-known-columns : tie.Need-enum-known-columns
 enum-known-columns c = search needs
 
 mul-receive : tie.Need-mul-receive
-mul-receive c = omega (arith, taken-at (c .before) .few)
+mul-receive c = omega (arith, taken-at (c .before .before) .few)
 
 slice-reshare-prefix-receive : tie.Need-slice-reshare-prefix-receive
-slice-reshare-prefix-receive c = taken-at (c .before) .steps-room
+slice-reshare-prefix-receive c = taken-at (c .before .before) .steps-room
 
 slice-aggregate-receive : tie.Need-slice-aggregate-receive
-slice-aggregate-receive c = sym (length-take-le _ _ (taken-at (c .before .before) .steps-room))
+slice-aggregate-receive c = sym (length-take-le _ _ (taken-at (c .before .before .before) .steps-room))
 
 slice-reshare-prefix-receive-2 : tie.Need-slice-reshare-prefix-receive-2
-slice-reshare-prefix-receive-2 c = taken-at (c .before .before) .outputs-room
+slice-reshare-prefix-receive-2 c = taken-at (c .before .before .before) .outputs-room
 
 slice-aggregate-receive-2 : tie.Need-slice-aggregate-receive-2
-slice-aggregate-receive-2 c = sym (length-take-le _ _ (taken-at (c .before .before .before) .outputs-room))
+slice-aggregate-receive-2 c = sym (length-take-le _ _ (taken-at (c .before .before .before .before) .outputs-room))
 
 receive-requires : tie.Need-receive-requires
 receive-requires c κs = search needs

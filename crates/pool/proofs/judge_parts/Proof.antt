@@ -6,6 +6,7 @@ use native.Mathlib.Omega.{arith}
 use lib.ListN.{length}
 use Rattle.chain.proofs.Rules.{judging, told-fine}
 use Rattle.chain.proofs.Pairs.{length-pairs}
+use Rattle.chain.proofs.Squarings.{counting}
 use Rattle.pool.specs.Pool.{poolableRule}
 use Rattle.pool.proofs.Parts.{BothSizes, BothLengths, both-sizes-fit, both-lengths-fit}
 use Rattle.pool.proofs.judge_parts.Statement.{statement}
@@ -26,26 +27,27 @@ judge-steps-requires c κs =
     let are = sizes (c .before .before .before .before) in
     record { p-low = are .first .p-low; p′-low = are .second .p-low; n-low = lengths c .first; n′-low = lengths c .second }
 
-add-judge-outputs : tie.Need-add-judge-outputs
-add-judge-outputs c =
-    let told = c .before .before .before in
+add-top1 : tie.Need-add-top1
+add-top1 c =
+    let told = c .before .before .before .before in
     record { fits = omega (arith, lengths told .first, sizes (told .before .before .before .before) .first .p-low) }
 
-add-judge-outputs-2 : tie.Need-add-judge-outputs-2
-add-judge-outputs-2 c =
-    let told = c .before .before .before in
+add-top2 : tie.Need-add-top2
+add-top2 c =
+    let told = c .before .before .before .before in
     record { fits = omega (arith, lengths told .second, sizes (told .before .before .before .before) .second .p-low) }
 
 judge-outputs-requires : tie.Need-judge-outputs-requires
 judge-outputs-requires c κs =
-    let are = sizes (c .before .before .before .before .before .before .before) in
+    let are = sizes (c .before .before .before .before .before .before .before .before) in
     record { q-low = are .first .q-low; q′-low = are .second .q-low }
 
 pub judge-parts-spec : {M : Type 1} → statement M
 unfolding poolableRule
 judge-parts-spec =
     tie.close
-    (tie.spec (λ c κs. search needs) (λ c. search needs) (λ c. search judging depth 8) (λ c. search needs) (λ c. search judging depth 8)
-    (λ c κs. search needs) (λ c. search needs) (λ c. simp length-pairs (search judging depth 10)) (λ c. search needs) judge-steps-requires
-    (λ c. search needs) (λ c. simp length-pairs (search judging depth 12)) (λ c. search needs) add-judge-outputs add-judge-outputs-2
-    judge-outputs-requires (λ c. simp length-pairs (search judging depth 14)))
+    (tie.spec (λ c κs. search needs) (λ c. search needs) (λ c. search (judging, counting) depth 8) (λ c. search needs) (λ c. search (judging, counting) depth 8)
+    (λ c κs. search needs) (λ c. search needs) (λ c. simp length-pairs (search (judging, counting) depth 10)) (λ c. search needs) judge-steps-requires
+    (λ c. search needs) (λ c. search needs) add-top1 add-top2 judge-outputs-requires (λ c. search needs) (λ c. search needs)
+    (λ c. simp length-pairs (search (judging, counting) depth 12)) (λ c. simp length-pairs (search (judging, counting) depth 14))
+    (λ c. simp length-pairs (search (judging, counting) depth 14)))

@@ -1,83 +1,21 @@
--- Either order of the two operands stores the larger one first.
+-- Either order of the two operands stores the larger one first, and the step is counted if they are equal.
 use borrow.Author.Needs.{needs}
+use native.Mathlib.Omega.{arith}
 use lib.ListN.{length-set}
-use Rattle.products.proofs.Emitted.{put-rising, put-falling}
+use Rattle.products.proofs.Emitted.{squarings-within, putting}
 use Rattle.products.proofs.put.Statement.{statement}
 use Rattle.products.proofs.put.Tie as tie
 
-mul-steps : tie.Need-mul-steps
-mul-steps c = search needs
-
-mul-steps-2 : tie.Need-mul-steps-2
-mul-steps-2 c = search needs
-
-slice-write-steps : tie.Need-slice-write-steps
-slice-write-steps c = search needs
-
-mul-steps-3 : tie.Need-mul-steps-3
-mul-steps-3 c = search needs
-
-add-steps : tie.Need-add-steps
-add-steps c = search needs
-
-mul-steps-4 : tie.Need-mul-steps-4
-mul-steps-4 c = search needs
-
-slice-write-steps-2 : tie.Need-slice-write-steps-2
-slice-write-steps-2 c = simp length-set (search needs)
-
-mul-steps-5 : tie.Need-mul-steps-5
-mul-steps-5 c = search needs
-
-mul-steps-6 : tie.Need-mul-steps-6
-mul-steps-6 c = search needs
-
-slice-write-steps-3 : tie.Need-slice-write-steps-3
-slice-write-steps-3 c = search needs
-
-mul-steps-7 : tie.Need-mul-steps-7
-mul-steps-7 c = search needs
-
-add-steps-2 : tie.Need-add-steps-2
-add-steps-2 c = search needs
-
-mul-steps-8 : tie.Need-mul-steps-8
-mul-steps-8 c = search needs
-
-slice-write-steps-4 : tie.Need-slice-write-steps-4
-slice-write-steps-4 c = simp length-set (search needs)
-
-same-length : tie.Need-same-length
-same-length c = search needs
-
-returns : tie.Need-returns
-returns c = search put-rising
-
-same-length-2 : tie.Need-same-length-2
-same-length-2 c = search needs
-
-returns-2 : tie.Need-returns-2
-returns-2 c = search put-falling
+-- the squarings so far are no more than the steps, and those fit the slice
+add-squarings : tie.Need-add-steps-2
+add-squarings c =
+    let s = c .before .before .before in
+    omega (arith, squarings-within _ _ (s .pre .so-far), s .pre .enough, c .before .squaring .ensures .low)
 
 pub put-spec : {M : Type 1} → statement M
 put-spec =
     tie.close
-    (tie.spec
-    mul-steps
-    mul-steps-2
-    slice-write-steps
-    mul-steps-3
-    add-steps
-    mul-steps-4
-    slice-write-steps-2
-    mul-steps-5
-    mul-steps-6
-    slice-write-steps-3
-    mul-steps-7
-    add-steps-2
-    mul-steps-8
-    slice-write-steps-4
-    same-length
-    returns
-    same-length-2
-    returns-2)
+    (tie.spec (λ c. search needs) (λ c κs. search needs) add-squarings (λ c. search needs) (λ c. search needs) (λ c. search needs) (λ c. search needs)
+    (λ c. search needs) (λ c. search needs) (λ c. simp length-set (search needs)) (λ c. search needs) (λ c. search putting) (λ c. search needs)
+    (λ c. search needs) (λ c. search needs) (λ c. search needs) (λ c. search needs) (λ c. search needs) (λ c. simp length-set (search needs))
+    (λ c. search needs) (λ c. search putting))

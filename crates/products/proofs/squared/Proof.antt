@@ -10,7 +10,10 @@ use Rattle.products.proofs.squared.Statement.{statement}
 use Rattle.products.proofs.squared.Tie as tie
 
 abbrev Inv-loop : tie.InvT-loop
-Inv-loop p k steps₀ r₀ i₀ steps r i = (i ≤ k) × (length steps ≡ length steps₀) × Emitted steps₀ steps (r .n) (r .value) (squared p i (made (stepsIn steps₀ (r₀ .n)) (r₀ .value)))
+Inv-loop p k steps₀ r₀ i₀ steps r i =
+    (i ≤ k)
+    × (length steps ≡ length steps₀)
+    × Emitted steps₀ steps (r .progress) (r .value) (squared p i (made (stepsIn steps₀ (r₀ .progress .steps)) (r₀ .value)))
 
 abbrev μ-loop : tie.MeasureT-loop
 μ-loop p k steps₀ r₀ i₀ steps r i = k - i

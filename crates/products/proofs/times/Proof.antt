@@ -8,4 +8,4 @@ pub times-spec : {M : Type 1} → statement M
 times-spec =
     tie.close
     (tie.spec (λ c. search multiplying) (λ c. search multiplying) (λ c κs. search multiplying) (λ c. search needs) (λ c. search needs)
-    (λ c. search needs) (λ c. search (needs, multiplying)) (λ c. search needs) (λ c. search multiplying))
+    (λ c. search (needs, multiplying)) (λ c. search needs) (λ c. search multiplying))

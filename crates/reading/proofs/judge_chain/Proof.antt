@@ -1,34 +1,30 @@
--- The steps' verdict, then the outputs': a refusal of the steps stops, and else the outputs decide.
-use Rattle.reading.proofs.ReadAnswers.{chain-bad, chain-rest}
+-- The steps' verdict, then the outputs': a refusal of the steps stops, and else the outputs decide; the squarings are those that the steps' judge counted.
 use borrow.Author.Needs.{needs}
+use Rattle.chain.proofs.Rules.{judging}
+use Rattle.chain.proofs.Squarings.{counted-refused, counted-done, found-number, counting}
+use Rattle.reading.proofs.ReadAnswers.{chain-is}
 use Rattle.reading.proofs.judge_chain.Statement.{statement}
 use Rattle.reading.proofs.judge_chain.Tie as tie
 
-judge-steps-requires : tie.Need-judge-steps-requires
-judge-steps-requires c κs = search needs
-
-enum-known-number : tie.Need-enum-known-number
-enum-known-number c = search needs
-
-enum-told : tie.Need-enum-told
-enum-told c = search needs
-
-judge-outputs-requires : tie.Need-judge-outputs-requires
-judge-outputs-requires c κs = search needs
-
 returns : tie.Need-returns
 returns c =
-    let j = c .before .before .before in
-    let x = j .before .before .args .x in
-    chain-bad _ x _ (j .judge-steps .ensures) _ _ (c .before .number .given .1)
+    let x = c .before .before .before .before .before .args .x in
+    counted-refused _ _ _ _ (chain-is _ x _ (search (judging, counting) depth 8))
 
 returns-2 : tie.Need-returns-2
 returns-2 c =
-    let j = c .before .before .before in
+    let x = c .before .before .before .before .before .before .before .before .before .args .x in
+    counted-refused _ _ _ _ (chain-is _ x _ (search (judging, counting) depth 8))
+
+returns-3 : tie.Need-returns-3
+returns-3 c =
+    let told = c .before .before .before .before in
+    let j = told .before .before in
     let x = j .before .before .args .x in
-    chain-rest _ x _ (j .judge-steps .ensures) _ (c .before .enum-told .given .1) (c .judge-outputs .ensures)
+    counted-done _ _ _ (chain-is _ x _ (search (judging, counting) depth 8)) (found-number _ _ _ (j .judge-steps .ensures) _ (told .squarings .given .1))
 
 pub judge-chain-spec : {M : Type 1} → statement M
 judge-chain-spec =
     tie.close
-    (tie.spec judge-steps-requires enum-known-number enum-told judge-outputs-requires returns returns-2)
+    (tie.spec (λ c κs. search needs) (λ c. search needs) (λ c. search needs) (λ c κs. search needs) (λ c. search needs) (λ c. search needs) returns returns-2
+    returns-3)

@@ -47,7 +47,7 @@ returns-2 c =
     let a = w .before .before .before .before .before .before .before .before .before .args in
     then-run (a .p) (pairs (now (a .steps))) (now (a .outputs)) (now (a .amounts)) (a .m) (now (a .bases)) (now (a .scratch)) (now (a .values))
     (now (a .figures)) _
-    (answer-clause (w .verify .ensures)) _ (only-slice-clause (w .verify .ensures)) (e .enum-told .given .1) _ _ _ (answer-clause (r .run .ensures)) (first-slice-clause (r .run .ensures)) (second-slice-clause (r .run .ensures))
+    (answer-clause (w .verify .ensures)) _ (only-slice-clause (w .verify .ensures)) _ (e .enum-told .given .1) _ _ _ (answer-clause (r .run .ensures)) (first-slice-clause (r .run .ensures)) (second-slice-clause (r .run .ensures))
 
 pub receive-spec : {M : Type 1} → statement M
 receive-spec =

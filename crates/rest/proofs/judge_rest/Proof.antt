@@ -5,6 +5,7 @@ use Prim.Native.Nat.{_/_}
 use lib.ListN.{length}
 use Rattle.chain.specs.Judgement.{verdictOf}
 use Rattle.chain.proofs.Rules.{judging}
+use Rattle.chain.proofs.Squarings.{counting}
 use Rattle.rest.specs.Inner.{EndAsked}
 use Rattle.rest.proofs.Rest.{rest-flat}
 use Rattle.rest.proofs.judge_rest.Statement.{statement}
@@ -16,43 +17,15 @@ able : (e : tie.After-enum-told)
     EndAsked (a .p) (length (a .steps .now) / 2)
 able e = e .before .before .before .before .pre (ap verdictOf (e .enum-told .given .1))
 
-enum-known-found : tie.Need-enum-known-found
-enum-known-found c = search needs
-
-returns : tie.Need-returns
-returns c = search judging depth 8
-
-enum-told : tie.Need-enum-told
-enum-told c = search needs
-
 judge-steps-requires : tie.Need-judge-steps-requires
 judge-steps-requires c κs = able c .p-low
 
-enum-known-number : tie.Need-enum-known-number
-enum-known-number c = search needs
-
-returns-2 : tie.Need-returns-2
-returns-2 c = search (judging, rest-flat) depth 10
-
-enum-told-2 : tie.Need-enum-told-2
-enum-told-2 c = search needs
-
 judge-end-requires : tie.Need-judge-end-requires
-judge-end-requires c κs = able (c .before .before .before)
-
-returns-3 : tie.Need-returns-3
-returns-3 c = search (judging, rest-flat) depth 10
+judge-end-requires c κs = able (c .before .before .before .before)
 
 pub judge-rest-spec : {M : Type 1} → statement M
 judge-rest-spec =
     tie.close
-    (tie.spec
-    enum-known-found
-    returns
-    enum-told
-    judge-steps-requires
-    enum-known-number
-    returns-2
-    enum-told-2
-    judge-end-requires
-    returns-3)
+    (tie.spec (λ c. search needs) (λ c. search needs) judge-steps-requires (λ c. search needs) (λ c. search needs) judge-end-requires (λ c. search needs)
+    (λ c. search needs) (λ c. search (judging, counting) depth 8) (λ c. search (judging, counting, rest-flat) depth 12)
+    (λ c. search (judging, counting, rest-flat) depth 12) (λ c. search (judging, counting, rest-flat) depth 12))

@@ -17,7 +17,7 @@ returns : tie.Need-returns
 returns c =
     let called = c .before .before .list .ensures in
     let told = c .tell-listed .ensures in
-    (told .number-is, (told .words-are ∙ ap (λ (n : ℕ). n ∷ 0 ∷ 0 ∷ 0 ∷ []) (answer-clause called), only-slice-clause called))
+    (told .number-is, (told .words-are ∙ ap (λ (n : ℕ). n ∷ 0 ∷ 0 ∷ 0 ∷ 0 ∷ 0 ∷ 0 ∷ 0 ∷ []) (answer-clause called), only-slice-clause called))
 
 pub spoutbasket-list-spec : {M : Type 1} → statement M
 spoutbasket-list-spec = tie.close (tie.spec list-requires tell-listed-requires returns)

@@ -73,7 +73,7 @@ stayed = (
         stay-dropped (plain (λ _. u32)) yes,
         (
           stay-dropped (shrSliceOf (2 ∷ []) tt (plain (λ _. u32))) yes,
-          (gave-slice (3 ∷ []) tt (plain (λ _. u32)), (gave-slice (4 ∷ []) tt (plain (λ _. u32)), (gave-ref (5 ∷ []) tt (arrayOf (plain (λ _. u64)) 4), tt))),
+          (gave-slice (3 ∷ []) tt (plain (λ _. u32)), (gave-slice (4 ∷ []) tt (plain (λ _. u32)), (gave-ref (5 ∷ []) tt (arrayOf (plain (λ _. u64)) 8), tt))),
         ),
       ),
     ),
@@ -300,7 +300,7 @@ this-meets 𝓤 H A W at-mem run 𝓣 known known₂ = walk-meets 𝓤 H A this.
             goes-gave-slice 𝓤 H A W 6 3 tt (plain (λ _. u32)),
             (
               goes-gave-slice 𝓤 H A W 6 4 tt (plain (λ _. u32)),
-              (goes-gave-ref 𝓤 H A W 6 5 tt (arrayOf (plain (λ _. u64)) 4), tt),
+              (goes-gave-ref 𝓤 H A W 6 5 tt (arrayOf (plain (λ _. u64)) 8), tt),
             ),
           ),
         ),

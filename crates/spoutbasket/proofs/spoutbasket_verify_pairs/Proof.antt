@@ -71,7 +71,7 @@ stayed = (
       stay-dropped (shrSliceOf (1 ∷ []) tt (plain (λ _. u32))) yes,
       (
         stay-dropped (shrSliceOf (2 ∷ []) tt (plain (λ _. u32))) yes,
-        (gave-slice (3 ∷ []) tt (plain (λ _. u32)), (gave-ref (4 ∷ []) tt (arrayOf (plain (λ _. u64)) 4), tt)),
+        (gave-slice (3 ∷ []) tt (plain (λ _. u32)), (gave-ref (4 ∷ []) tt (arrayOf (plain (λ _. u64)) 8), tt)),
       ),
     ),
   ),
@@ -259,7 +259,7 @@ this-meets 𝓤 H A W at-mem run 𝓣 known known₂ = walk-meets 𝓤 H A this.
       goes-dropped 𝓤 H A W 5 (shrSliceOf (1 ∷ []) tt (plain (λ _. u32))) yes (λ κs x f. refl),
       (
         goes-dropped 𝓤 H A W 5 (shrSliceOf (2 ∷ []) tt (plain (λ _. u32))) yes (λ κs x f. refl),
-        (goes-gave-slice 𝓤 H A W 5 3 tt (plain (λ _. u32)), (goes-gave-ref 𝓤 H A W 5 4 tt (arrayOf (plain (λ _. u64)) 4), tt)),
+        (goes-gave-slice 𝓤 H A W 5 3 tt (plain (λ _. u32)), (goes-gave-ref 𝓤 H A W 5 4 tt (arrayOf (plain (λ _. u64)) 8), tt)),
       ),
     ),
   ),

@@ -55,7 +55,7 @@ returns c =
     let f = g .before .before in
     let h = f .before .before .before in
     let s = h .before .before .before .before .before in
-    let before = stepsIn (s .args .steps .now) (s .args .n) in
+    let before = stepsIn (s .args .steps .now) (s .args .progress .steps) in
     let is = payslip-is (s .pre .asked) _ _ _ _ (h .raise-amounts .ensures) (f .fill-masks .ensures) _ (g .digit-count .ensures .is) before in
     rw (← is) (t .take-digits .ensures)
 

@@ -10,11 +10,11 @@ use Rattle.straus_emit.proofs.make_payslips.Statement.{statement}
 use Rattle.straus_emit.proofs.make_payslips.Tie as tie
 
 abbrev Inv-loop : tie.InvT-loop
-Inv-loop p q amounts k inputs n steps₀ outputs₀ s₀ i₀ steps outputs s i =
-    Paying q (strausPayslip p amounts k) (stepsIn steps₀ n) steps₀ outputs₀ i steps outputs s
+Inv-loop p q amounts k inputs steps₀ outputs₀ s₀ i₀ steps outputs s i =
+    Paying q (strausPayslip p amounts k) (stepsIn steps₀ (s₀ .steps)) steps₀ outputs₀ i steps outputs s
 
 abbrev μ-loop : tie.MeasureT-loop
-μ-loop p q amounts k inputs n steps₀ outputs₀ s₀ i₀ steps outputs s i = q - i
+μ-loop p q amounts k inputs steps₀ outputs₀ s₀ i₀ steps outputs s i = q - i
 
 loop-holds : tie.Need-loop-holds Inv-loop μ-loop
 loop-holds c = search (needs, paying-start)
@@ -43,7 +43,7 @@ loop-less c = search needs
 
 loop-again : tie.Need-loop-again Inv-loop μ-loop
 loop-again c =
-    let made = c .before .before in
+    let made = c .before .before .before in
     let at = made .before .before .before in
     let s = at .before .before .before .before .before in
     paying-on (strausPayslip _ _ _) (payslip-begins _ _ _) (at .loop .inv) (s .pre .room) (search needs) (made .make-payslip .ensures)

@@ -14,13 +14,13 @@ use Rattle.straus_emit.proofs.take_digits.Statement.{statement}
 use Rattle.straus_emit.proofs.take_digits.Tie as tie
 
 abbrev Inv-loop : tie.InvT-loop
-Inv-loop p k inputs cells masks digits n steps₀ r₀ d₀ steps r d =
+Inv-loop p k inputs cells masks digits steps₀ r₀ d₀ steps r d =
     (d ≤ digits)
     × (length steps ≡ length steps₀)
-    × Emitted steps₀ steps (r .n) (r .value) (digitsMade p k inputs cells masks digits (stepsIn steps₀ n) d)
+    × Emitted steps₀ steps (r .progress) (r .value) (digitsMade p k inputs cells masks digits (stepsIn steps₀ (r₀ .progress .steps)) d)
 
 abbrev μ-loop : tie.MeasureT-loop
-μ-loop p k inputs cells masks digits n steps₀ r₀ d₀ steps r d = digits - d
+μ-loop p k inputs cells masks digits steps₀ r₀ d₀ steps r d = digits - d
 
 -- the digit's vector is an entry of the table
 abbrev place : (e : tie.In-loop Inv-loop μ-loop) → ℕ
@@ -79,7 +79,7 @@ take-digit-requires c κs =
     let e = c .before in
     let at = e .before .before .before in
     let s = at .before .before .before .before .before in
-    digit-room (s .args .p) (s .args .k) _ (s .args .digits) (s .args .steps .now) (s .args .n) _ _ _ _ _ (e .before .before .loop-test .taken) (value-is e) (at .loop .inv .2) (s .pre .room)
+    digit-room (s .args .p) (s .args .k) _ (s .args .digits) (s .args .steps .now) (s .args .progress) _ _ _ _ _ (e .before .before .loop-test .taken) (value-is e) (at .loop .inv .2) (s .pre .room)
 
 add-d : tie.Need-add-d Inv-loop μ-loop
 add-d c = search needs
@@ -93,7 +93,7 @@ loop-again c =
     let e = made .before .before in
     let at = e .before .before .before in
     let a = at .before .before .before .before .before .args in
-    let on = digit-on (a .p) (a .k) _ (a .digits) (a .steps .now) (a .n) _ _ _ _ _ (e .before .before .loop-test .taken) (value-is e) (at .loop .inv .2) _ _ _ (made .take-digit .ensures) in
+    let on = digit-on (a .p) (a .k) _ (a .digits) (a .steps .now) (a .progress) _ _ _ _ _ (e .before .before .loop-test .taken) (value-is e) (at .loop .inv .2) _ _ _ (made .take-digit .ensures) in
     (search needs, search needs, on)
 
 same-length : tie.Need-same-length Inv-loop μ-loop

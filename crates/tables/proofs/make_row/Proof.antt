@@ -4,17 +4,23 @@ use mathlib.Core.Path.{_≡_, ap}
 use Prim.Native.Nat.{ℕ, _+_, _-_, _*_, _≤_}
 use native.Mathlib.Omega.{arith}
 use lib.ListN.{length}
+use Rattle.products.specs.Inner.{SoFar}
 use Rattle.tables.specs.Inner.{Longer}
-use Rattle.tables.proofs.Rows.{InRow, in-row, row-rises, next-fits, place-fits, unit-fits, longer-end, rowing}
+use Rattle.tables.proofs.Rows.{InRow, in-row, row-rises, next-fits, place-fits, unit-fits, more-so-far, longer-end, rowing}
 use Rattle.tables.proofs.make_row.Statement.{statement}
 use Rattle.tables.proofs.make_row.Tie as tie
 
 abbrev Inv-loop : tie.InvT-loop
-Inv-loop k inputs at d n steps₀ end s₀ t₀ steps s t =
-    (t₀ ≤ t) × (t ≤ end) × (length steps ≡ length steps₀) × (s ≡ n + (t - t₀)) × Longer k inputs at steps₀ n t₀ steps s t
+Inv-loop k inputs at d steps₀ end s₀ t₀ steps s t =
+    (t₀ ≤ t)
+    × (t ≤ end)
+    × (length steps ≡ length steps₀)
+    × (s .steps ≡ s₀ .steps + (t - t₀))
+    × SoFar steps s
+    × Longer k inputs at steps₀ s₀ t₀ steps s t
 
 abbrev μ-loop : tie.MeasureT-loop
-μ-loop k inputs at d n steps₀ end s₀ t₀ steps s t = end - t
+μ-loop k inputs at d steps₀ end s₀ t₀ steps s t = end - t
 
 add-power : tie.Need-add-power Inv-loop μ-loop
 add-power c = search needs
@@ -35,7 +41,7 @@ add-t : tie.Need-add-t Inv-loop μ-loop
 add-t c = search (needs, unit-fits)
 
 loop-holds : tie.Need-loop-holds Inv-loop μ-loop
-loop-holds c = (search needs, search row-rises, search needs, search needs, search rowing)
+loop-holds c = (search needs, search row-rises, search needs, search needs, search needs, search rowing)
 
 -- an entry of the row
 row : (c : tie.In-loop Inv-loop μ-loop)
@@ -47,12 +53,12 @@ row c =
     in-row _ _ _ _ (asked .k-some) (second .power2 .ensures) (second .before .power .ensures) _ _ (asked .inside) (c .before .loop .inv .0) (c .loop-test .taken)
 
 -- and room for its step
-room : (c : tie.In-loop Inv-loop μ-loop) → 2 * c .before .loop .s + 2 ≤ length (c .before .loop .steps)
+room : (c : tie.In-loop Inv-loop μ-loop) → 2 * (c .before .loop .s .steps + 1) ≤ length (c .before .loop .steps)
 room c =
     let at = c .before in
     let second = at .before in
     let s = second .before .before .before .before in
-    omega (arith, s .pre .room, at .loop .inv .0, at .loop .inv .2, at .loop .inv .3, second .power2 .ensures, second .before .power .ensures, c .loop-test .taken)
+    omega (arith, s .pre .room .enough, at .loop .inv .0, at .loop .inv .2, at .loop .inv .3, second .power2 .ensures, second .before .power .ensures, c .loop-test .taken)
 
 add-put-entry : tie.Need-add-put-entry Inv-loop μ-loop
 add-put-entry c = search needs
@@ -60,24 +66,27 @@ add-put-entry c = search needs
 put-entry-requires : tie.Need-put-entry-requires Inv-loop μ-loop
 put-entry-requires c κs =
     let asked = c .before .before .before .before .before .before .before .pre .asked in
-    let r = row (c .before) in (
-      record {
-        entry =
-            record {
-              k-some = asked .k-some;
-              k-low = asked .k-low;
-              at-some = asked .at-some;
-              number-low = omega (arith, r .inside, asked .numbers-low);
-              inside = r .inside;
-            };
-        t-some = r .some;
-        digits-are = r .count;
-      },
-      (r .other, room (c .before)),
-    )
-
-add-s : tie.Need-add-s Inv-loop μ-loop
-add-s c = omega (arith, room (c .before .before .before .before))
+    let r = row (c .before) in
+    record {
+      asked =
+          record {
+            counted =
+                record {
+                  entry =
+                      record {
+                        k-some = asked .k-some;
+                        k-low = asked .k-low;
+                        at-some = asked .at-some;
+                        number-low = omega (arith, r .inside, asked .numbers-low);
+                        inside = r .inside;
+                      };
+                  t-some = r .some;
+                  digits-are = r .count;
+                };
+            other = r .other;
+          };
+      room = record { so-far = c .before .before .loop .inv .4; enough = room (c .before) };
+    }
 
 add-t-2 : tie.Need-add-t-2 Inv-loop μ-loop
 add-t-2 c = search needs
@@ -86,7 +95,9 @@ loop-less : tie.Need-loop-less Inv-loop μ-loop
 loop-less c = search needs
 
 loop-again : tie.Need-loop-again Inv-loop μ-loop
-loop-again c = (search needs, search needs, search needs, search needs, search rowing)
+loop-again c =
+    let put = c .before .before in
+    (search needs, search needs, search needs, search needs, more-so-far (room (put .before .before)) (put .put-entry .ensures), search rowing)
 
 same-length : tie.Need-same-length Inv-loop μ-loop
 same-length c = search needs
@@ -96,7 +107,7 @@ returns c =
     let at = c .before in
     let second = at .before in
     longer-end _ _ _ _ _ _ _ _ _ _ _ _ (ap (λ (n : ℕ). n + 1) (second .power2 .ensures)) (at .loop .inv .1) (c .loop-test .left)
-    (second .before .power .ensures) (at .loop .inv .4)
+    (second .before .power .ensures) (at .loop .inv .5)
 
 pub make-row-spec : {M : Type 1} → statement M
 make-row-spec =
@@ -113,7 +124,6 @@ make-row-spec =
     loop-holds
     add-put-entry
     put-entry-requires
-    add-s
     add-t-2
     loop-less
     loop-again

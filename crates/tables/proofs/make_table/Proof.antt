@@ -13,11 +13,13 @@ use Rattle.tables.proofs.make_table.Statement.{statement}
 use Rattle.tables.proofs.make_table.Tie as tie
 
 abbrev Inv-loop : tie.InvT-loop
-Inv-loop p k inputs n steps₀ at s₀ d₀ steps s d =
-    (d ≤ length inputs) × (length steps ≡ length steps₀) × StepsStored steps₀ steps s (stepsIn steps₀ n ++ table k inputs at (2 ^ (k * d)))
+Inv-loop p k inputs steps₀ at s₀ d₀ steps s d =
+    (d ≤ length inputs)
+    × (length steps ≡ length steps₀)
+    × StepsStored steps₀ steps s (stepsIn steps₀ (s₀ .steps) ++ table k inputs at (2 ^ (k * d)))
 
 abbrev μ-loop : tie.MeasureT-loop
-μ-loop p k inputs n steps₀ at s₀ d₀ steps s d = length inputs - d
+μ-loop p k inputs steps₀ at s₀ d₀ steps s d = length inputs - d
 
 add-at : tie.Need-add-at Inv-loop μ-loop
 add-at c = search needs
@@ -26,7 +28,7 @@ add-at-2 : tie.Need-add-at-2 Inv-loop μ-loop
 add-at-2 c = search needs
 
 cast-at : tie.Need-cast-at Inv-loop μ-loop
-cast-at c = omega (arith, pow-pos (c .before .before .args .k * length (c .before .before .args .inputs .now)))
+cast-at c = let a = c .before .before .before .args in omega (arith, pow-pos (a .k * length (a .inputs .now)))
 
 loop-holds : tie.Need-loop-holds Inv-loop μ-loop
 loop-holds c = (search needs, search needs, search tabling)

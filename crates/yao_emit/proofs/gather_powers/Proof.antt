@@ -14,7 +14,7 @@ abbrev Inv-loop : tie.InvT-loop
 Inv-loop column d steps₀ r₀ i₀ steps r i =
     (i ≤ column .digits)
     × (length steps ≡ length steps₀)
-    × Emitted steps₀ steps (r .n) (r .value) (gatherIn column d i (made (stepsIn steps₀ (r₀ .n)) (r₀ .value)))
+    × Emitted steps₀ steps (r .progress) (r .value) (gatherIn column d i (made (stepsIn steps₀ (r₀ .progress .steps)) (r₀ .value)))
 
 abbrev μ-loop : tie.MeasureT-loop
 μ-loop column d steps₀ r₀ i₀ steps r i = column .digits - i

@@ -6,16 +6,16 @@ use Rattle.yao_emit.proofs.join_column.Tie as tie
 
 sweep-column-requires : tie.Need-sweep-column-requires
 sweep-column-requires c κs =
-    let start = c .before .before in
+    let start = c .before .before .before in
     let s = start .args in
-    record { asked = start .pre .asked; room = sweep-room (s .column) (s .steps .now) (s .m .n) (s .m .value) (start .pre .room) }
+    record { asked = start .pre .asked; room = sweep-room (s .column) (s .steps .now) (s .m .progress) (s .m .value) (start .pre .room) }
 
 times-requires : tie.Need-times-requires
 times-requires c κs =
-    let swept = c .before .before .before in
-    let start = swept .before .before .before in
+    let swept = c .before .before .before .before in
+    let start = swept .before .before .before .before in
     let s = start .args in
-    join-room (s .column) (s .steps .now) (s .m .n) (s .m .value) (start .pre .room) _ _ _ _ (swept .sweep-column .ensures)
+    join-room (s .column) (s .steps .now) (s .m .progress) (s .m .value) (start .pre .room) _ _ _ _ (swept .sweep-column .ensures)
 
 same-length : tie.Need-same-length
 same-length c = search needs
@@ -23,10 +23,10 @@ same-length c = search needs
 returns : tie.Need-returns
 returns c =
     let timed = c .before .before in
-    let swept = timed .before .before .before .before in
-    let start = swept .before .before .before in
+    let swept = timed .before .before .before .before .before in
+    let start = swept .before .before .before .before in
     let s = start .args in
-    join-on (s .column) (s .steps .now) (s .m .n) (s .m .value) (start .pre .room) _ _ _ _ (swept .sweep-column .ensures) _ _ _ (timed .times .ensures)
+    join-on (s .column) (s .steps .now) (s .m .progress) (s .m .value) (start .pre .room) _ _ _ _ (swept .sweep-column .ensures) _ _ _ (timed .times .ensures)
 
 pub join-column-spec : {M : Type 1} → statement M
 join-column-spec = tie.close (tie.spec sweep-column-requires times-requires same-length returns)

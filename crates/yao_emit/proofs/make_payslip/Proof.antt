@@ -16,15 +16,15 @@ use Rattle.yao_emit.proofs.make_payslip.Statement.{statement}
 use Rattle.yao_emit.proofs.make_payslip.Tie as tie
 
 abbrev Inv-loop : tie.InvT-loop
-Inv-loop p q amounts k columns i n steps₀ r₀ first₀ c₀ steps r first c =
+Inv-loop p q amounts k columns i steps₀ r₀ first₀ c₀ steps r first c =
     (c ≤ p)
     × (first ≡ p + sumTo c (yaoSquarings p q amounts k))
     × (first ≤ p + squaringsMost * c)
     × (length steps ≡ length steps₀)
-    × Emitted steps₀ steps (r .n) (r .value) (yaoPayslip p q amounts k i (stepsIn steps₀ n) c)
+    × Emitted steps₀ steps (r .progress) (r .value) (yaoPayslip p q amounts k i (stepsIn steps₀ (r₀ .progress .steps)) c)
 
 abbrev μ-loop : tie.MeasureT-loop
-μ-loop p q amounts k columns i n steps₀ r₀ first₀ c₀ steps r first c = p - c
+μ-loop p q amounts k columns i steps₀ r₀ first₀ c₀ steps r first c = p - c
 
 loop-holds : tie.Need-loop-holds Inv-loop μ-loop
 loop-holds c = (search needs, search needs, search needs, search needs, search emitted-own)
@@ -52,7 +52,7 @@ join-column-requires c κs =
     record {
       asked = reaches _ (chain .ranges) (column-few _ _ _ _ (chain .measured .narrow) (search needs)) (search needs) (at .loop .inv .2);
       room =
-          column-room (s .p) (s .q) (s .amounts .now) (s .k) (s .i) (stepsIn (s .steps .now) (s .n)) (s .steps .now) _ _ _ (at .loop .c) (at .loop .first) _
+          column-room (s .p) (s .q) (s .amounts .now) (s .k) (s .i) (stepsIn (s .steps .now) (s .progress .steps)) (s .steps .now) _ _ _ (at .loop .c) (at .loop .first) _
           (amounted .amount .result) (at .loop .inv .4) (at .loop .inv .1) is (amounted .amount .ensures) _ (start .pre .room) (search needs);
     }
 
@@ -80,7 +80,7 @@ loop-again c =
       search first-on,
       search needs,
       search needs,
-      column-on (s .p) (s .q) (s .amounts .now) (s .k) (s .i) (stepsIn (s .steps .now) (s .n)) (s .steps .now) _ _ _ (at .loop .c) (at .loop .first) _
+      column-on (s .p) (s .q) (s .amounts .now) (s .k) (s .i) (stepsIn (s .steps .now) (s .progress .steps)) (s .steps .now) _ _ _ (at .loop .c) (at .loop .first) _
           (amounted .amount .result) (at .loop .inv .4) (at .loop .inv .1) is (amounted .amount .ensures) _ _ _ (joined .join-column .ensures),
     )
 
@@ -91,7 +91,7 @@ returns : tie.Need-returns Inv-loop μ-loop
 returns c =
     let at = c .before in
     let s = at .before .before .before .before .args in
-    columns-end (s .p) (s .q) (s .amounts .now) (s .k) (s .i) (stepsIn (s .steps .now) (s .n)) (s .steps .now) _ _ _ (at .loop .c)
+    columns-end (s .p) (s .q) (s .amounts .now) (s .k) (s .i) (stepsIn (s .steps .now) (s .progress .steps)) (s .steps .now) _ _ _ (at .loop .c)
     (at .loop .inv .0) (search needs) (at .loop .inv .4)
 
 pub make-payslip-spec : {M : Type 1} → statement M

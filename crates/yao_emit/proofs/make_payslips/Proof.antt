@@ -14,11 +14,11 @@ use Rattle.yao_emit.proofs.make_payslips.Statement.{statement}
 use Rattle.yao_emit.proofs.make_payslips.Tie as tie
 
 abbrev Inv-loop : tie.InvT-loop
-Inv-loop p q amounts k columns n steps₀ outputs₀ s₀ i₀ steps outputs s i =
-    Paying q (yaoSlip p q amounts k) (stepsIn steps₀ n) steps₀ outputs₀ i steps outputs s
+Inv-loop p q amounts k columns steps₀ outputs₀ s₀ i₀ steps outputs s i =
+    Paying q (yaoSlip p q amounts k) (stepsIn steps₀ (s₀ .steps)) steps₀ outputs₀ i steps outputs s
 
 abbrev μ-loop : tie.MeasureT-loop
-μ-loop p q amounts k columns n steps₀ outputs₀ s₀ i₀ steps outputs s i = q - i
+μ-loop p q amounts k columns steps₀ outputs₀ s₀ i₀ steps outputs s i = q - i
 
 -- the payslips that are made, which only append steps
 abbrev slip : (s : tie.Start Inv-loop μ-loop) → ℕ → List Step → Made
@@ -50,7 +50,7 @@ loop-less c = search needs
 
 loop-again : tie.Need-loop-again Inv-loop μ-loop
 loop-again c =
-    let made = c .before .before in
+    let made = c .before .before .before in
     let at = made .before .before .before in
     let s = at .before .before .before .before .before in
     paying-on (slip s) (begins s) (at .loop .inv) (s .pre .room) (search needs) (made .make-payslip .ensures)

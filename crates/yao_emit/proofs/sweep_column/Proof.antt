@@ -12,13 +12,13 @@ use Rattle.yao_emit.proofs.sweep_column.Statement.{statement}
 use Rattle.yao_emit.proofs.sweep_column.Tie as tie
 
 abbrev Inv-loop : tie.InvT-loop
-Inv-loop column n steps₀ top s₀ i₀ steps s i =
+Inv-loop column steps₀ top s₀ i₀ steps s i =
     (i + 1 ≤ top)
     × (length steps ≡ length steps₀)
-    × SweepEmitted steps₀ steps (s .n) (s .a) (s .b) (sweepIn column (stepsIn steps₀ n) i)
+    × SweepEmitted steps₀ steps (s .progress) (s .a) (s .b) (sweepIn column (stepsIn steps₀ (s₀ .progress .steps)) i)
 
 abbrev μ-loop : tie.MeasureT-loop
-μ-loop column n steps₀ top s₀ i₀ steps s i = top - i
+μ-loop column steps₀ top s₀ i₀ steps s i = top - i
 
 power-requires : tie.Need-power-requires Inv-loop μ-loop
 power-requires c κs = search needs
@@ -42,26 +42,26 @@ sub-gather-powers c = search needs
 
 gather-powers-requires : tie.Need-gather-powers-requires Inv-loop μ-loop
 gather-powers-requires c κs =
-    let start = c .before .before in
+    let start = c .before .before .before in
     let told = start .before .power in
     let s = start .before .before .before .args in
     let i = start .loop .i in
     record {
       asked = start .before .before .before .pre .asked;
       room =
-          b-room (s .column) (stepsIn (s .steps .now) (s .n)) (s .steps .now) _ _ _ _ i
+          b-room (s .column) (stepsIn (s .steps .now) (s .progress .steps)) (s .steps .now) _ _ _ _ i
           (start .loop .inv .2) (told .result - (i + 1)) (ap (λ (t : ℕ). t - (i + 1)) (told .ensures)) (2 ^ s .column .k - 1) _ (start .before .before .before .pre .room)
           (omega (arith, told .ensures));
     }
 
 times-requires : tie.Need-times-requires Inv-loop μ-loop
 times-requires c κs =
-    let gathered = c .before .before .before in
-    let start = gathered .before .before .before in
+    let gathered = c .before .before .before .before in
+    let start = gathered .before .before .before .before in
     let told = start .before .power in
     let s = start .before .before .before .args in
     let i = start .loop .i in
-    a-room (s .column) (stepsIn (s .steps .now) (s .n)) (s .steps .now) _ _ _ _ i
+    a-room (s .column) (stepsIn (s .steps .now) (s .progress .steps)) (s .steps .now) _ _ _ _ i
     (start .loop .inv .2) (told .result - (i + 1)) (ap (λ (t : ℕ). t - (i + 1)) (told .ensures)) _ _ _ (gathered .gather-powers .ensures) (2 ^ s .column .k - 1) _
     (start .before .before .before .pre .room) (omega (arith, told .ensures))
 
@@ -73,15 +73,15 @@ loop-less c = search needs
 
 loop-again : tie.Need-loop-again Inv-loop μ-loop
 loop-again c =
-    let timed = c .before .before in
-    let gathered = timed .before .before .before .before in
-    let start = gathered .before .before .before in
+    let timed = c .before .before .before in
+    let gathered = timed .before .before .before .before .before in
+    let start = gathered .before .before .before .before in
     let told = start .before .power in
     let s = start .before .before .before .args in
     let i = start .loop .i in (
       search needs,
       search needs,
-      a-on (s .column) (stepsIn (s .steps .now) (s .n)) (s .steps .now) _ _ _ _ i
+      a-on (s .column) (stepsIn (s .steps .now) (s .progress .steps)) (s .steps .now) _ _ _ _ i
           (start .loop .inv .2) (told .result - (i + 1)) (ap (λ (t : ℕ). t - (i + 1)) (told .ensures)) _ _ _ (gathered .gather-powers .ensures) _ _ _
           (timed .times .ensures),
     )
@@ -93,7 +93,7 @@ returns : tie.Need-returns Inv-loop μ-loop
 returns c =
     let start = c .before in
     let s = start .before .before .before .args in
-    sweep-end (s .column) (stepsIn (s .steps .now) (s .n)) _ _ _ _ _ (start .loop .i) _
+    sweep-end (s .column) (stepsIn (s .steps .now) (s .progress .steps)) _ _ _ _ _ (start .loop .i) _
     (start .before .power .ensures) (start .loop .inv .0) (c .loop-test .left) (start .loop .inv .2)
 
 pub sweep-column-spec : {M : Type 1} → statement M

@@ -12,8 +12,9 @@ LIBDIR = $(PREFIX)/lib
 MANDIR = $(PREFIX)/share/man
 
 VERSION := $(shell sed -n 's/^\#define SPOUTBASKET_VERSION "\(.*\)"/\1/p' include/spoutbasket.h)
-# callers of one major version of the interface run with any later object of it
-MAJOR := $(firstword $(subst ., ,$(VERSION)))
+# callers of one version of the interface run with any later object of it: the major version and, while that is 0, the minor one too
+NUMBERS := $(subst ., ,$(VERSION))
+INTERFACE := $(firstword $(NUMBERS))$(if $(filter 0,$(firstword $(NUMBERS))),.$(word 2,$(NUMBERS)))
 
 ARCHIVE = target/staticlib/libspoutbasket.a
 SHARED = target/shared/libspoutbasket.so.$(VERSION)
@@ -30,7 +31,7 @@ target/staticlib/libspoutbasket.a: crates.txt $(shell find crates -name '*.rt' -
 
 $(SHARED): $(ARCHIVE)
 	mkdir -p $(@D)
-	$(CC) $(LDFLAGS) -shared -Wl,-soname,libspoutbasket.so.$(MAJOR) -Wl,-z,defs -Wl,--whole-archive $(ARCHIVE) -Wl,--no-whole-archive -o $@
+	$(CC) $(LDFLAGS) -shared -Wl,-soname,libspoutbasket.so.$(INTERFACE) -Wl,-z,defs -Wl,--whole-archive $(ARCHIVE) -Wl,--no-whole-archive -o $@
 
 $(COMMAND): $(ARCHIVE) rust/Cargo.toml rust/build.rs $(shell find rust/src -name '*.rs')
 	SPOUTBASKET_LIB_DIR=$(abspath $(dir $(ARCHIVE))) cargo build --release --offline --manifest-path rust/Cargo.toml --bin spoutbasket
@@ -58,15 +59,15 @@ install: all
 	install -m 644 include/spoutbasket.h $(DESTDIR)$(INCLUDEDIR)/spoutbasket.h
 	install -m 644 $(ARCHIVE) $(DESTDIR)$(LIBDIR)/libspoutbasket.a
 	install -m 755 $(SHARED) $(DESTDIR)$(LIBDIR)/libspoutbasket.so.$(VERSION)
-	ln -sf libspoutbasket.so.$(VERSION) $(DESTDIR)$(LIBDIR)/libspoutbasket.so.$(MAJOR)
-	ln -sf libspoutbasket.so.$(MAJOR) $(DESTDIR)$(LIBDIR)/libspoutbasket.so
+	ln -sf libspoutbasket.so.$(VERSION) $(DESTDIR)$(LIBDIR)/libspoutbasket.so.$(INTERFACE)
+	ln -sf libspoutbasket.so.$(INTERFACE) $(DESTDIR)$(LIBDIR)/libspoutbasket.so
 	printf '%s\n' "$$PKG_CONFIG_TEXT" > $(DESTDIR)$(LIBDIR)/pkgconfig/spoutbasket.pc
 	chmod 644 $(DESTDIR)$(LIBDIR)/pkgconfig/spoutbasket.pc
 	install -m 644 docs/spoutbasket.1 $(DESTDIR)$(MANDIR)/man1/spoutbasket.1
 
 uninstall:
 	rm -f $(DESTDIR)$(BINDIR)/spoutbasket $(DESTDIR)$(INCLUDEDIR)/spoutbasket.h $(DESTDIR)$(MANDIR)/man1/spoutbasket.1
-	rm -f $(DESTDIR)$(LIBDIR)/libspoutbasket.a $(DESTDIR)$(LIBDIR)/libspoutbasket.so $(DESTDIR)$(LIBDIR)/libspoutbasket.so.$(MAJOR)
+	rm -f $(DESTDIR)$(LIBDIR)/libspoutbasket.a $(DESTDIR)$(LIBDIR)/libspoutbasket.so $(DESTDIR)$(LIBDIR)/libspoutbasket.so.$(INTERFACE)
 	rm -f $(DESTDIR)$(LIBDIR)/libspoutbasket.so.$(VERSION) $(DESTDIR)$(LIBDIR)/pkgconfig/spoutbasket.pc
 
 clean:

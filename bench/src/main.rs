@@ -8,19 +8,26 @@ mod sheet;
 use spoutbasket::{LONGEST_FILE, MOST_COLUMNS, MOST_PAYSLIPS, MOST_STEPS, MOST_VALUES};
 use spoutbasket_tests::ffi;
 use spoutbasket_tests::random::{fields, legal_chain, Chain, Random};
+use std::fmt::Debug;
 use std::hint::black_box;
 use std::time::Instant;
 
-/// The median times of an odd number of rounds, in nanoseconds, the two jobs taking turns.
-fn medians(rounds: usize, mut ours: impl FnMut(), mut theirs: impl FnMut()) -> (f64, f64) {
+/// The median times of an odd number of rounds, in nanoseconds, the two jobs taking turns. What they answer is compared, so that
+/// both have to make all of it.
+fn medians<Ours: PartialEq<Theirs> + Debug, Theirs: Debug>(
+    rounds: usize,
+    mut ours: impl FnMut() -> Ours,
+    mut theirs: impl FnMut() -> Theirs,
+) -> (f64, f64) {
     let (mut our_times, mut their_times) = (vec![], vec![]);
     for _ in 0..rounds {
         let start = Instant::now();
-        ours();
+        let our_answer = black_box(ours());
         our_times.push(start.elapsed().as_nanos());
         let start = Instant::now();
-        theirs();
+        let their_answer = black_box(theirs());
         their_times.push(start.elapsed().as_nanos());
+        assert_eq!(our_answer, their_answer);
     }
     let median = |mut times: Vec<u128>| {
         times.sort();
@@ -70,16 +77,12 @@ fn main() {
         medians(
             301,
             || {
-                assert!(
-                    ffi::verify(c.p, &c.steps, &c.outputs, black_box(&amounts), &mut scratch)
-                        .is_ok()
-                )
+                let amounts = black_box(&amounts);
+                ffi::verify(c.p, &c.steps, &c.outputs, amounts, &mut scratch).unwrap()
             },
             || {
-                assert!(
-                    plain::verify(c.p, &c.steps, &c.outputs, black_box(&amounts), &mut other)
-                        .is_ok()
-                )
+                let amounts = black_box(&amounts);
+                plain::verify(c.p, &c.steps, &c.outputs, amounts, &mut other).unwrap()
             },
         ),
     );
@@ -102,28 +105,28 @@ fn main() {
             medians(
                 1001,
                 || {
-                    assert!(ffi::run(
+                    ffi::run(
                         MOST_COLUMNS,
                         &chain.steps,
                         &chain.outputs,
                         black_box(m),
                         &bases,
                         &mut values,
-                        &mut figures
+                        &mut figures,
                     )
-                    .is_ok())
+                    .unwrap()
                 },
                 || {
-                    assert!(plain::run(
+                    plain::run(
                         MOST_COLUMNS,
                         &chain.steps,
                         &chain.outputs,
                         black_box(m),
                         &bases,
                         &mut other,
-                        &mut other_figures
+                        &mut other_figures,
                     )
-                    .is_ok())
+                    .unwrap()
                 },
             ),
         );
@@ -161,12 +164,8 @@ fn main() {
         &format!("read, a file of {LONGEST_FILE} bytes"),
         medians(
             1001,
-            || assert!(ffi::read(black_box(&bytes), &mut steps, &mut outputs).is_ok()),
-            || {
-                assert!(
-                    plain::read(black_box(&bytes), &mut other_steps, &mut other_outputs).is_ok()
-                )
-            },
+            || ffi::read(black_box(&bytes), &mut steps, &mut outputs).unwrap(),
+            || plain::read(black_box(&bytes), &mut other_steps, &mut other_outputs).unwrap(),
         ),
     );
     assert_eq!((&steps, &outputs), (&other_steps, &other_outputs));
@@ -188,10 +187,10 @@ fn pool() {
         &format!("pool of two chains of {n} steps"),
         medians(
             1001,
-            || assert!(ffi::pool(black_box(a.part()), b.part(), &mut steps, &mut outputs).is_ok()),
+            || ffi::pool(black_box(a.part()), b.part(), &mut steps, &mut outputs).unwrap(),
             || {
                 let (steps, outputs) = (&mut other_steps, &mut other_outputs);
-                assert!(plain::pool(black_box(a.part()), b.part(), steps, outputs).is_ok())
+                plain::pool(black_box(a.part()), b.part(), steps, outputs).unwrap()
             },
         ),
     );

@@ -1,5 +1,6 @@
 //! The three methods in plain Rust, written for speed: what compile and the ceiling are measured against.
 
+use crate::plain::counts;
 use spoutbasket::{MOST_COLUMNS, MOST_PAYSLIPS, MOST_STEPS};
 
 /// The count and the ceiling of a sheet, a method and a parameter that are fit.
@@ -41,7 +42,7 @@ pub fn compile(
     k: usize,
     steps: &mut [u32],
     outputs: &mut [u32],
-) -> Result<usize, (u32, usize)> {
+) -> Result<[u64; 3], (u32, usize)> {
     let (n, _) = quote(p, q, amounts, method, k)?;
     if n > MOST_STEPS {
         return Err((4, 0));
@@ -49,20 +50,26 @@ pub fn compile(
     if steps.len() / 2 < n || outputs.len() < q {
         return Err((5, 0));
     }
-    let mut steps = Steps { p, steps, n: 0 };
+    let mut steps = Steps {
+        p,
+        steps,
+        n: 0,
+        squarings: 0,
+    };
     match method {
         1 => straus(p, amounts, k, &mut steps, outputs),
         2 => yao(p, amounts, k, &mut steps, outputs),
         _ => partition(p, amounts, k, &mut steps, outputs),
     }
-    Ok(n)
+    Ok(counts(n, steps.squarings))
 }
 
-/// The steps stored so far.
+/// The steps stored so far, and how many of them are squarings.
 struct Steps<'a> {
     p: usize,
     steps: &'a mut [u32],
     n: usize,
+    squarings: usize,
 }
 
 impl Steps<'_> {
@@ -75,6 +82,7 @@ impl Steps<'_> {
         self.steps[2 * self.n] = a.max(b);
         self.steps[2 * self.n + 1] = a.min(b);
         self.n += 1;
+        self.squarings += (a == b) as usize;
         (self.p + self.n) as u32
     }
 

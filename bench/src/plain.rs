@@ -3,6 +3,11 @@
 use spoutbasket::{FIELD_BYTES, MOST_COLUMNS, MOST_PAYSLIPS, MOST_STEPS};
 use spoutbasket_tests::reference::Part;
 
+/// A chain's n, squarings and products.
+pub fn counts(n: usize, squarings: usize) -> [u64; 3] {
+    [n, squarings, n - squarings].map(|count| count as u64)
+}
+
 /// The check of a legal chain that fits: column by column over the scratch, like the library.
 pub fn verify(
     p: usize,
@@ -10,8 +15,8 @@ pub fn verify(
     outputs: &[u32],
     amounts: &[u32],
     scratch: &mut [u32],
-) -> Result<(), (u32, usize)> {
-    judge(p, steps, outputs)?;
+) -> Result<[u64; 3], (u32, usize)> {
+    let squarings = judge(p, steps, outputs)?;
     let n = steps.len() / 2;
     if amounts.len() != p * outputs.len() {
         return Err((2, 0));
@@ -47,7 +52,7 @@ pub fn verify(
     if other != usize::MAX {
         return Err((14, other));
     }
-    Ok(())
+    Ok(counts(n, squarings))
 }
 
 /// The run.
@@ -59,8 +64,8 @@ pub fn run(
     bases: &[u32],
     values: &mut [u32],
     figures: &mut [u32],
-) -> Result<usize, (u32, usize)> {
-    judge(p, steps, outputs)?;
+) -> Result<[u64; 3], (u32, usize)> {
+    let squarings = judge(p, steps, outputs)?;
     let n = steps.len() / 2;
     if m == 0 {
         return Err((15, 0));
@@ -80,7 +85,7 @@ pub fn run(
     for (figure, &o) in figures.iter_mut().zip(outputs) {
         *figure = values[o as usize];
     }
-    Ok(n)
+    Ok(counts(n, squarings))
 }
 
 /// The pool of two chains, each p, steps and outputs, judged before anything is stored.
@@ -89,7 +94,7 @@ pub fn pool(
     second: Part,
     steps: &mut [u32],
     outputs: &mut [u32],
-) -> Result<usize, (u32, usize)> {
+) -> Result<[u64; 3], (u32, usize)> {
     let ((p, steps1, outputs1), (p2, steps2, outputs2)) = (first, second);
     let (n1, q1) = (steps1.len() / 2, outputs1.len());
     let (n, q) = (n1 + steps2.len() / 2, q1 + outputs2.len());
@@ -102,8 +107,8 @@ pub fn pool(
     if n > MOST_STEPS {
         return Err((4, 0));
     }
-    judge_steps(p, steps1)?;
-    judge_steps(p, steps2).map_err(|(number, s)| (number, n1 + s))?;
+    let squarings =
+        judge_steps(p, steps1)? + judge_steps(p, steps2).map_err(|(number, s)| (number, n1 + s))?;
     judge_outputs(p + n1, outputs1)?;
     judge_outputs(p + n - n1, outputs2).map_err(|(number, i)| (number, q1 + i))?;
     if steps.len() / 2 < n || outputs.len() < q {
@@ -119,7 +124,7 @@ pub fn pool(
     for (x, &v) in outputs[q1..q].iter_mut().zip(outputs2) {
         *x = raised(v);
     }
-    Ok(n)
+    Ok(counts(n, squarings))
 }
 
 /// A sheet of packed fields, all judged before an amount is stored.
@@ -203,15 +208,17 @@ fn step(p: usize, s: usize, a: usize, b: usize) -> Result<(), (u32, usize)> {
     Ok(())
 }
 
-/// Legality: 1, 4, steps, 12.
-fn judge(p: usize, steps: &[u32], outputs: &[u32]) -> Result<(), (u32, usize)> {
+/// Legality: 1, 4, steps, 12; and the squarings, which in a caller that has no use for them are not counted.
+#[inline(always)]
+fn judge(p: usize, steps: &[u32], outputs: &[u32]) -> Result<usize, (u32, usize)> {
     let n = steps.len() / 2;
     sizes(p, outputs.len())?;
     if n > MOST_STEPS {
         return Err((4, 0));
     }
-    judge_steps(p, steps)?;
-    judge_outputs(p + n, outputs)
+    let squarings = judge_steps(p, steps)?;
+    judge_outputs(p + n, outputs)?;
+    Ok(squarings)
 }
 
 fn sizes(p: usize, q: usize) -> Result<(), (u32, usize)> {
@@ -221,11 +228,14 @@ fn sizes(p: usize, q: usize) -> Result<(), (u32, usize)> {
     Ok(())
 }
 
-fn judge_steps(p: usize, steps: &[u32]) -> Result<(), (u32, usize)> {
+#[inline(always)]
+fn judge_steps(p: usize, steps: &[u32]) -> Result<usize, (u32, usize)> {
+    let mut squarings = 0;
     for (s, pair) in steps.chunks_exact(2).enumerate() {
         step(p, s, pair[0] as usize, pair[1] as usize)?;
+        squarings += (pair[0] == pair[1]) as usize;
     }
-    Ok(())
+    Ok(squarings)
 }
 
 /// 12 for an output above the last value.
@@ -322,7 +332,7 @@ pub fn read(
     bytes: &[u8],
     steps: &mut [u32],
     outputs: &mut [u32],
-) -> Result<(usize, usize, usize), (u32, usize)> {
+) -> Result<[u64; 5], (u32, usize)> {
     if bytes.len() < 4 {
         return Err((6, 0));
     }
@@ -361,6 +371,7 @@ pub fn read(
         pending: take.pending,
         bits: take.bits,
     };
+    let mut squarings = 0;
     for s in 0..n {
         let (a, b, v) = (
             judged.field(w) as usize,
@@ -376,6 +387,7 @@ pub fn read(
         if a < b {
             return Err((11, s + 1));
         }
+        squarings += (a == b) as usize;
     }
     for i in 0..q {
         if judged.field(w) as usize > p + n {
@@ -388,5 +400,6 @@ pub fn read(
     for x in &mut outputs[..q] {
         *x = take.field(w) as u32;
     }
-    Ok((p, q, n))
+    let [n, squarings, products] = counts(n, squarings);
+    Ok([p as u64, q as u64, n, squarings, products])
 }

@@ -96,7 +96,7 @@ fn lent() -> Lent {
     }
 }
 
-fn library_compile(job: &Job, lent: &mut Lent) -> usize {
+fn library_compile(job: &Job, lent: &mut Lent) -> Vec<u64> {
     let Job {
         p,
         q,
@@ -105,11 +105,10 @@ fn library_compile(job: &Job, lent: &mut Lent) -> usize {
         parameter,
     } = job;
     let (steps, outputs) = (&mut lent.steps, &mut lent.outputs);
-    let answer = ffi::compile(*p, *q, amounts, *method, *parameter, steps, outputs);
-    answer.unwrap()[0] as usize
+    ffi::compile(*p, *q, amounts, *method, *parameter, steps, outputs).unwrap()
 }
 
-fn plain_compile(job: &Job, lent: &mut Lent) -> usize {
+fn plain_compile(job: &Job, lent: &mut Lent) -> [u64; 3] {
     methods::compile(
         job.p,
         job.q,
@@ -163,8 +162,8 @@ fn compile(jobs: &[Job], ours: &mut Lent, theirs: &mut Lent) {
         &format!("compile {}, {made}", of(&jobs[0])),
         medians(
             513,
-            || assert!(library_compile(black_box(next.next().unwrap()), ours) > 0),
-            || assert!(plain_compile(black_box(other.next().unwrap()), theirs) > 0),
+            || library_compile(black_box(next.next().unwrap()), ours),
+            || plain_compile(black_box(other.next().unwrap()), theirs),
         ),
     );
     assert_eq!(
@@ -173,31 +172,27 @@ fn compile(jobs: &[Job], ours: &mut Lent, theirs: &mut Lent) {
     );
 }
 
-/// The five calls in plain Rust.
-fn plain_path(job: &Job, m: u32, bases: &[u32], lent: &mut Lent) -> Result<usize, (u32, usize)> {
-    let n = plain_compile(job, lent);
+/// The five calls in plain Rust: the steps of compile and of read, and the multiplications made.
+fn plain_path(job: &Job, m: u32, bases: &[u32], lent: &mut Lent) -> Result<[u64; 3], (u32, usize)> {
+    let [compiled, ..] = plain_compile(job, lent);
     let length = plain::write(
         job.p,
-        &lent.steps[..2 * n],
+        &lent.steps[..2 * compiled as usize],
         &lent.outputs[..job.q],
         &mut lent.bytes,
     )?;
-    let (p, q, n) = plain::read(
+    let [p, q, n, ..] = plain::read(
         &lent.bytes[..length],
         &mut lent.read_steps,
         &mut lent.read_outputs,
     )?;
-    let (steps, outputs) = (&lent.read_steps[..2 * n], &lent.read_outputs[..q]);
+    let p = p as usize;
+    let steps = &lent.read_steps[..2 * n as usize];
+    let outputs = &lent.read_outputs[..q as usize];
     plain::verify(p, steps, outputs, &job.amounts, &mut lent.scratch)?;
-    plain::run(
-        p,
-        steps,
-        outputs,
-        m,
-        bases,
-        &mut lent.values,
-        &mut lent.figures,
-    )
+    let (values, figures) = (&mut lent.values, &mut lent.figures);
+    let [made, ..] = plain::run(p, steps, outputs, m, bases, values, figures)?;
+    Ok([compiled, n, made])
 }
 
 pub fn measure() {
@@ -209,7 +204,7 @@ pub fn measure() {
     let (mut ours, mut theirs, mut inverted) = (lent(), lent(), lent());
 
     let best = fewest(&amounts, |_| true);
-    let n = library_compile(&best, &mut ours);
+    let n = library_compile(&best, &mut ours)[0] as usize;
     let (steps, outputs) = (ours.steps[..2 * n].to_vec(), ours.outputs[..Q].to_vec());
     let plain_way = powers(by_division, m, &bases, &amounts, &mut theirs.figures);
     println!(
@@ -264,8 +259,8 @@ pub fn measure() {
         "the whole path of the best chain",
         medians(
             501,
-            || assert!(ffi::path(black_box(&best), m, &bases, &mut ours).is_ok()),
-            || assert!(plain_path(black_box(&best), m, &bases, &mut theirs).is_ok()),
+            || ffi::path(black_box(&best), m, &bases, &mut ours).unwrap(),
+            || plain_path(black_box(&best), m, &bases, &mut theirs).unwrap(),
         ),
     );
     assert_eq!(ours, theirs);

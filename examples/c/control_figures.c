@@ -1,5 +1,6 @@
 /* The control figures of a small sheet from C: compile, write, read, check and run, then the same by the one call for the whole path, the choice between
- * two files, and the ceiling by which a tariff bills. The figures are compared with a plain loop. Ends with status 1 if anything is refused or differs. */
+ * two files, the ceiling by which a tariff bills, and how many of a chain's steps are squarings. The figures are compared with a plain loop. Ends with
+ * status 1 if anything is refused or differs. */
 #include "spoutbasket.h"
 
 #include <inttypes.h>
@@ -26,7 +27,7 @@ static uint32_t scratch[SPOUTBASKET_MOST_VALUES];
 static uint32_t values[SPOUTBASKET_MOST_VALUES];
 
 /* Whether a call was refused, and if so which and where. */
-static int refused(const char *call, uint32_t number, const uint64_t answer[4])
+static int refused(const char *call, uint32_t number, const uint64_t answer[8])
 {
     if (number != SPOUTBASKET_DONE)
         fprintf(stderr, "%s refused %" PRIu32 ", place %" PRIu64 "\n", call, number, answer[0]);
@@ -36,7 +37,7 @@ static int refused(const char *call, uint32_t number, const uint64_t answer[4])
 /* The sheet compiled by a method, and the chain's file: 0, or 1 if refused. */
 static int make(size_t method, size_t parameter, struct chain *c)
 {
-    uint64_t answer[4];
+    uint64_t answer[8];
     uint32_t number = spoutbasket_compile(P, Q, amounts, P * Q, method, parameter,
                                           c->steps, 2 * SPOUTBASKET_MOST_STEPS, c->outputs, SPOUTBASKET_MOST_PAYSLIPS, answer);
     if (refused("compile", number, answer))
@@ -52,7 +53,7 @@ static int make(size_t method, size_t parameter, struct chain *c)
 /* Whether a chain has as many steps as its method takes for the sheet, and no more than the ceiling. */
 static int keeps_to_ceiling(size_t method, size_t parameter, const struct chain *c)
 {
-    uint64_t answer[4];
+    uint64_t answer[8];
     uint32_t number = spoutbasket_ceiling(P, Q, amounts, P * Q, method, parameter, answer);
     if (refused("ceiling", number, answer))
         return 0;
@@ -63,7 +64,7 @@ static int keeps_to_ceiling(size_t method, size_t parameter, const struct chain 
 /* A receiver's side: the file read, the chain checked against the sheet and run. 0, or 1 if refused. */
 static int receive(const struct chain *from, struct chain *c, uint32_t figures[Q])
 {
-    uint64_t answer[4];
+    uint64_t answer[8];
     uint32_t number = spoutbasket_read(from->bytes, from->length,
                                        c->steps, 2 * SPOUTBASKET_MOST_STEPS, c->outputs, SPOUTBASKET_MOST_PAYSLIPS, answer);
     if (refused("read", number, answer))
@@ -79,6 +80,7 @@ static int receive(const struct chain *from, struct chain *c, uint32_t figures[Q
     number = spoutbasket_verify(c->p, c->steps, 2 * c->n, c->outputs, c->q, amounts, P * Q, scratch, SPOUTBASKET_VALUES(c->p, c->n), answer);
     if (refused("check", number, answer))
         return 1;
+    printf("%" PRIu64 " steps passed: %" PRIu64 " squarings and %" PRIu64 " products\n", answer[0], answer[1], answer[2]);
     number = spoutbasket_run(c->p, c->steps, 2 * c->n, c->outputs, c->q, modulus, bases, P,
                              values, SPOUTBASKET_VALUES(c->p, c->n), figures, Q, answer);
     if (refused("run", number, answer))
@@ -90,7 +92,7 @@ static int receive(const struct chain *from, struct chain *c, uint32_t figures[Q
 /* The same figures by the one call for the whole path. */
 static int whole_path(size_t method, size_t parameter, uint32_t figures[Q])
 {
-    uint64_t answer[4];
+    uint64_t answer[8];
     uint32_t number = spoutbasket_path(P, Q, amounts, P * Q, method, parameter, modulus, bases, P,
                                        sent.steps, 2 * SPOUTBASKET_MOST_STEPS, sent.outputs, SPOUTBASKET_MOST_PAYSLIPS,
                                        sent.bytes, SPOUTBASKET_LONGEST_FILE,
@@ -102,7 +104,7 @@ static int whole_path(size_t method, size_t parameter, uint32_t figures[Q])
 /* Whether the shorter of two files is chosen. The chain received serves as scratch. */
 static int choose_shorter(const struct chain *a, const struct chain *b)
 {
-    uint64_t answer[4];
+    uint64_t answer[8];
     uint32_t number = spoutbasket_choose(P, Q, amounts, P * Q, a->bytes, a->length, b->bytes, b->length,
                                          received.steps, 2 * SPOUTBASKET_MOST_STEPS, received.outputs, SPOUTBASKET_MOST_PAYSLIPS,
                                          scratch, SPOUTBASKET_MOST_VALUES, answer);

@@ -8,7 +8,7 @@
 static int lists(const uint8_t *bytes, size_t bytes_len, const char *expected)
 {
     uint8_t text[SPOUTBASKET_LONGEST_LISTING];
-    uint64_t answer[4];
+    uint64_t answer[8];
     size_t length;
     spoutbasket_list(bytes, bytes_len, text, answer);
     length = (size_t)answer[0];

@@ -19,7 +19,7 @@ static uint32_t run(const uint32_t amounts[FIELDS], uint32_t figures[Q])
 {
     static const uint32_t bases[P] = {3, 5};
     uint32_t outputs[Q];
-    uint64_t answer[4];
+    uint64_t answer[8];
     uint32_t number = spoutbasket_compile(P, Q, amounts, FIELDS, SPOUTBASKET_STRAUS, 1, steps, 2 * SPOUTBASKET_MOST_STEPS, outputs, Q, answer);
     if (number != SPOUTBASKET_DONE)
         return number;
@@ -30,7 +30,7 @@ int main(void)
 {
     uint8_t back[BYTES], expected[BYTES];
     uint32_t amounts[FIELDS], figures[Q], number;
-    uint64_t answer[4], field;
+    uint64_t answer[8], field;
     if (spoutbasket_unpack(P, Q, sent, BYTES, amounts, FIELDS, answer) != SPOUTBASKET_DONE || run(amounts, figures) != SPOUTBASKET_DONE)
         return 1;
     printf("%" PRIu64 " fields, figures %" PRIu32 " and %" PRIu32 "\n", answer[0], figures[0], figures[1]);

@@ -11,10 +11,10 @@ enum { MOST_AMOUNTS = SPOUTBASKET_MOST_COLUMNS * SPOUTBASKET_MOST_PAYSLIPS };
 static uint32_t amounts[MOST_AMOUNTS];
 
 /* A fault, as `line 2, column 7: decimal point or grouping mark`, and what was found and wanted. */
-static void print_fault(uint32_t number, const uint64_t place[4])
+static void print_fault(uint32_t number, const uint64_t place[8])
 {
     uint8_t words[SPOUTBASKET_LONGEST_PHRASE];
-    uint64_t answer[4];
+    uint64_t answer[8];
     spoutbasket_phrase(number, words, sizeof words, answer);
     printf("line %" PRIu64 ", column %" PRIu64 ": %.*s", place[0], place[1], (int)answer[0], (const char *)words);
     switch (number) {
@@ -35,7 +35,7 @@ static void print_fault(uint32_t number, const uint64_t place[4])
 /* Prints each payslip's sum, or the fault. Returns the fault's number, or 0. */
 static uint32_t print_sums(const void *text, size_t length)
 {
-    uint64_t answer[4];
+    uint64_t answer[8];
     size_t p, q, payslip, column;
     uint32_t number = spoutbasket_table((const uint8_t *)text, length, amounts, MOST_AMOUNTS, answer);
     if (number != SPOUTBASKET_DONE) {

@@ -59,8 +59,9 @@ fn batch(sheet: &Sheet) -> Result<(), Box<dyn Error>> {
     let bases = &BASES[..p];
     let run = chain.run(MODULUS, bases)?;
     println!(
-        "Run: {} multiplications modulo {MODULUS}; with one power for each amount it would be {}.",
-        run.multiplications,
+        "Run: {} multiplications modulo {MODULUS}, {} of them squarings; with one power for each amount it would be {}.",
+        run.counts.steps,
+        run.counts.squarings,
         plain_multiplications(sheet)
     );
     for (i, figure) in run.figures.iter().take(4).enumerate() {

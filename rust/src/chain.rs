@@ -1,5 +1,5 @@
 use crate::refusal::answer;
-use crate::{slices, Extent, Reason, Refusal, Sheet};
+use crate::{slices, Counts, Extent, Reason, Refusal, Sheet};
 use crate::{MOST_PAYSLIPS, MOST_STEPS, MOST_VALUES};
 
 /// A multiplication chain, whoever made it.
@@ -34,8 +34,8 @@ pub struct Chain {
 pub struct Run {
     /// The control figures, one for each payslip.
     pub figures: Vec<u32>,
-    /// The multiplications made, one for each step.
-    pub multiplications: usize,
+    /// The multiplications made, one for each step, and how many of them were squarings.
+    pub counts: Counts,
 }
 
 impl Chain {
@@ -107,15 +107,40 @@ impl Chain {
     /// # }
     /// ```
     pub fn from_file(bytes: &[u8]) -> Result<Chain, Refusal> {
+        Chain::from_file_counted(bytes).map(|(chain, _)| chain)
+    }
+
+    /// As [`Chain::from_file`], with the counts that the reader answers.
+    ///
+    /// # Errors
+    ///
+    /// Those of [`Chain::from_file`].
+    ///
+    /// ```
+    /// use spoutbasket::{Chain, Counts};
+    ///
+    /// # fn main() -> Result<(), spoutbasket::Refusal> {
+    /// let (chain, counts) = Chain::from_file_counted(&[0x11, 0x00, 0x00, 0x34, 0x5b, 0x86, 0x80])?;
+    /// assert_eq!(chain.steps, [[2, 1], [3, 3], [4, 1]]);
+    /// assert_eq!(counts, Counts { steps: 3, squarings: 1, products: 2 });
+    /// # Ok(())
+    /// # }
+    /// ```
+    pub fn from_file_counted(bytes: &[u8]) -> Result<(Chain, Counts), Refusal> {
         let mut lent = Lent::new(MOST_PAYSLIPS);
-        let [columns, payslips, n, _] = answer(|words| {
+        let [columns, payslips, steps, squarings, products, ..] = answer(|words| {
             let steps = lent.steps.as_flattened_mut();
             slices::read(bytes, steps, &mut lent.outputs, words)
         })?;
-        Ok(lent.chain(columns, payslips, n))
+        let counts = Counts {
+            steps,
+            squarings,
+            products,
+        };
+        Ok((lent.chain(columns, payslips, steps), counts))
     }
 
-    /// Checks that the chain is legal and makes the sheet, with no exponent above the largest amount on the way.
+    /// Checks that the chain is legal and makes the sheet, with no exponent above the largest amount on the way. Its counts, if it passes.
     ///
     /// # Errors
     ///
@@ -127,16 +152,16 @@ impl Chain {
     ///
     /// # fn main() -> Result<(), spoutbasket::Refusal> {
     /// let sheet = Sheet::new(2, 2, [3, 2, 0, 7])?;
-    /// let mut chain = sheet.compile(Method::Partition(4))?;
-    /// chain.check(&sheet)?;
+    /// let (mut chain, counts) = sheet.compile_counted(Method::Partition(4))?;
+    /// assert_eq!(chain.check(&sheet)?, counts);
     /// chain.outputs.swap(0, 1);
     /// assert_eq!(chain.check(&sheet).unwrap_err().to_string().split(':').next(), Some("refused 14 at payslip 1"));
     /// # Ok(())
     /// # }
     /// ```
-    pub fn check(&self, sheet: &Sheet) -> Result<(), Refusal> {
+    pub fn check(&self, sheet: &Sheet) -> Result<Counts, Refusal> {
         let mut scratch = vec![0; self.values()];
-        answer(|words| {
+        let counts = Counts::answered(|words| {
             slices::verify(
                 self.columns,
                 self.steps.as_flattened(),
@@ -150,7 +175,7 @@ impl Chain {
         if self.columns != sheet.columns() {
             return Err(Reason::Payslip.into());
         }
-        Ok(())
+        Ok(counts)
     }
 
     /// The control figures over a receiver's modulus, at least 1, and bases, one below the modulus for each column.
@@ -166,7 +191,8 @@ impl Chain {
     /// let chain = Chain { columns: 2, steps: vec![[2, 1], [3, 3], [4, 1]], outputs: vec![5, 0] };
     /// let run = chain.run(1_000, &[3, 5])?;
     /// assert_eq!(run.figures, [675, 1]);
-    /// assert_eq!(run.multiplications, 3);
+    /// // three multiplications, of which one squares
+    /// assert_eq!((run.counts.steps, run.counts.squarings, run.counts.products), (3, 1, 2));
     /// assert_eq!(chain.run(5, &[3, 5]).unwrap_err().number(), 16);
     /// # Ok(())
     /// # }
@@ -174,7 +200,7 @@ impl Chain {
     pub fn run(&self, modulus: u32, bases: &[u32]) -> Result<Run, Refusal> {
         let mut values = vec![0; self.values()];
         let mut figures = vec![0; self.outputs.len()];
-        let [multiplications, ..] = answer(|words| {
+        let counts = Counts::answered(|words| {
             slices::run(
                 self.columns,
                 self.steps.as_flattened(),
@@ -186,10 +212,7 @@ impl Chain {
                 words,
             )
         })?;
-        Ok(Run {
-            figures,
-            multiplications,
-        })
+        Ok(Run { figures, counts })
     }
 
     /// The pool with a second chain over the same columns: the steps and payslips of this one, then those of the second. It makes the two sheets one
@@ -218,8 +241,29 @@ impl Chain {
     /// # }
     /// ```
     pub fn pool(&self, second: &Chain) -> Result<Chain, Refusal> {
+        self.pool_counted(second).map(|(chain, _)| chain)
+    }
+
+    /// As [`Chain::pool`], with the counts of the pool, which are those of the two chains together.
+    ///
+    /// # Errors
+    ///
+    /// Those of [`Chain::pool`].
+    ///
+    /// ```
+    /// use spoutbasket::{Counts, Method, Sheet};
+    ///
+    /// # fn main() -> Result<(), spoutbasket::Refusal> {
+    /// let first = Sheet::new(2, 1, [3, 2])?.compile(Method::Straus(1))?;
+    /// let second = Sheet::new(2, 2, [0, 0, 2, 1])?.compile(Method::Yao(1))?;
+    /// let (_, counts) = first.pool_counted(&second)?;
+    /// assert_eq!(counts, Counts { steps: 5, squarings: 2, products: 3 });
+    /// # Ok(())
+    /// # }
+    /// ```
+    pub fn pool_counted(&self, second: &Chain) -> Result<(Chain, Counts), Refusal> {
         let mut lent = Lent::new(MOST_PAYSLIPS);
-        let [n, ..] = answer(|words| {
+        let counts = Counts::answered(|words| {
             slices::pool(
                 self.columns,
                 self.steps.as_flattened(),
@@ -233,7 +277,7 @@ impl Chain {
             )
         })?;
         let payslips = self.outputs.len() + second.outputs.len();
-        Ok(lent.chain(self.columns, payslips, n))
+        Ok((lent.chain(self.columns, payslips, counts.steps), counts))
     }
 
     /// The number of values. A chain with more than the most is refused before its values are looked for.

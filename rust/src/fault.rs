@@ -171,16 +171,16 @@ impl From<SheetError> for io::Error {
     }
 }
 
-/// Reads a text into as many numbers as there is room for, by a call of the library that returns a fault's number or 0 and writes four words. The
+/// Reads a text into as many numbers as there is room for, by a call of the library that returns a fault's number or 0 and writes eight words. The
 /// values that it answers, and the numbers.
 pub(crate) fn read(
     text: &[u8],
     room: usize,
-    call: impl FnOnce(&[u8], &mut [u32], &mut [u64; 4]) -> u32,
-) -> Result<([usize; 4], Vec<u32>), TextFault> {
-    let (mut numbers, mut words) = (vec![0; room], [0; 4]);
+    call: impl FnOnce(&[u8], &mut [u32], &mut [u64; 8]) -> u32,
+) -> Result<([usize; 8], Vec<u32>), TextFault> {
+    let (mut numbers, mut words) = (vec![0; room], [0; 8]);
     let number = call(text, &mut numbers, &mut words);
-    let [line, column, found, wanted] = words;
+    let [line, column, found, wanted, ..] = words;
     match number {
         0 => Ok((words.map(|word| word as usize), numbers)),
         _ => Err(TextFault {

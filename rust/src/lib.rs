@@ -1,6 +1,7 @@
 //! Payslip sheets compiled into multiplication chains, their files, their check and their control figures: a safe wrapper over the proved library.
 //!
 //! A [`Sheet`] becomes a [`Chain`] by a [`Method`]; a chain has one file, is checked against a sheet and is run over a receiver's bases and modulus.
+//! What a chain costs whoever runs it is told by its [`Counts`]: its steps, and of these the squarings and the products.
 //! What a method takes for a sheet is [reckoned](Sheet::ceiling) beforehand: its steps, and the ceiling by which a tariff bills.
 //! Two chains over the same columns [pool](Chain::pool) into one.
 //! A sheet is read from packed decimal, as ledger hosts hold amounts, and [written](Sheet::to_packed) as that.
@@ -17,7 +18,8 @@
 //!
 //! // the receiver's side: 3³ · 5² modulo 1,000
 //! let chain = Chain::from_file(&file)?;
-//! chain.check(&sheet)?;
+//! let counts = chain.check(&sheet)?;
+//! assert_eq!((counts.steps, counts.squarings, counts.products), (3, 1, 2));
 //! assert_eq!(chain.run(1_000, &[3, 5])?.figures, [675]);
 //! # Ok(())
 //! # }
@@ -44,8 +46,10 @@ macro_rules! error_in_words {
 
 mod chain;
 mod choose;
+mod counts;
 mod extent;
 mod fault;
+mod figures;
 mod keys;
 mod listing;
 mod method;
@@ -59,8 +63,10 @@ pub mod slices;
 
 pub use chain::{Chain, Run};
 pub use choose::choose;
+pub use counts::Counts;
 pub use extent::Extent;
 pub use fault::{numbers, SheetError, TextFault};
+pub use figures::Figures;
 pub use keys::Keys;
 pub use listing::{list, list_text, Listing};
 pub use method::Method;

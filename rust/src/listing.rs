@@ -108,7 +108,7 @@ pub fn list(bytes: &[u8]) -> Result<Listing, Refusal> {
 /// ```
 #[must_use]
 pub fn list_text(bytes: &[u8]) -> String {
-    let (mut text, mut words) = ([0; LONGEST_LISTING], [0; 4]);
+    let (mut text, mut words) = ([0; LONGEST_LISTING], [0; 8]);
     // a file that is refused is so in the text alone
     let _ = slices::list(bytes, &mut text, &mut words);
     String::from_utf8_lossy(&text[..words[0] as usize]).into_owned()

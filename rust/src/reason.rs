@@ -144,7 +144,7 @@ fn phrase(number: u32) -> &'static str {
     let known = PHRASES.get(number as usize).map(|cell| (number, cell));
     let (number, cell) = known.unwrap_or((0, &PHRASES[0]));
     cell.get_or_init(|| {
-        let (mut text, mut words) = ([0; LONGEST_PHRASE], [0; 4]);
+        let (mut text, mut words) = ([0; LONGEST_PHRASE], [0; 8]);
         // there is room for every phrase
         let _ = slices::phrase(number, &mut text, &mut words);
         String::from_utf8_lossy(&text[..words[0] as usize]).into_owned()

@@ -81,9 +81,9 @@ impl From<Refusal> for io::Error {
     }
 }
 
-/// Makes a call of the library, which returns a refusal's number or 0 and writes four words, and tells the values that it answers.
-pub(crate) fn answer(call: impl FnOnce(&mut [u64; 4]) -> u32) -> Result<[usize; 4], Refusal> {
-    let mut words = [0; 4];
+/// Makes a call of the library, which returns a refusal's number or 0 and writes eight words, and tells the values that it answers.
+pub(crate) fn answer(call: impl FnOnce(&mut [u64; 8]) -> u32) -> Result<[usize; 8], Refusal> {
+    let mut words = [0; 8];
     let number = call(&mut words);
     let words = words.map(|word| word as usize);
     match number {

@@ -1,6 +1,7 @@
 use crate::chain::Lent;
 use crate::refusal::answer;
-use crate::{fault, numbers, slices, Chain, Method, Quote, Reason, Refusal, Run, SheetError};
+use crate::SheetError;
+use crate::{fault, numbers, slices, Chain, Counts, Figures, Method, Quote, Reason, Refusal};
 use crate::{LONGEST_FILE, MOST_COLUMNS, MOST_PAYSLIPS, MOST_VALUES};
 use std::slice::ChunksExact;
 
@@ -206,9 +207,30 @@ impl Sheet {
     /// # }
     /// ```
     pub fn compile(&self, method: Method) -> Result<Chain, Refusal> {
+        self.compile_counted(method).map(|(chain, _)| chain)
+    }
+
+    /// As [`compile`](Sheet::compile), with the chain's counts.
+    ///
+    /// # Errors
+    ///
+    /// Those of [`compile`](Sheet::compile).
+    ///
+    /// ```
+    /// use spoutbasket::{Counts, Method, Sheet};
+    ///
+    /// # fn main() -> Result<(), spoutbasket::Refusal> {
+    /// let (chain, counts) = Sheet::new(2, 1, [3, 2])?.compile_counted(Method::Straus(1))?;
+    /// // the second step squares
+    /// assert_eq!(chain.steps, [[2, 1], [3, 3], [4, 1]]);
+    /// assert_eq!(counts, Counts { steps: 3, squarings: 1, products: 2 });
+    /// # Ok(())
+    /// # }
+    /// ```
+    pub fn compile_counted(&self, method: Method) -> Result<(Chain, Counts), Refusal> {
         let (number, parameter) = method.numbers();
         let mut lent = Lent::new(self.payslips);
-        let [n, ..] = answer(|words| {
+        let counts = Counts::answered(|words| {
             slices::compile(
                 self.columns,
                 self.payslips,
@@ -220,7 +242,8 @@ impl Sheet {
                 words,
             )
         })?;
-        Ok(lent.chain(self.columns, self.payslips, n))
+        let chain = lent.chain(self.columns, self.payslips, counts.steps);
+        Ok((chain, counts))
     }
 
     /// The steps that a method takes for the sheet, and its ceiling, without making the chain: one that is too long to compile is counted too. In the
@@ -278,15 +301,36 @@ impl Sheet {
     /// # }
     /// ```
     pub fn best(&self) -> Result<(Method, Chain), Refusal> {
-        let mut best: Option<(Method, Chain)> = None;
+        self.best_counted()
+            .map(|(method, chain, _)| (method, chain))
+    }
+
+    /// As [`best`](Sheet::best), with the chain's counts.
+    ///
+    /// # Errors
+    ///
+    /// Those of [`best`](Sheet::best).
+    ///
+    /// ```
+    /// use spoutbasket::{Counts, Sheet};
+    ///
+    /// # fn main() -> Result<(), spoutbasket::Refusal> {
+    /// let sheet = Sheet::from_rows([[3, 0, 2], [1, 2, 0], [0, 0, 2], [3, 2, 1]])?;
+    /// let (_, _, counts) = sheet.best_counted()?;
+    /// assert_eq!(counts, Counts { steps: 9, squarings: 3, products: 6 });
+    /// # Ok(())
+    /// # }
+    /// ```
+    pub fn best_counted(&self) -> Result<(Method, Chain, Counts), Refusal> {
+        let mut best: Option<(Method, Chain, Counts)> = None;
         for method in Method::all() {
-            match self.compile(method) {
-                Ok(chain) => {
+            match self.compile_counted(method) {
+                Ok((chain, counts)) => {
                     if best
                         .as_ref()
-                        .map_or(true, |(_, shortest)| chain.n() < shortest.n())
+                        .map_or(true, |(_, _, fewest)| counts.steps < fewest.steps)
                     {
-                        best = Some((method, chain));
+                        best = Some((method, chain, counts));
                     }
                 }
                 // not a parameter for as many columns, or a chain that is too long
@@ -307,17 +351,17 @@ impl Sheet {
     /// use spoutbasket::{Method, Sheet};
     ///
     /// # fn main() -> Result<(), spoutbasket::Refusal> {
-    /// let run = Sheet::new(2, 1, [3, 2])?.figures(Method::Yao(1), 1_000, &[3, 5])?;
-    /// assert_eq!(run.figures, [675]);
-    /// assert_eq!(run.multiplications, 4);
+    /// let path = Sheet::new(2, 1, [3, 2])?.figures(Method::Yao(1), 1_000, &[3, 5])?;
+    /// assert_eq!(path.figures, [675]);
+    /// assert_eq!(path.multiplications, 4);
     /// # Ok(())
     /// # }
     /// ```
-    pub fn figures(&self, method: Method, modulus: u32, bases: &[u32]) -> Result<Run, Refusal> {
+    pub fn figures(&self, method: Method, modulus: u32, bases: &[u32]) -> Result<Figures, Refusal> {
         let (number, parameter) = method.numbers();
         let (mut compiled, mut received) = (Lent::new(self.payslips), Lent::new(self.payslips));
         let mut figures = vec![0; self.payslips];
-        let [_, _, multiplications, _] = answer(|words| {
+        let [_, _, multiplications, ..] = answer(|words| {
             slices::path(
                 self.columns,
                 self.payslips,
@@ -337,7 +381,7 @@ impl Sheet {
                 words,
             )
         })?;
-        Ok(Run {
+        Ok(Figures {
             figures,
             multiplications,
         })

@@ -108,10 +108,11 @@ fn best() -> Result<(), Refusal> {
             .collect();
         let fewest = counts.iter().map(|count| count.0).min().unwrap();
         let first = counts.iter().find(|count| count.0 == fewest).unwrap().1;
-        let (method, chain) = sheet.best()?;
+        let (method, chain, counts) = sheet.best_counted()?;
         assert_eq!((method, chain.n()), (first, fewest));
-        assert_eq!(chain, sheet.compile(method)?);
-        chain.check(&sheet)?;
+        assert_eq!(chain.check(&sheet)?, counts);
+        assert_eq!((chain, counts), sheet.compile_counted(method)?);
+        assert_eq!(sheet.best()?, (method, sheet.compile(method)?));
     }
     Ok(())
 }
@@ -137,5 +138,6 @@ fn too_long_for_some() -> Result<(), Refusal> {
     assert_eq!(sheet.ceiling(Method::Yao(1))?, quote);
     let (method, chain) = sheet.best()?;
     assert!(matches!(method, Method::Partition(_)), "{method}");
-    chain.check(&sheet)
+    chain.check(&sheet)?;
+    Ok(())
 }

@@ -67,9 +67,9 @@ fn too_many_steps() -> Result<(), Refusal> {
 /// 5: two pairs for case A. The wrapper's own calls lend enough; the library's functions take what they are lent.
 #[test]
 fn too_little_room() {
-    let (mut steps, mut outputs, mut answer) = ([7; 4], [7], [7; 4]);
+    let (mut steps, mut outputs, mut answer) = ([7; 4], [7], [7; 8]);
     let number = slices::compile(2, 1, &[3, 2], 1, 1, &mut steps, &mut outputs, &mut answer);
-    assert_eq!((number, steps, outputs, answer), (5, [7; 4], [7], [0; 4]));
+    assert_eq!((number, steps, outputs, answer), (5, [7; 4], [7], [0; 8]));
 }
 
 /// 6 to 8: bytes that are no file.

@@ -1,27 +1,30 @@
 //! Worked examples A and J through the wrapper.
-use spoutbasket::{choose, Chain, Method, Refusal, Sheet};
+use spoutbasket::{choose, Chain, Counts, Figures, Method, Refusal, Sheet};
 use spoutbasket::{MOST_COLUMNS, MOST_PAYSLIPS, MOST_STEPS, MOST_VALUES};
 
 const FILE_A: [u8; 7] = [0x11, 0x00, 0x00, 0x34, 0x5b, 0x86, 0x80];
 
-/// The figures by compile, write, read, check and run, each on what the one before it gave.
+/// The figures by compile, write, read, check and run, each on what the one before it gave. All of them have the same counts of the chain.
 fn figures(
     sheet: &Sheet,
     method: Method,
     modulus: u32,
     bases: &[u32],
 ) -> Result<Vec<u32>, Refusal> {
-    let chain = sheet.compile(method)?;
-    let read = Chain::from_file(&chain.to_file()?)?;
-    assert_eq!(read, chain, "{method}");
-    read.check(sheet)?;
+    let (chain, counts) = sheet.compile_counted(method)?;
+    assert_eq!(counts.steps, chain.n(), "{method}");
+    assert_eq!(counts.squarings + counts.products, chain.n(), "{method}");
+    let read = Chain::from_file_counted(&chain.to_file()?)?;
+    assert_eq!(read, (chain, counts), "{method}");
+    let (read, _) = read;
+    assert_eq!(read.check(sheet)?, counts, "{method}");
     let run = read.run(modulus, bases)?;
-    assert_eq!(run.multiplications, chain.n(), "{method}");
-    assert_eq!(
-        sheet.figures(method, modulus, bases),
-        Ok(run.clone()),
-        "{method}"
-    );
+    assert_eq!(run.counts, counts, "{method}");
+    let path = Figures {
+        figures: run.figures.clone(),
+        multiplications: counts.steps,
+    };
+    assert_eq!(sheet.figures(method, modulus, bases), Ok(path), "{method}");
     Ok(run.figures)
 }
 
@@ -40,6 +43,14 @@ fn trial_a() -> Result<(), Refusal> {
     assert_eq!(chain.to_file()?, FILE_A);
     assert_eq!(Chain::from_file(&FILE_A)?, chain);
     assert_eq!(Chain::try_from(&FILE_A[..])?, chain);
+    let counts = Counts {
+        steps: 3,
+        squarings: 1,
+        products: 2,
+    };
+    assert_eq!(chain.check(&sheet), Ok(counts));
+    let (_, twice) = chain.pool_counted(&chain)?;
+    assert_eq!((twice.steps, twice.squarings, twice.products), (6, 2, 4));
     assert_eq!(figures(&sheet, Method::Straus(1), 1_000, &[3, 5])?, [675]);
     Ok(())
 }

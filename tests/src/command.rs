@@ -9,7 +9,7 @@ pub const WEEK: &str = "3 4\n3 0 2\n1 2 0\n0 0 2\n3 2 1\n";
 pub const WEEK_AMOUNTS: [u32; 12] = [3, 0, 2, 1, 2, 0, 0, 0, 2, 3, 2, 1];
 pub const KEYS: &str = "10000\n3 5 7\n";
 /// What the check says of the week's shortest chain.
-pub const PASSED: &str = "passed: 3 columns, 4 payslips, 9 steps\n";
+pub const PASSED: &str = "passed: 3 columns, 4 payslips, 9 steps: 3 squarings, 6 products\n";
 
 /// The commands, in the order of the help.
 pub const COMMANDS: [&str; 10] = [
@@ -42,6 +42,27 @@ pub fn count(number: usize, thing: &str) -> String {
         1 => format!("1 {thing}"),
         _ => format!("{number} {thing}s"),
     }
+}
+
+/// A chain's counts as the command says them, the steps by some name.
+pub fn counts(step: &str, counts: &[u64]) -> String {
+    let things = [step, "squaring", "product"];
+    let counts = counts.iter().zip(things);
+    let words: Vec<String> = counts
+        .map(|(&number, thing)| count(number as usize, thing))
+        .collect();
+    format!("{}: {}", words[0], words[1..].join(", "))
+}
+
+/// The same counts as fields of an object.
+pub fn counts_json(steps: &str, counts: &[u64]) -> String {
+    let names = [steps, "squarings", "products"];
+    let fields: Vec<String> = counts
+        .iter()
+        .zip(names)
+        .map(|(number, name)| format!("\"{name}\":{number}"))
+        .collect();
+    fields.join(",")
 }
 
 /// How a run ended.

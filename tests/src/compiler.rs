@@ -1,7 +1,7 @@
 //! The three methods in plain Rust, from the specification's words: the chain that a method makes of a sheet, and apart from the chain
 //! its count and its ceiling by the closed formulas.
 
-use crate::reference::{length, sizes, Answer, MOST_STEPS};
+use crate::reference::{counts, length, sizes, Answer, MOST_STEPS};
 
 /// What compile is asked for: a sheet, a method and a parameter.
 #[derive(Clone, Debug)]
@@ -33,6 +33,11 @@ impl Job {
     /// The chain, where sheet, method and parameter are fit.
     pub fn chain(&self) -> (Vec<(u32, u32)>, Vec<u32>) {
         make(self.p, self.q, &self.amounts, self.method, self.parameter)
+    }
+
+    /// The chain's n, squarings and products.
+    pub fn counts(&self) -> Vec<u64> {
+        counts(&self.chain().0)
     }
 
     pub fn count(&self) -> usize {
@@ -446,9 +451,9 @@ pub fn compile(
     }
     let (made, outs) = make(p, q, amounts, method, parameter);
     assert_eq!(made.len(), n, "the count is the number of steps");
-    for (cells, (first, second)) in steps.chunks_exact_mut(2).zip(made) {
+    for (cells, &(first, second)) in steps.chunks_exact_mut(2).zip(&made) {
         cells.copy_from_slice(&[first, second]);
     }
     outputs[..q].copy_from_slice(&outs);
-    Ok(vec![n as u64])
+    Ok(counts(&made))
 }

@@ -3,9 +3,9 @@
 use crate::reference::{Answer, Job, Lent, Part};
 use spoutbasket::{slices, LONGEST_LISTING};
 
-// The answer behind the number that a call returns and the four words that it writes, of which the first `values` are the call's.
-fn answer(values: usize, call: impl FnOnce(&mut [u64; 4]) -> u32) -> Answer {
-    let mut words = [7; 4];
+// The answer behind the number that a call returns and the eight words that it writes, of which the first `values` are the call's.
+fn answer(values: usize, call: impl FnOnce(&mut [u64; 8]) -> u32) -> Answer {
+    let mut words = [7; 8];
     let number = call(&mut words);
     let used = if number == 0 { values } else { 1 };
     assert!(words[used..].iter().all(|&w| w == 0), "unused words are 0");
@@ -23,7 +23,7 @@ pub fn verify(
     amounts: &[u32],
     scratch: &mut [u32],
 ) -> Answer {
-    answer(0, |words| {
+    answer(3, |words| {
         slices::verify(p, steps, outputs, amounts, scratch, words)
     })
 }
@@ -37,7 +37,7 @@ pub fn run(
     values: &mut [u32],
     figures: &mut [u32],
 ) -> Answer {
-    answer(1, |words| {
+    answer(3, |words| {
         slices::run(p, steps, outputs, m, bases, values, figures, words)
     })
 }
@@ -50,7 +50,7 @@ pub fn verify_pairs(
     amounts: &[u32],
     scratch: &mut [u32],
 ) -> Answer {
-    answer(0, |words| {
+    answer(3, |words| {
         slices::verify_pairs(p, steps, outputs, amounts, scratch, words)
     })
 }
@@ -65,7 +65,7 @@ pub fn run_pairs(
     values: &mut [u32],
     figures: &mut [u32],
 ) -> Answer {
-    answer(1, |words| {
+    answer(3, |words| {
         slices::run_pairs(p, steps, outputs, m, bases, values, figures, words)
     })
 }
@@ -79,14 +79,14 @@ pub fn write(p: usize, steps: &[u32], outputs: &[u32], bytes: &mut [u8]) -> Answ
 }
 
 /// The number and the words of a read, without making an answer of them.
-pub fn read_words(bytes: &[u8], steps: &mut [u32], outputs: &mut [u32]) -> (u32, [u64; 4]) {
-    let mut words = [7; 4];
+pub fn read_words(bytes: &[u8], steps: &mut [u32], outputs: &mut [u32]) -> (u32, [u64; 8]) {
+    let mut words = [7; 8];
     let number = slices::read(bytes, steps, outputs, &mut words);
     (number, words)
 }
 
 pub fn read(bytes: &[u8], steps: &mut [u32], outputs: &mut [u32]) -> Answer {
-    answer(3, |words| slices::read(bytes, steps, outputs, words))
+    answer(5, |words| slices::read(bytes, steps, outputs, words))
 }
 
 pub fn pool(
@@ -95,7 +95,7 @@ pub fn pool(
     steps: &mut [u32],
     outputs: &mut [u32],
 ) -> Answer {
-    answer(1, |words| {
+    answer(3, |words| {
         slices::pool(
             p1, steps1, outputs1, p2, steps2, outputs2, steps, outputs, words,
         )
@@ -144,7 +144,7 @@ pub fn compile(
     steps: &mut [u32],
     outputs: &mut [u32],
 ) -> Answer {
-    answer(1, |words| {
+    answer(3, |words| {
         slices::compile(p, q, amounts, method, parameter, steps, outputs, words)
     })
 }

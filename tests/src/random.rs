@@ -1,7 +1,7 @@
 //! Random numbers from a fixed seed, random chains, sheets, packed fields, moduli and bases.
 
 use crate::compiler::{jobs, methods, Job};
-use crate::reference::{exponents, pairs, Part, FIELD_BYTES};
+use crate::reference::{counts, exponents, pairs, Part, FIELD_BYTES};
 use crate::reference::{MOST_AMOUNT, MOST_COLUMNS, MOST_PAYSLIPS};
 
 /// splitmix64.
@@ -55,6 +55,11 @@ impl Chain {
     /// The chain as a part of a pool.
     pub fn part(&self) -> Part<'_> {
         (self.p, &self.steps, &self.outputs)
+    }
+
+    /// The chain's n, squarings and products.
+    pub fn counts(&self) -> Vec<u64> {
+        counts(&pairs(&self.steps))
     }
 
     /// The amounts of the sheet that a legal chain makes, if they are not too large.

@@ -6,6 +6,13 @@ pub use crate::compiler::{ceiling, compile, count, make, quote, Job};
 /// The values of a call that is done, or a refusal's number and place.
 pub type Answer = Result<Vec<u64>, (u32, u64)>;
 
+/// The eight words of an answer: some values, then zeros.
+pub fn words(values: &[u64]) -> [u64; 8] {
+    let mut words = [0; 8];
+    words[..values.len()].copy_from_slice(values);
+    words
+}
+
 pub const MOST_COLUMNS: usize = 16;
 pub const MOST_PAYSLIPS: usize = 64;
 pub const MOST_STEPS: usize = 16_000;
@@ -18,6 +25,19 @@ pub fn pairs(steps: &[u32]) -> Vec<(u32, u32)> {
         .chunks_exact(2)
         .map(|pair| (pair[0], pair[1]))
         .collect()
+}
+
+/// The n of a chain, its squarings, which are the steps with one number twice, and its products, which are those with two numbers.
+pub fn counts(steps: &[(u32, u32)]) -> Vec<u64> {
+    let (mut squarings, mut products) = (0, 0);
+    for (first, second) in steps {
+        if first == second {
+            squarings += 1;
+        } else {
+            products += 1;
+        }
+    }
+    vec![steps.len() as u64, squarings, products]
 }
 
 pub(crate) fn sizes(p: usize, q: usize) -> Result<(), (u32, u64)> {
@@ -117,7 +137,7 @@ pub fn verify(
             return Err((14, i as u64 + 1));
         }
     }
-    Ok(vec![])
+    Ok(counts(&steps))
 }
 
 pub fn run(
@@ -151,7 +171,7 @@ pub fn run(
     for (i, &o) in outputs.iter().enumerate() {
         figures[i] = values[o as usize];
     }
-    Ok(vec![steps.len() as u64])
+    Ok(counts(&steps))
 }
 
 /// The product of the bases raised to the amounts of one payslip, modulo m, by a plain power loop.
@@ -265,10 +285,11 @@ pub fn read(bytes: &[u8], steps: &mut [u32], outputs: &mut [u32]) -> Answer {
     let numbers: Vec<u32> = (0..2 * n + q)
         .map(|i| field(HEADER_BITS + i * width, width) as u32)
         .collect();
-    chain(p, &pairs(&numbers[..2 * n]), &numbers[2 * n..])?;
+    let made = pairs(&numbers[..2 * n]);
+    chain(p, &made, &numbers[2 * n..])?;
     steps[..2 * n].copy_from_slice(&numbers[..2 * n]);
     outputs[..q].copy_from_slice(&numbers[2 * n..]);
-    Ok(vec![p as u64, q as u64, n as u64])
+    Ok([vec![p as u64, q as u64], counts(&made)].concat())
 }
 
 /// The slices lent to the whole path.
@@ -402,7 +423,7 @@ pub fn pool(first: Part, second: Part, steps: &mut [u32], outputs: &mut [u32]) -
     }
     steps[..all_steps.len()].copy_from_slice(&all_steps);
     outputs[..all_outputs.len()].copy_from_slice(&all_outputs);
-    Ok(vec![all_steps.len() as u64 / 2])
+    Ok(counts(&pairs(&all_steps)))
 }
 
 /// The bytes of a packed field, and the largest amount that its nine digits say.

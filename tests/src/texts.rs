@@ -1,10 +1,10 @@
 //! The two texts in plain Rust, from their description alone: numbers (a plain sheet, keys) and tables (a payslip a line), with every fault's place, what
 //! was found and what was wanted; and the phrases of the refusals.
 
-use crate::reference::{MOST_COLUMNS, MOST_PAYSLIPS};
+use crate::reference::{words, MOST_COLUMNS, MOST_PAYSLIPS};
 
-/// The number that a call returns and its four words: values, or line, column, found and wanted.
-pub type Outcome = (u32, [u64; 4]);
+/// The number that a call returns and its eight words: values, or line, column, found and wanted; then zeros.
+pub type Outcome = (u32, [u64; 8]);
 
 /// A fault at an offset of the text behind its byte order mark: number, offset, found, wanted.
 type Fault = (u32, usize, u64, u64);
@@ -70,7 +70,7 @@ pub fn numbers(text: &[u8], cells: &mut [u32]) -> Outcome {
                 _ => return Err(misplaced(byte, at)),
             }
         }
-        Ok([count as u64, 0, 0, 0])
+        Ok(vec![count as u64])
     })
 }
 
@@ -106,12 +106,12 @@ pub fn table(text: &[u8], cells: &mut [u32]) -> Outcome {
         if q == 0 {
             return Err((1, text.len(), 0, 1));
         }
-        Ok([p as u64, q as u64, 0, 0])
+        Ok(vec![p as u64, q as u64])
     })
 }
 
 /// What both texts share: a byte order mark is left out, what stands behind it must not be cut off, and a fault is told by line and column.
-fn outcome(text: &[u8], read: impl FnOnce(&[u8]) -> Result<[u64; 4], Fault>) -> Outcome {
+fn outcome(text: &[u8], read: impl FnOnce(&[u8]) -> Result<Vec<u64>, Fault>) -> Outcome {
     let behind = text.strip_prefix(&MARK).unwrap_or(text);
     let whole = behind.is_empty() || behind.ends_with(b"\n");
     let answer = if whole {
@@ -120,7 +120,7 @@ fn outcome(text: &[u8], read: impl FnOnce(&[u8]) -> Result<[u64; 4], Fault>) -> 
         Err((103, behind.len(), 0, 0))
     };
     match answer {
-        Ok(words) => (0, words),
+        Ok(values) => (0, words(&values)),
         Err((number, at, found, wanted)) => {
             let before = &behind[..at];
             let line = before.iter().filter(|&&byte| byte == b'\n').count() + 1;
@@ -130,7 +130,7 @@ fn outcome(text: &[u8], read: impl FnOnce(&[u8]) -> Result<[u64; 4], Fault>) -> 
                 .take_while(|&&byte| byte != b'\n')
                 .count()
                 + 1;
-            (number, [line as u64, column as u64, found, wanted])
+            (number, words(&[line as u64, column as u64, found, wanted]))
         }
     }
 }

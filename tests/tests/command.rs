@@ -1,6 +1,6 @@
 //! The command against the reference: every subcommand, what it writes, and its exit status.
 use spoutbasket_tests::command::{
-    count, spoutbasket, Folder, COMMANDS, PASSED, WEEK, WEEK_AMOUNTS,
+    count, counts, spoutbasket, Folder, COMMANDS, PASSED, WEEK, WEEK_AMOUNTS,
 };
 use spoutbasket_tests::compiler::methods;
 use spoutbasket_tests::random::{bases, job, modulus, Random};
@@ -72,7 +72,7 @@ fn best(job: &Job) -> Job {
 fn lines(job: &Job, m: u32, bases: &[u32]) -> String {
     let payslips = job.amounts.chunks(job.p);
     let figures = payslips.map(|payslip| format!("{}\n", figure(m, bases, payslip)));
-    figures.collect::<String>() + &format!("{} multiplications\n", job.count())
+    figures.collect::<String>() + &counts("multiplication", &job.counts()) + "\n"
 }
 
 #[test]
@@ -118,14 +118,13 @@ fn from_sheets_to_figures() {
         let sheet = folder.file("sheet", &text);
         let chain = folder.file("chain", &file);
         let (p, q, n) = (job.p, job.q, job.count());
+        let steps = counts("step", &job.counts());
         assert_eq!(
             spoutbasket(&["check", &sheet, &chain], b"").done(),
             format!(
-                "passed: {}, {}, {}
-",
+                "passed: {}, {}, {steps}\n",
                 count(p, "column"),
                 count(q, "payslip"),
-                count(n, "step")
             )
         );
         let mut other = Job::new(p, q, &job.amounts, 2, 1);
@@ -151,7 +150,8 @@ fn from_sheets_to_figures() {
         let verbose = spoutbasket(&["list", "-v", &chain], b"");
         let width = reference::extent(p, q, n).unwrap()[0];
         let bytes = count(file.len(), "byte");
-        let told = format!("{chain}: p + n is {}, W is {width}, {bytes}", p + n);
+        let last = p + n;
+        let told = format!("{chain}: p + n is {last}, W is {width}, {bytes}; {steps}");
         assert_eq!((verbose.status, verbose.line()), (0, told));
         assert_eq!(verbose.said, listed.as_bytes());
 
@@ -255,9 +255,13 @@ fn sheet_31() {
     let chain = folder.path("31.chain");
     let compiled = spoutbasket(&["compile", "-v", "-o", &chain, sheet], b"");
     assert_eq!((compiled.status, compiled.said.len()), (0, 0));
-    assert_eq!(compiled.line(), format!("{sheet}: partition:4, 1555 steps"));
+    let steps = "1555 steps: 141 squarings, 1414 products";
+    assert_eq!(compiled.line(), format!("{sheet}: partition:4, {steps}"));
     let checked = spoutbasket(&["check", sheet, &chain], b"").done();
-    assert_eq!(checked, "passed: 9 columns, 48 payslips, 1555 steps\n");
+    assert_eq!(
+        checked,
+        format!("passed: 9 columns, 48 payslips, {steps}\n")
+    );
 }
 
 #[test]
@@ -280,10 +284,10 @@ fn one_object_on_one_line() {
         format!("{{\"refused\":{{\"number\":{number},{rest}\"phrase\":\"{phrase}\"}}}}\n1\n")
     };
     let expected = [
-        "{\"passed\":true,\"columns\":3,\"payslips\":4,\"steps\":9}\n",
-        "{\"columns\":3,\"payslips\":4,\"steps\":9,\"amounts\":[[3,0,2],[1,2,0],[0,0,2],[3,2,1]]}\n",
-        "{\"figures\":[1323,75,49,4725],\"multiplications\":9}\n",
-        "{\"method\":\"yao:1\",\"figures\":[1323,75,49,4725],\"multiplications\":9}\n",
+        "{\"passed\":true,\"columns\":3,\"payslips\":4,\"steps\":9,\"squarings\":3,\"products\":6}\n",
+        "{\"columns\":3,\"payslips\":4,\"steps\":9,\"squarings\":3,\"products\":6,\"amounts\":[[3,0,2],[1,2,0],[0,0,2],[3,2,1]]}\n",
+        "{\"figures\":[1323,75,49,4725],\"multiplications\":9,\"squarings\":3,\"products\":6}\n",
+        "{\"method\":\"yao:1\",\"figures\":[1323,75,49,4725],\"multiplications\":9,\"squarings\":3,\"products\":6}\n",
         &refused("", 7),
         &refused("", 16),
         &refused("\"line\":2,\"column\":6,", 104),
@@ -378,8 +382,9 @@ fn names() {
         spoutbasket figures week.txt --keys - < bank.keys | tail -n 1
         { cat bank.keys; } | spoutbasket figures --keys - -- week.txt | tail -n 1",
     );
-    let object = "{\"passed\":true,\"columns\":3,\"payslips\":4,\"steps\":9}\n";
-    let run = "1323\n1323\n9 multiplications\n9 multiplications\n";
+    let object = "{\"passed\":true,\"columns\":3,\"payslips\":4,\"steps\":9,\"squarings\":3,\"products\":6}\n";
+    let made = "9 multiplications: 3 squarings, 6 products\n";
+    let run = format!("1323\n1323\n{made}{made}");
     let twice = "2\n".repeat(3);
     assert_eq!(
         said.done(),

@@ -1,5 +1,5 @@
 //! Two chains as one by the command, and the check of the pool against both sheets.
-use spoutbasket_tests::command::{count, sheet_text, spoutbasket, Folder};
+use spoutbasket_tests::command::{count, counts, counts_json, sheet_text, spoutbasket, Folder};
 use spoutbasket_tests::compiler::methods;
 use spoutbasket_tests::random::{bases, modulus, sheet, Random};
 use spoutbasket_tests::reference::{self, LONGEST_FILE, MOST_PAYSLIPS, MOST_STEPS};
@@ -65,10 +65,16 @@ fn from_two_sheets_to_one_list_of_figures() {
             expected
         );
 
-        let sizes = reference::listing(&expected);
-        let n: usize = sizes.split_whitespace().nth(2).unwrap().parse().unwrap();
+        let (mut steps, mut outputs) = (vec![0; 2 * MOST_STEPS], vec![0; MOST_PAYSLIPS]);
+        let read = reference::read(&expected, &mut steps, &mut outputs).unwrap();
+        let made = &read[2..];
         let both = q[0] + q[1];
-        let sizes = [count(p, "column"), count(both, "payslip"), count(n, "step")].join(", ");
+        let sizes = [
+            count(p, "column"),
+            count(both, "payslip"),
+            counts("step", made),
+        ];
+        let sizes = sizes.join(", ");
         let verbose = spoutbasket(&["pool", &first, &second, "-v", "-o", &pool], b"");
         assert_eq!((verbose.status, verbose.said.len()), (0, 0));
         assert_eq!(verbose.line(), format!("{first} and {second}: {sizes}"));
@@ -81,7 +87,8 @@ fn from_two_sheets_to_one_list_of_figures() {
         let checked = spoutbasket(&[&check[..], &files].concat(), b"").done();
         assert_eq!(checked, format!("passed: {sizes}\n"));
         let object = spoutbasket(&[&check[..], &files, &["--json"]].concat(), b"").done();
-        let numbers = format!("\"columns\":{p},\"payslips\":{both},\"steps\":{n}");
+        let steps = counts_json("steps", made);
+        let numbers = format!("\"columns\":{p},\"payslips\":{both},{steps}");
         assert_eq!(object, format!("{{\"passed\":true,{numbers}}}\n"));
 
         // the figures of the first and then of the second
@@ -96,7 +103,8 @@ fn from_two_sheets_to_one_list_of_figures() {
             .chunks(p)
             .map(|payslip| reference::figure(m, &bases, payslip));
         let lines: String = figures.map(|figure| format!("{figure}\n")).collect();
-        assert_eq!(run, format!("{lines}{n} multiplications\n"));
+        let made = counts("multiplication", made);
+        assert_eq!(run, format!("{lines}{made}\n"));
 
         // another amount in one of the sheets
         let part = round % 2;

@@ -1,7 +1,8 @@
 //! Write and read against the reference, every lent cell included.
 use spoutbasket_tests::ffi;
 use spoutbasket_tests::random::{legal_chain, Chain, Random};
-use spoutbasket_tests::reference::{self, Answer, EDITION_STEPS, MOST_COLUMNS, MOST_PAYSLIPS};
+use spoutbasket_tests::reference::{self, words, Answer};
+use spoutbasket_tests::reference::{EDITION_STEPS, MOST_COLUMNS, MOST_PAYSLIPS};
 
 /// Write by the library and by the reference into equal bytes: the same answer and the same bytes.
 fn same_write(c: &Chain, bytes: &[u8]) -> (Answer, Vec<u8>) {
@@ -67,7 +68,7 @@ fn there_and_back() {
         let (steps, outputs) = (r.words(2 * n + spare), r.words(q + spare));
         assert_eq!(
             same_read(&file, &steps, &outputs),
-            Ok(vec![p as u64, q as u64, n as u64])
+            Ok([vec![p as u64, q as u64], c.counts()].concat())
         );
     }
 }
@@ -153,18 +154,16 @@ fn every_file_of_four_bytes() {
             let want = reference::read(&bytes, &mut other_steps, &mut other_outputs);
             // whatever a refused file stored would still stand here
             assert!(want.is_err() || outputs == [9; MOST_PAYSLIPS]);
-            let (number, words) = ffi::read_words(&bytes, &mut steps, &mut outputs);
+            let answer = ffi::read_words(&bytes, &mut steps, &mut outputs);
             match want {
                 Ok(values) => {
-                    assert_eq!((number, &words[..3]), (0, &values[..]));
+                    assert_eq!(answer, (0, words(&values)));
                     assert_eq!((steps, outputs), (other_steps, other_outputs));
                     outputs.fill(9);
                     other_outputs.fill(9);
                     read += 1;
                 }
-                Err((refused, place)) => {
-                    assert_eq!((number, words), (refused, [place, 0, 0, 0]));
-                }
+                Err((refused, place)) => assert_eq!(answer, (refused, words(&[place]))),
             }
         }
         assert_eq!(outputs, [9; MOST_PAYSLIPS]);
@@ -212,9 +211,10 @@ fn files_of_five_bytes() {
                 read += same_read(bytes, &steps, &outputs).is_ok() as usize;
             } else {
                 let (mut ours, mut their_outputs) = ([9u32; 2], [9u32; 1]);
-                let (number, words) = ffi::read_words(bytes, &mut ours, &mut their_outputs);
+                let answer = ffi::read_words(bytes, &mut ours, &mut their_outputs);
                 let want = reference::read(bytes, &mut [9; 2], &mut [9; 1]);
-                assert_eq!(want, Err((number, words[0])));
+                let (refused, place) = want.unwrap_err();
+                assert_eq!(answer, (refused, words(&[place])));
                 assert_eq!((ours, their_outputs), ([9; 2], [9; 1]));
             }
         }
@@ -237,7 +237,7 @@ fn examples() {
     );
     let lent = [[9; 7], [8; 7]];
     let read = |bytes: &[u8]| same_read(bytes, &lent[0], &lent[1][..2]);
-    assert_eq!(read(&file), Ok(vec![2, 1, 3]));
+    assert_eq!(read(&file), Ok(vec![2, 1, 3, 1, 2]));
     assert_eq!(read(&[]), Err((6, 0)));
     assert_eq!(read(&[0x20, 0, 0, 0]), Err((7, 0)));
     assert_eq!(

@@ -73,6 +73,8 @@ fn the_example_of_the_manual() {
     folder.script(same).done();
     let told = folder.script("spoutbasket list -v best.chain").told;
     assert_eq!(told, shown(&manual, "Staff who look W up"));
+    let session = shown(&manual, "## What a chain costs a receiver");
+    assert_eq!(play(&folder, &session), 1);
 }
 
 /// The lowest ceilings, of which the first is not that of the shortest chain, and a short last group.
@@ -82,7 +84,8 @@ fn the_ceilings_of_the_manual() {
     let session = shown(&page("docs/MANUAL.md"), "## What the tariff bills");
     assert_eq!(play(&folder, &session), 2);
     let best = folder.script("spoutbasket compile -v week.txt -o best.chain");
-    assert_eq!(best.line(), "week.txt: yao:1, 9 steps");
+    let line = "week.txt: yao:1, 9 steps: 3 squarings, 6 products";
+    assert_eq!(best.line(), line);
 }
 
 /// Two sheets and the pool of their chains, and what is said where they do not go together.

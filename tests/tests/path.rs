@@ -285,14 +285,16 @@ fn trials() {
 fn trials_of_given_chains() {
     let along = |steps: &[u32], output: u32, amount: u32, m: u32| -> Result<u32, (u32, u64)> {
         let n = steps.len() / 2;
+        let counts = reference::counts(&reference::pairs(steps));
         let mut bytes = vec![9; 200];
         let length = ffi::write(1, steps, &[output], &mut bytes)?[0] as usize;
         let (mut read_steps, mut read_outputs) = (vec![9; 2 * n], [9]);
         let read = ffi::read(&bytes[..length], &mut read_steps, &mut read_outputs)?;
-        assert_eq!(read, [1, 1, n as u64]);
+        assert_eq!(read, [&[1, 1], &counts[..]].concat());
         assert_eq!((&read_steps[..], read_outputs), (steps, [output]));
         let (mut scratch, mut values) = (vec![9; n + 2], vec![9; n + 2]);
-        ffi::verify(1, &read_steps, &read_outputs, &[amount], &mut scratch)?;
+        let passed = ffi::verify(1, &read_steps, &read_outputs, &[amount], &mut scratch)?;
+        assert_eq!(passed, counts);
         let mut figures = [9];
         let made = ffi::run(
             1,
@@ -303,7 +305,7 @@ fn trials_of_given_chains() {
             &mut values,
             &mut figures,
         )?;
-        assert_eq!(made, [n as u64]);
+        assert_eq!(made, counts);
         Ok(figures[0])
     };
     let g = [1, 1, 2, 1, 3, 2, 4, 2, 5, 5, 6, 6, 7, 7, 8, 5];

@@ -15,12 +15,18 @@ fn same_pool(a: &Chain, b: &Chain, steps: &[u32], outputs: &[u32]) -> (Answer, V
     (got, ours, our_outputs)
 }
 
+/// The n, squarings and products of two parts together.
+fn counts(a: &Chain, b: &Chain) -> Vec<u64> {
+    let parts = a.counts().into_iter().zip(b.counts());
+    parts.map(|(first, second)| first + second).collect()
+}
+
 /// The pool of two parts that pool, by the library.
 fn pooled(a: &Chain, b: &Chain) -> Chain {
     let n = a.steps.len() / 2 + b.steps.len() / 2;
     let (mut steps, mut outputs) = (vec![9; 2 * n], vec![9; a.outputs.len() + b.outputs.len()]);
     let answer = ffi::pool(a.part(), b.part(), &mut steps, &mut outputs);
-    assert_eq!(answer, Ok(vec![n as u64]), "{a:?} {b:?}");
+    assert_eq!(answer, Ok(counts(a, b)), "{a:?} {b:?}");
     let p = a.p;
     Chain { p, steps, outputs }
 }
@@ -67,7 +73,7 @@ fn random_legal_parts() {
         let q = a.outputs.len() + b.outputs.len();
         let (steps, outputs) = (r.words(2 * n + round % 5), r.words(q + round % 3));
         let (answer, steps, outputs) = same_pool(&a, &b, &steps, &outputs);
-        assert_eq!(answer, Ok(vec![n as u64]));
+        assert_eq!(answer, Ok(counts(&a, &b)));
         let pool = reference::pairs(&steps[..2 * n]);
         assert_eq!(reference::chain(a.p, &pool, &outputs[..q]), Ok(()));
     }
@@ -177,7 +183,7 @@ fn sizes_at_the_limits() {
             let (a, b) = (of_sizes(3, n1, q1), of_sizes(3, n2, q2));
             let (steps, outputs) = (vec![7; 2 * (n1 + n2)], vec![7; q1 + q2]);
             let want = match n1 + n2 <= MOST_STEPS {
-                true => Ok(vec![(n1 + n2) as u64]),
+                true => Ok(counts(&a, &b)),
                 false => Err((4, 0)),
             };
             assert_eq!(same_pool(&a, &b, &steps, &outputs).0, want, "{n1} {n2}");
@@ -201,7 +207,7 @@ fn sizes_at_the_limits() {
     }
     for p in [1, MOST_COLUMNS] {
         let (a, b) = (of_sizes(p, 1, 1), of_sizes(p, 1, 1));
-        assert_eq!(same_pool(&a, &b, &[7; 4], &[7; 2]).0, Ok(vec![2]));
+        assert_eq!(same_pool(&a, &b, &[7; 4], &[7; 2]).0, Ok(vec![2, 2, 0]));
         let b = of_sizes(MOST_COLUMNS + 1 - p, 1, 1);
         assert_eq!(same_pool(&a, &b, &[7; 4], &[7; 2]).0, Err((17, 0)));
     }
@@ -215,7 +221,7 @@ fn room() {
     let b = legal_chain(&mut r, MOST_COLUMNS, 34, 9_000, true);
     let (steps, outputs) = (r.words(2 * MOST_STEPS), r.words(MOST_PAYSLIPS));
     for (cells, places, want) in [
-        (2 * MOST_STEPS, MOST_PAYSLIPS, Ok(vec![16_000])),
+        (2 * MOST_STEPS, MOST_PAYSLIPS, Ok(counts(&a, &b))),
         (2 * MOST_STEPS - 1, MOST_PAYSLIPS, Err((5, 0))),
         (2 * MOST_STEPS, MOST_PAYSLIPS - 1, Err((5, 0))),
         (0, 0, Err((5, 0))),
@@ -231,7 +237,7 @@ fn value_numbers() {
     let a = chain(2, &[2, 1, 3, 3, 4, 1], &[5]);
     let b = chain(2, &[1, 1, 2, 2, 3, 1, 5, 4], &[6]);
     let (answer, steps, outputs) = same_pool(&a, &b, &[9; 15], &[9; 3]);
-    assert_eq!(answer, Ok(vec![7]));
+    assert_eq!(answer, Ok(vec![7, 3, 4]));
     assert_eq!(steps, [2, 1, 3, 3, 4, 1, 1, 1, 2, 2, 6, 1, 8, 7, 9]);
     assert_eq!(outputs, [5, 9, 9]);
 
@@ -251,7 +257,7 @@ fn value_numbers() {
         (b.steps.clone(), vec![2, 0, 0, 1, 2, 3, 4, 5])
     );
     let (answer, ..) = same_pool(&none, &none, &[], &[9; 4]);
-    assert_eq!(answer, Ok(vec![0]));
+    assert_eq!(answer, Ok(vec![0, 0, 0]));
 }
 
 /// Where two refusals apply, the one that comes first in the order is the answer, and in each the first part comes before the second.
@@ -349,7 +355,7 @@ fn passes_as_its_parts_do() {
 fn each_part_makes_its_own_sheet() {
     let (a, b) = (chain(1, &[1, 1], &[2]), chain(1, &[1, 1, 2, 1], &[3]));
     let pool = pooled(&a, &b);
-    assert_eq!(check(&pool, &[2, 3]), Ok(vec![]));
+    assert_eq!(check(&pool, &[2, 3]), Ok(vec![3, 2, 1]));
     assert_eq!(check(&pool, &[3, 2]), Err((14, 1)));
 }
 
@@ -366,7 +372,7 @@ fn figures(c: &Chain, m: u32, bases: &[u32]) -> Vec<u32> {
         &mut values,
         &mut figures,
     );
-    assert_eq!(answer, Ok(vec![n as u64]));
+    assert_eq!(answer, Ok(c.counts()));
     figures
 }
 

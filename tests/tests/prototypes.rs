@@ -66,6 +66,12 @@ fn differences() {
         ),
         (
             HEADER,
+            "size_t n, uint64_t answer[8]",
+            "size_t n, uint64_t answer[4]",
+            "spoutbasket_extent: argument 4 is 'uint64_t answer[4]', and the library's 'uint64_t answer[8]'",
+        ),
+        (
+            HEADER,
             "uint32_t spoutbasket_write(",
             "uint64_t spoutbasket_write(",
             "spoutbasket_write returns 'uint64_t', and the library's 'uint32_t'",
@@ -117,6 +123,12 @@ fn differences() {
             "steps: &[[u32; 2]],",
             "steps: &[u32],",
             "spoutbasket_verify_pairs: argument 2 is 'steps: &[u32]', and the library's 'steps: &[[u32; 2]]'",
+        ),
+        (
+            SLICES,
+            "answer: &mut [u64; 8],",
+            "answer: &mut [u64; 4],",
+            "spoutbasket_compile: argument 8 is 'answer: &mut [u64; 4]', and the library's 'answer: &mut [u64; 8]'",
         ),
         (
             SLICES,

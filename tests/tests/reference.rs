@@ -33,12 +33,13 @@ fn trials_a_to_f_and_i() {
 #[test]
 fn trials_g_and_h() {
     let g = [1, 1, 2, 1, 3, 2, 4, 2, 5, 5, 6, 6, 7, 7, 8, 5];
-    assert_eq!(verify(1, &g, &[9], &[63], &mut [7; 10]), Ok(vec![]));
+    let passed = Ok(vec![8, 4, 4]);
+    assert_eq!(verify(1, &g, &[9], &[63], &mut [7; 10]), passed);
     assert_eq!(verify(1, &g, &[9], &[62], &mut [7; 10]), Err((14, 1)));
     let squarings: Vec<u32> = (1..=32).flat_map(|v| [v, v]).collect();
     assert_eq!(
         verify(1, &squarings[..62], &[32], &[1 << 31], &mut [7; 33]),
-        Ok(vec![])
+        Ok(vec![31, 31, 0])
     );
     assert_eq!(
         verify(1, &squarings, &[32], &[1 << 31], &mut [7; 34]),
@@ -71,7 +72,7 @@ fn trial_j() {
                 &mut values,
                 &mut figures
             ),
-            Ok(vec![steps.len() as u64])
+            Ok(counts(&steps))
         );
         assert_eq!(figures, want);
     }
@@ -102,6 +103,14 @@ fn readings() {
     );
 }
 
+/// The counts of trial A, of no steps, and of equal values under different numbers.
+#[test]
+fn squarings_and_products() {
+    assert_eq!(counts(&[(2, 1), (3, 3), (4, 1)]), [3, 1, 2]);
+    assert_eq!(counts(&[]), [0, 0, 0]);
+    assert_eq!(counts(&[(1, 1), (1, 1), (3, 2)]), [3, 2, 1]);
+}
+
 #[test]
 fn file_of_trial_a() {
     let mut bytes = [9; 8];
@@ -117,10 +126,10 @@ fn pools_of_trials_a_and_b() {
     let a: Part = (2, &[2, 1, 3, 3, 4, 1], &[5]);
     let b: Part = (2, &[1, 1, 2, 2, 3, 1, 5, 4], &[6]);
     let (mut steps, mut outputs) = ([9; 15], [9; 3]);
-    assert_eq!(pool(a, b, &mut steps, &mut outputs), Ok(vec![7]));
+    assert_eq!(pool(a, b, &mut steps, &mut outputs), Ok(vec![7, 3, 4]));
     assert_eq!(steps, [2, 1, 3, 3, 4, 1, 1, 1, 2, 2, 6, 1, 8, 7, 9]);
     assert_eq!(outputs, [5, 9, 9]);
-    assert_eq!(pool(b, a, &mut steps, &mut outputs), Ok(vec![7]));
+    assert_eq!(pool(b, a, &mut steps, &mut outputs), Ok(vec![7, 3, 4]));
     assert_eq!(steps, [1, 1, 2, 2, 3, 1, 5, 4, 2, 1, 7, 7, 8, 1, 9]);
     assert_eq!(outputs, [6, 9, 9]);
     let unfit: Part = (2, &[2, 1, 3, 0], &[5]);
@@ -217,8 +226,8 @@ fn compiled_chains_pass() {
         let amounts = sheet(&mut r, p, q, bits);
         for (method, k) in methods(p) {
             let (mut steps, mut outputs) = (vec![0; 2 * MOST_STEPS], vec![0; q]);
-            let n = compile(p, q, &amounts, method, k, &mut steps, &mut outputs).unwrap()[0];
-            let n = n as usize;
+            let compiled = compile(p, q, &amounts, method, k, &mut steps, &mut outputs).unwrap();
+            let n = compiled[0] as usize;
             assert_eq!(
                 verify(
                     p,
@@ -227,7 +236,7 @@ fn compiled_chains_pass() {
                     &amounts,
                     &mut vec![0; p + n + 1]
                 ),
-                Ok(vec![])
+                Ok(compiled)
             );
             assert_eq!(n, count(p, q, &amounts, method, k));
             assert!(n <= ceiling(p, q, &amounts, method, k));

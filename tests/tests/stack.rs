@@ -1,19 +1,20 @@
 //! Each function, on the largest input, on a thread with just the stack that the header says is enough. One that needed more would end the process.
 use spoutbasket::{slices, FIELD_BYTES, LONGEST_FILE, LONGEST_LISTING, LONGEST_PHRASE};
 use spoutbasket_tests::header;
-use spoutbasket_tests::random::{job_counting, legal_chain, Random};
-use spoutbasket_tests::reference::{Job, MOST_COLUMNS, MOST_PAYSLIPS, MOST_STEPS, MOST_VALUES};
+use spoutbasket_tests::random::{job_counting, legal_chain, Chain, Random};
+use spoutbasket_tests::reference::{words, Job};
+use spoutbasket_tests::reference::{MOST_COLUMNS, MOST_PAYSLIPS, MOST_STEPS, MOST_VALUES};
 
 const MODULUS: u32 = 4_294_967_291;
 const AMOUNTS: usize = MOST_COLUMNS * MOST_PAYSLIPS;
 
 /// Makes a call on a thread with a stack of as many bytes as a macro of the header says; it must be done.
-fn on_stack(bytes: &str, call: impl FnOnce(&mut [u64; 4]) -> u32 + Send) -> [u64; 4] {
+fn on_stack(bytes: &str, call: impl FnOnce(&mut [u64; 8]) -> u32 + Send) -> [u64; 8] {
     let bytes = header::numbers()[bytes];
     std::thread::scope(|scope| {
         let thread = std::thread::Builder::new().stack_size(bytes);
         let done = thread.spawn_scoped(scope, || {
-            let mut words = [7; 4];
+            let mut words = [7; 8];
             assert_eq!(call(&mut words), 0);
             words
         });
@@ -57,7 +58,7 @@ fn largest() -> Largest {
     }
 }
 
-fn compile(job: &Job, steps: &mut [u32], outputs: &mut [u32], words: &mut [u64; 4]) -> u32 {
+fn compile(job: &Job, steps: &mut [u32], outputs: &mut [u32], words: &mut [u64; 8]) -> u32 {
     let Job { p, q, amounts, .. } = job;
     slices::compile(
         *p,
@@ -93,8 +94,8 @@ fn ceilings() {
         let answer = on_stack("STACK", |words| {
             slices::ceiling(p, MOST_PAYSLIPS, &amounts, method, k, words)
         });
-        let wanted = [job.count() as u64, job.ceiling() as u64, 0, 0];
-        assert_eq!(answer, wanted);
+        let wanted = [job.count() as u64, job.ceiling() as u64];
+        assert_eq!(answer, words(&wanted));
     }
 }
 
@@ -184,7 +185,12 @@ fn pools() {
                 words,
             )
         });
-        assert_eq!(answer, [MOST_STEPS as u64, 0, 0, 0]);
+        let pool = Chain {
+            p: a.p,
+            steps,
+            outputs,
+        };
+        assert_eq!(answer, words(&pool.counts()));
     }
 }
 
@@ -197,11 +203,11 @@ fn packed_fields() {
     let answer = on_stack("STACK", |words| {
         slices::pack(p, q, &amounts, &mut fields, words)
     });
-    assert_eq!(answer, [AMOUNTS as u64, 0, 0, 0]);
+    assert_eq!(answer, words(&[AMOUNTS as u64]));
     let answer = on_stack("STACK", |words| {
         slices::unpack(p, q, &fields, &mut read, words)
     });
-    assert_eq!((answer, read), ([AMOUNTS as u64, 0, 0, 0], amounts));
+    assert_eq!((answer, read), (words(&[AMOUNTS as u64]), amounts));
 }
 
 #[test]
@@ -247,13 +253,13 @@ fn texts() {
     });
     assert_eq!(
         (answer, &amounts),
-        ([16, 64, 0, 0], &vec![u32::MAX; AMOUNTS])
+        (words(&[16, 64]), &vec![u32::MAX; AMOUNTS])
     );
     let numbers = table.replace(';', " ") + &" ".repeat(1 << 20) + "\n";
     let answer = on_stack("STACK", |words| {
         slices::numbers(numbers.as_bytes(), &mut amounts, words)
     });
-    assert_eq!(answer, [1024, 0, 0, 0]);
+    assert_eq!(answer, words(&[1024]));
     let mut phrase = [0; LONGEST_PHRASE];
     for number in 0..256 {
         on_stack("STACK", |words| slices::phrase(number, &mut phrase, words));

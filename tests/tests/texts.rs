@@ -1,7 +1,7 @@
-//! Texts of numbers, tables and phrases by the library against the plain reference: the number, the four words and every lent cell.
+//! Texts of numbers, tables and phrases by the library against the plain reference: the number, the eight words and every lent cell.
 use spoutbasket::slices;
 use spoutbasket_tests::random::Random;
-use spoutbasket_tests::reference::{MOST_COLUMNS, MOST_PAYSLIPS};
+use spoutbasket_tests::reference::{words, MOST_COLUMNS, MOST_PAYSLIPS};
 use spoutbasket_tests::texts::{self, Outcome, PHRASES};
 use std::collections::BTreeMap;
 
@@ -10,7 +10,7 @@ const MARK: &[u8] = b"\xEF\xBB\xBF";
 /// What a cell holds before a call.
 const BEFORE: u32 = 0xA5A5_A5A5;
 
-type Read = fn(&[u8], &mut [u32], &mut [u64; 4]) -> u32;
+type Read = fn(&[u8], &mut [u32], &mut [u64; 8]) -> u32;
 type Expect = fn(&[u8], &mut [u32]) -> Outcome;
 
 const NUMBERS: (Read, Expect) = (slices::numbers, texts::numbers);
@@ -19,11 +19,11 @@ const TABLE: (Read, Expect) = (slices::table, texts::table);
 /// One text by both into as many cells: the same number, words and cells. Tells the number.
 fn same((read, expect): (Read, Expect), text: &[u8], cells: usize) -> u32 {
     let (mut ours, mut theirs) = (vec![BEFORE; cells], vec![BEFORE; cells]);
-    let mut words = [7; 4];
-    let number = read(text, &mut ours, &mut words);
+    let mut answer = [7; 8];
+    let number = read(text, &mut ours, &mut answer);
     let expected = expect(text, &mut theirs);
     let shown = || String::from_utf8_lossy(text).into_owned();
-    assert_eq!((number, words), expected, "{cells} cells: {:?}", shown());
+    assert_eq!((number, answer), expected, "{cells} cells: {:?}", shown());
     assert_eq!(ours, theirs, "{cells} cells: {:?}", shown());
     number
 }
@@ -216,7 +216,7 @@ fn random_tables() {
 fn tables_at_the_edges() {
     let line = |p: usize| format!("{}\n", vec!["7"; p].join(";"));
     let table = |p: usize, q: usize| line(p).repeat(q);
-    for (p, q, outcome) in [
+    for (p, q, (number, four)) in [
         (16, 64, (0, [16, 64, 0, 0])),
         (17, 1, (1, [1, 34, 17, 16])),
         (16, 65, (1, [65, 1, 65, 64])),
@@ -224,10 +224,11 @@ fn tables_at_the_edges() {
     ] {
         let text = table(p, q);
         let mut cells = [0; MOST_COLUMNS * MOST_PAYSLIPS];
+        let outcome = (number, words(&four));
         assert_eq!(texts::table(text.as_bytes(), &mut cells), outcome);
         same(TABLE, text.as_bytes(), cells.len());
     }
-    for (text, outcome) in [
+    for (text, (number, four)) in [
         // a comma is a fault where semicolons part
         ("187,50;20,00\n", (105, [1, 4, b',' as u64, 0])),
         ("1 875;20\n", (105, [1, 3, b'8' as u64, 0])),
@@ -248,7 +249,7 @@ fn tables_at_the_edges() {
         let mut cells = [0; 8];
         assert_eq!(
             texts::table(text.as_bytes(), &mut cells),
-            outcome,
+            (number, words(&four)),
             "{text:?}"
         );
         same(TABLE, text.as_bytes(), cells.len());
@@ -261,19 +262,19 @@ fn phrases() {
     let numbers = (0..300).chain([1 << 20, u32::MAX]);
     for number in numbers {
         let expected = texts::phrase(number);
-        let (mut text, mut words) = ([0xA5; 64], [7; 4]);
-        assert_eq!(slices::phrase(number, &mut text, &mut words), 0);
-        assert_eq!(words, [expected.len() as u64, 0, 0, 0], "{number}");
+        let (mut text, mut answer) = ([0xA5; 64], [7; 8]);
+        assert_eq!(slices::phrase(number, &mut text, &mut answer), 0);
+        assert_eq!(answer, words(&[expected.len() as u64]), "{number}");
         let (front, back) = text.split_at(expected.len());
         assert_eq!(String::from_utf8_lossy(front), expected, "{number}");
         assert!(back.iter().all(|&cell| cell == 0xA5), "{number}");
 
-        let (mut text, mut words) = (vec![0xA5; expected.len()], [7; 4]);
-        assert_eq!(slices::phrase(number, &mut text, &mut words), 0);
+        let (mut text, mut answer) = (vec![0xA5; expected.len()], [7; 8]);
+        assert_eq!(slices::phrase(number, &mut text, &mut answer), 0);
         assert_eq!(text, expected.as_bytes());
-        let (mut text, mut words) = (vec![0xA5; expected.len() - 1], [7; 4]);
-        assert_eq!(slices::phrase(number, &mut text, &mut words), 5);
-        assert_eq!(words, [0; 4], "{number}");
+        let (mut text, mut answer) = (vec![0xA5; expected.len() - 1], [7; 8]);
+        assert_eq!(slices::phrase(number, &mut text, &mut answer), 5);
+        assert_eq!(answer, [0; 8], "{number}");
         assert!(text.iter().all(|&cell| cell == 0xA5), "{number}");
     }
     assert_eq!(PHRASES.len(), 20 + 7);

@@ -1,6 +1,6 @@
 //! The width of a file's numbers: the page for receivers' staff has the cases of the code, of their definition and of the trials, and every file keeps to them.
 use spoutbasket::Extent;
-use spoutbasket_tests::command::{count, spoutbasket};
+use spoutbasket_tests::command::{count, counts, spoutbasket};
 use spoutbasket_tests::ffi;
 use spoutbasket_tests::header;
 use spoutbasket_tests::random::Random;
@@ -157,7 +157,10 @@ fn told_to_staff() {
             let bytes = ffi::write(p, &steps, &[last as u32], &mut file).unwrap()[0] as usize;
             let told = spoutbasket(&["list", "--verbose"], &file[..bytes]);
             let (width, bytes) = (case.width, count(bytes, "byte"));
-            let line = format!("standard input: p + n is {last}, W is {width}, {bytes}");
+            // every step squares base 1
+            let n = (last - p) as u64;
+            let steps = counts("step", &[n, n, 0]);
+            let line = format!("standard input: p + n is {last}, W is {width}, {bytes}; {steps}");
             assert_eq!((told.status, told.line()), (0, line));
         }
     }
@@ -183,7 +186,8 @@ fn keeps_to(case: &Case, p: usize, n: usize) {
             assert_eq!(read(other), Err((6, 0)), "p {p}, n {n}");
         }
     }
-    assert_eq!(read(long), Ok(vec![p as u64, 1, n as u64]));
+    let squares = vec![p as u64, 1, n as u64, n as u64, 0];
+    assert_eq!(read(long), Ok(squares));
     assert_eq!(outputs, [(p + n) as u32]);
     assert!(steps.iter().all(|&operand| operand == 1));
 }

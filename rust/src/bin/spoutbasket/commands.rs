@@ -11,9 +11,7 @@ use crate::options::{
 use crate::output;
 use crate::packed::refused_field;
 use crate::wanted::Wanted;
-use spoutbasket::{
-    choose as choose_file, Chain, Extent, Method, Quote, Reason, Refusal, Run, Sheet,
-};
+use spoutbasket::{choose as choose_file, Chain, Counts, Method, Quote, Reason, Refusal, Sheet};
 use std::ffi::OsString;
 
 /// A command: what it takes and what it does.
@@ -138,18 +136,23 @@ fn compile(form: &Form, given: &Given) -> Result<(), Failure> {
     let source = Source::new(given.file(0));
     let target = chain_target(form, given, &[&source], "the sheet")?;
     let sheet = documents::sheet(&source, kind)?;
-    let made = match method {
-        Some(method) => sheet.compile(method).map(|chain| (method, chain)),
-        None => sheet.best(),
-    };
     let refused = |refusal| refused_sheet(&source, method, refusal);
-    let (method, chain) = made.map_err(refused)?;
+    let (method, chain, counts) = compiled(&sheet, method).map_err(refused)?;
     target.write(&chain.to_file().map_err(refused)?)?;
     if given.has("--verbose") {
-        let steps = counted(chain.n(), "step");
+        let steps = counts_in_words("step", counts);
         say(&format!("{}: {method}, {steps}", source.name()));
     }
     Ok(())
+}
+
+/// A sheet's chain by the method named, or else the shortest, with its method and its counts.
+fn compiled(sheet: &Sheet, named: Option<Method>) -> Result<(Method, Chain, Counts), Refusal> {
+    let Some(method) = named else {
+        return sheet.best_counted();
+    };
+    let (chain, counts) = sheet.compile_counted(method)?;
+    Ok((method, chain, counts))
 }
 
 fn ceiling(form: &Form, given: &Given) -> Result<(), Failure> {
@@ -198,14 +201,15 @@ fn check(form: &Form, given: &Given) -> Result<(), Failure> {
             (Wanted::two(&first, &second, kinds(form, given)?)?, chain)
         }
     };
-    let chain = wanted.made_by(&chain, &chain.chain()?)?;
+    let (chain, counts) = wanted.made_by(&chain, &chain.chain()?)?;
     if given.has("--json") {
         let mut fields = vec![("passed", "true".to_string())];
         fields.extend(shape(sizes(&chain)));
+        fields.extend(counts_fields("steps", counts));
         return print(json::object(&fields));
     }
     // the exit status says it too
-    output::tell(format!("passed: {}\n", in_words(sizes(&chain))).as_bytes())
+    output::tell(format!("passed: {}\n", chain_in_words(&chain, counts)).as_bytes())
 }
 
 fn choose(form: &Form, given: &Given) -> Result<(), Failure> {
@@ -229,14 +233,14 @@ fn pool(form: &Form, given: &Given) -> Result<(), Failure> {
     let [first, second] = sources(form, given)?;
     let target = chain_target(form, given, &[&first, &second], "a part")?;
     let (a, b) = (first.chain()?, second.chain()?);
-    let a = documents::chain(&first, &a)?;
-    let b = documents::chain(&second, &b)?;
-    let refused = |refusal| refused_both([&first, &second], [sizes(&a), sizes(&b)], refusal);
-    let pool = a.pool(&b).map_err(refused)?;
+    let (a, _) = documents::chain(&first, &a)?;
+    let (b, _) = documents::chain(&second, &b)?;
+    let refused = |refusal| refused_both([&first, &second], [&a, &b].map(with_steps), refusal);
+    let (pool, counts) = a.pool_counted(&b).map_err(refused)?;
     target.write(&pool.to_file().map_err(refused)?)?;
     if given.has("--verbose") {
         let names = documents::both([&first, &second]);
-        say(&format!("{names}: {}", in_words(sizes(&pool))));
+        say(&format!("{names}: {}", chain_in_words(&pool, counts)));
     }
     Ok(())
 }
@@ -244,21 +248,25 @@ fn pool(form: &Form, given: &Given) -> Result<(), Failure> {
 fn list(_: &Form, given: &Given) -> Result<(), Failure> {
     let source = Source::new(given.file(0));
     let bytes = source.chain()?;
-    let listing = documents::listing(&source, &bytes)?;
-    let [columns, payslips, steps] = [listing.columns(), listing.payslips(), listing.steps()];
-    let extent = Extent::of(columns, payslips, steps);
+    let (chain, counts) = documents::chain(&source, &bytes)?;
+    let listing = documents::listing(&source, &bytes, &chain)?;
+    let extent = chain.extent();
     let extent = extent.map_err(|refusal| refused_file(&source, &bytes, refusal))?;
     if given.has("--json") {
-        let mut fields = shape([columns, payslips, steps]);
+        let mut fields = shape(sizes(&chain));
+        fields.extend(counts_fields("steps", counts));
         fields.push(("amounts", json::array(listing.rows().map(json::numbers))));
         print(json::object(&fields))?;
     } else {
         output::print(listing.text().as_bytes())?;
     }
     if given.has("--verbose") {
-        let (name, last, width) = (source.name(), columns + steps, extent.width);
+        let (name, last, width) = (source.name(), chain.columns + counts.steps, extent.width);
         let long = counted(extent.bytes, "byte");
-        say(&format!("{name}: p + n is {last}, W is {width}, {long}"));
+        let steps = counts_in_words("step", counts);
+        say(&format!(
+            "{name}: p + n is {last}, W is {width}, {long}; {steps}"
+        ));
     }
     Ok(())
 }
@@ -268,13 +276,13 @@ fn run(form: &Form, given: &Given) -> Result<(), Failure> {
     one_standard(form, &[&keys, &source])?;
     let secret = documents::keys(&keys)?;
     let bytes = source.chain()?;
-    let chain = documents::chain(&source, &bytes)?;
+    let (chain, _) = documents::chain(&source, &bytes)?;
     let run = chain.run(secret.modulus, &secret.bases);
     let run = run.map_err(|refusal| {
         refused_keys(&keys, &secret, chain.columns, refusal)
             .unwrap_or_else(|| refused_file(&source, &bytes, refusal))
     })?;
-    print_run(given, vec![], &run)
+    print_figures(given, vec![], &run.figures, run.counts)
 }
 
 fn figures(form: &Form, given: &Given) -> Result<(), Failure> {
@@ -285,15 +293,18 @@ fn figures(form: &Form, given: &Given) -> Result<(), Failure> {
     let secret = documents::keys(&keys)?;
     let sheet = documents::sheet(&source, kind)?;
     let refused = |refusal| refused_sheet(&source, method, refusal);
-    let by = match method {
-        Some(method) => method,
-        None => sheet.best().map_err(refused)?.0,
-    };
-    let run = sheet.figures(by, secret.modulus, &secret.bases);
-    let run = run.map_err(|refusal| {
+    let (by, _, counts) = compiled(&sheet, method).map_err(refused)?;
+    let path = sheet.figures(by, secret.modulus, &secret.bases);
+    let path = path.map_err(|refusal| {
         refused_keys(&keys, &secret, sheet.columns(), refusal).unwrap_or_else(|| refused(refusal))
     })?;
-    print_run(given, vec![("method", json::string(&by.to_string()))], &run)
+    let fields = vec![("method", json::string(&by.to_string()))];
+    // the path answers its multiplications alone
+    let counts = Counts {
+        steps: path.multiplications,
+        ..counts
+    };
+    print_figures(given, fields, &path.figures, counts)
 }
 
 fn unpack(form: &Form, given: &Given) -> Result<(), Failure> {
@@ -329,28 +340,59 @@ fn rewrite(
     Ok(())
 }
 
+/// A chain's columns and payslips.
+fn sizes(chain: &Chain) -> [usize; 2] {
+    [chain.columns, chain.outputs.len()]
+}
+
 /// A chain's columns, payslips and steps.
-fn sizes(chain: &Chain) -> [usize; 3] {
+fn with_steps(chain: &Chain) -> [usize; 3] {
     [chain.columns, chain.outputs.len(), chain.n()]
 }
 
-/// A sheet's columns and payslips in words, or a chain's with its steps.
-fn in_words<const N: usize>(sizes: [usize; N]) -> String {
-    let things = ["column", "payslip", "step"];
-    let sizes = sizes.iter().zip(things);
-    let words: Vec<String> = sizes
-        .map(|(&number, thing)| counted(number, thing))
-        .collect();
-    words.join(", ")
+/// The columns and payslips of a sheet or a chain in words.
+fn in_words([columns, payslips]: [usize; 2]) -> String {
+    format!(
+        "{}, {}",
+        counted(columns, "column"),
+        counted(payslips, "payslip")
+    )
 }
 
 /// The same sizes as JSON fields.
-fn shape<const N: usize>(sizes: [usize; N]) -> Vec<(&'static str, String)> {
-    let names = ["columns", "payslips", "steps"];
-    let sizes = sizes.iter().zip(names);
-    sizes
-        .map(|(number, name)| (name, number.to_string()))
-        .collect()
+fn shape([columns, payslips]: [usize; 2]) -> Vec<(&'static str, String)> {
+    vec![
+        ("columns", columns.to_string()),
+        ("payslips", payslips.to_string()),
+    ]
+}
+
+/// A chain's counts in words, with a name for a step.
+fn counts_in_words(step: &str, counts: Counts) -> String {
+    format!(
+        "{}: {}, {}",
+        counted(counts.steps, step),
+        counted(counts.squarings, "squaring"),
+        counted(counts.products, "product")
+    )
+}
+
+/// The same counts as JSON fields, with a name for the steps.
+fn counts_fields(steps: &'static str, counts: Counts) -> [(&'static str, String); 3] {
+    [
+        (steps, counts.steps.to_string()),
+        ("squarings", counts.squarings.to_string()),
+        ("products", counts.products.to_string()),
+    ]
+}
+
+/// A chain's sizes and counts in words.
+fn chain_in_words(chain: &Chain, counts: Counts) -> String {
+    format!(
+        "{}, {}",
+        in_words(sizes(chain)),
+        counts_in_words("step", counts)
+    )
 }
 
 /// A sheet as plain numbers, a line a payslip.
@@ -363,16 +405,20 @@ fn plain(sheet: &Sheet) -> String {
     text
 }
 
-/// A run's figures, a line each, and its multiplications; or all of it as an object.
-fn print_run(given: &Given, mut fields: Vec<(&str, String)>, run: &Run) -> Result<(), Failure> {
-    let made = run.multiplications;
+/// Figures, a line each, and the multiplications that they took; or all of it as an object.
+fn print_figures(
+    given: &Given,
+    mut fields: Vec<(&str, String)>,
+    figures: &[u32],
+    counts: Counts,
+) -> Result<(), Failure> {
     if given.has("--json") {
-        fields.push(("figures", json::numbers(&run.figures)));
-        fields.push(("multiplications", made.to_string()));
+        fields.push(("figures", json::numbers(figures)));
+        fields.extend(counts_fields("multiplications", counts));
         return print(json::object(&fields));
     }
-    let mut lines: Vec<String> = run.figures.iter().map(u32::to_string).collect();
-    lines.push(format!("{made} multiplications"));
+    let mut lines: Vec<String> = figures.iter().map(u32::to_string).collect();
+    lines.push(counts_in_words("multiplication", counts));
     print(lines.join("\n"))
 }
 

@@ -3,7 +3,7 @@ use crate::input::Source;
 use crate::kinds::Kind;
 use crate::messages::{counted, Failure, Refused};
 use crate::packed::{can_only_be_fields, can_only_be_text, refused_fields};
-use spoutbasket::{list, numbers, Chain, Keys, Listing, Method, Reason, Refusal};
+use spoutbasket::{list, numbers, Chain, Counts, Keys, Listing, Method, Reason, Refusal};
 use spoutbasket::{Sheet, SheetError, TextFault, TextReason};
 use spoutbasket::{LONGEST_FILE, MOST_COLUMNS, MOST_PAYSLIPS, MOST_STEPS};
 
@@ -111,14 +111,13 @@ fn misfit(keys: &Keys, columns: usize) -> Option<String> {
     Some(format!("base {place} is {base}, the modulus {modulus}"))
 }
 
-/// The chain of a file.
-pub fn chain(source: &Source, bytes: &[u8]) -> Result<Chain, Refused> {
-    Chain::from_file(bytes).map_err(|refusal| refused_file(source, bytes, refusal))
+/// The chain of a file, and its counts.
+pub fn chain(source: &Source, bytes: &[u8]) -> Result<(Chain, Counts), Refused> {
+    Chain::from_file_counted(bytes).map_err(|refusal| refused_file(source, bytes, refusal))
 }
 
-/// What a chain makes.
-pub fn listing(source: &Source, bytes: &[u8]) -> Result<Listing, Refused> {
-    let chain = chain(source, bytes)?;
+/// What the chain of a file makes.
+pub fn listing(source: &Source, bytes: &[u8], chain: &Chain) -> Result<Listing, Refused> {
     list(bytes).map_err(|refusal| {
         // a listing tells no place; the check does, and of 13 it does so whatever the amounts are
         let (p, q) = (chain.columns, chain.outputs.len());

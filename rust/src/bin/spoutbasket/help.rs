@@ -37,7 +37,8 @@ Makes a sheet's chain and writes its file.
   --table          the sheet is a table, one payslip a line
   --packed P,Q     the sheet is packed fields, of P columns and Q payslips
   -o CHAIN         the file to write, whole or not at all; else standard output
-  -v, --verbose    say the method and the steps on standard error
+  -v, --verbose    say the method and the steps, with squarings and products, on
+                   standard error
 
 Example: spoutbasket compile week.txt -o week.chain
 ",
@@ -68,7 +69,9 @@ Usage: spoutbasket check [--table | --packed P,Q[,Q2]] [--json] SHEET [SHEET2] C
 
 Holds a chain against a sheet, whoever made it: passed, or refused with status 1. With
 two sheets it is held against the payslips of the first and then of the second, as a
-pool has them.
+pool has them. Of a chain that passed it says the columns, the payslips and the steps,
+and how many of these are squarings, which take one value twice, and how many products
+of two values.
 
   --table            the sheet is a table, one payslip a line; of two sheets, each
   --packed P,Q[,Q2]  the sheet is packed fields, of P columns and Q payslips; of two
@@ -104,7 +107,8 @@ then those of the second. The pool makes both sheets, the first above the second
 each of the two makes its own; check it against both.
 
   -o CHAIN       the file to write, whole or not at all; else standard output
-  -v, --verbose  say what was pooled on standard error
+  -v, --verbose  say what was pooled, with steps, squarings and products, on standard
+                 error
 
 Example: spoutbasket pool staff.chain hourly.chain -o pool.chain
 ",
@@ -118,7 +122,8 @@ Reads the amounts back out of a chain: a line with its columns, payslips and ste
 for each payslip a line with its number and its amounts.
 
   --json         the result as one JSON object
-  -v, --verbose  say p + n, the width W of the file's numbers and its bytes on standard error
+  -v, --verbose  say p + n, the width W of the file's numbers, its bytes, and the steps
+                 with squarings and products, on standard error
 
 Example: spoutbasket list week.chain
 ",
@@ -129,7 +134,7 @@ Example: spoutbasket list week.chain
 Usage: spoutbasket run --keys FILE [--json] [CHAIN]
 
 Makes the control figures of a chain, one a line, and says how many multiplications
-that took.
+that took, and how many of them were squarings and how many products.
 
   --keys FILE  the receiver's modulus, then its bases, one for each column
   --json       the result as one JSON object
@@ -143,7 +148,7 @@ Example: spoutbasket run --keys bank.keys week.chain
 Usage: spoutbasket figures --keys FILE [--method METHOD] [--table | --packed P,Q] [--json] [SHEET]
 
 Makes the control figures of a sheet: compiles it, writes the chain, reads it, checks
-what was read, and runs it.
+what was read, and runs it. Says what run does.
 
   --keys FILE      the receiver's modulus, then its bases, one for each column
   --method METHOD  as for compile; else the one with the fewest steps

@@ -3,7 +3,7 @@ use crate::documents::{self, refused_both, refused_file};
 use crate::input::Source;
 use crate::kinds::Kind;
 use crate::messages::{counted, Failure, Refused};
-use spoutbasket::{choose, list, Chain, Listing, Reason, Refusal, Sheet};
+use spoutbasket::{choose, list, Chain, Counts, Listing, Reason, Refusal, Sheet};
 
 /// The sheet that a chain should make.
 pub struct Wanted {
@@ -35,8 +35,8 @@ impl Wanted {
         Ok(Wanted { sheet, parts })
     }
 
-    /// The chain of a file that makes the sheet. It is judged by the chooser, which compares p and q too and never takes a file of no bytes.
-    pub fn made_by(&self, source: &Source, bytes: &[u8]) -> Result<Chain, Refused> {
+    /// The chain of a file that makes the sheet, and its counts. It is judged by the chooser, which compares p and q too and never takes a file of no bytes.
+    pub fn made_by(&self, source: &Source, bytes: &[u8]) -> Result<(Chain, Counts), Refused> {
         match choose(&self.sheet, bytes, &[]) {
             Ok(_) => documents::chain(source, bytes),
             Err(refusal) => Err(self.unlike(source, bytes, refusal)),

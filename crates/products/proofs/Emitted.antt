@@ -98,23 +98,22 @@ module _ (cells : List ℕ) (r : Progress) (room : MoreRoom cells r 1) where
 
   -- in either order
   module _ (a b d : ℕ) (counted : SquaringCounted (ordered a b) d) where
+    put-ordered : (x y : ℕ) → max a b ≡ x → min a b ≡ y → y ≤ x
+        → StepsStored cells (set (set cells (2 * r .steps) x) (2 * r .steps + 1) y) (one-more (r .squarings + d))
+        (stepsIn cells (r .steps) ++ ordered a b ∷ [])
+    put-ordered x y u v le =
+        let c = rw (u, v) at (counted .is) in
+        rw (u, v) (stored-put x y (r .squarings + d) (ap (λ (k : ℕ). r .squarings + k) (c le)))
+
     pub put-rising : a < b
         → StepsStored cells (set (set cells (2 * r .steps) b) (2 * r .steps + 1) a) (one-more (r .squarings + d))
         (stepsIn cells (r .steps) ++ ordered a b ∷ [])
-    put-rising lt =
-        let u : max a b ≡ b = omega arith in
-        let v : min a b ≡ a = omega arith in
-        let c = rw (u, v) at (counted .is) in
-        rw (u, v) (stored-put b a (r .squarings + d) (ap (λ (k : ℕ). r .squarings + k) (c (omega arith))))
+    put-rising lt = put-ordered b a (omega arith) (omega arith) (omega arith)
 
     pub put-falling : b ≤ a
         → StepsStored cells (set (set cells (2 * r .steps) a) (2 * r .steps + 1) b) (one-more (r .squarings + d))
         (stepsIn cells (r .steps) ++ ordered a b ∷ [])
-    put-falling ge =
-        let u : max a b ≡ a = omega arith in
-        let v : min a b ≡ b = omega arith in
-        let c = rw (u, v) at (counted .is) in
-        rw (u, v) (stored-put a b (r .squarings + d) (ap (λ (k : ℕ). r .squarings + k) (c ge)))
+    put-falling ge = put-ordered a b (omega arith) (omega arith) ge
 
 -- whether a product of two values is a squaring
 module _ (a b : ℕ) where

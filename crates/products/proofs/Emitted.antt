@@ -10,7 +10,7 @@ use Rattle.chain.specs.Written.{over, laid}
 use Rattle.chain.specs.Inner.{SquaringCounted}
 use Rattle.chain.specs.declared.Step.{Step}
 use Rattle.chain.proofs.Pairs.{length-pairs, pairs-flat, length-flat, flat-append, flat-pairs}
-use Rattle.chain.proofs.Squarings.{one-equal, one-unequal, squarings-append, squarings-few, squarings-one}
+use Rattle.chain.proofs.Squarings.{squarings-append, squarings-few, squarings-one}
 use Rattle.chain.proofs.Written.{laid-nil, laid-pair, over-length, take-over, over-take, over-over}
 use Rattle.products.specs.Product.{Made, made, ordered}
 use Rattle.products.specs.Inner.{stepsIn, begun, SoFar, MoreRoom, StepsRoom, StepsStored, Emitted}
@@ -74,6 +74,14 @@ over-front n t l h =
     let long : length (take n l ++ t) ≡ n + length t = length-append (take n l) t ∙ omega (arith, length-take-le n l h) in
     rw (long, append-assoc)
 
+-- the step of two values, by their order
+module _ (a b : ℕ) where
+  pub ordered-rising : a < b → by b a ≡ ordered a b
+  ordered-rising lt = ap₂ by (omega arith) (omega arith)
+
+  pub ordered-falling : b ≤ a → by a b ≡ ordered a b
+  ordered-falling ge = ap₂ by (omega arith) (omega arith)
+
 -- one step more, which is counted if it is a squaring
 module _ (cells : List ℕ) (r : Progress) (room : MoreRoom cells r 1) where
   abbrev one-more : ℕ → Progress
@@ -96,37 +104,13 @@ module _ (cells : List ℕ) (r : Progress) (room : MoreRoom cells r 1) where
             omega (arith, is, room .so-far .counted, squarings-append (stepsIn cells n) (by a b ∷ []), squarings-one (by a b));
       }
 
-  -- in either order
-  module _ (a b d : ℕ) (counted : SquaringCounted (ordered a b) d) where
-    put-ordered : (x y : ℕ) → max a b ≡ x → min a b ≡ y → y ≤ x
-        → StepsStored cells (set (set cells (2 * r .steps) x) (2 * r .steps + 1) y) (one-more (r .squarings + d))
-        (stepsIn cells (r .steps) ++ ordered a b ∷ [])
-    put-ordered x y u v le =
-        let c = rw (u, v) at (counted .is) in
-        rw (u, v) (stored-put x y (r .squarings + d) (ap (λ (k : ℕ). r .squarings + k) (c le)))
-
-    pub put-rising : a < b
-        → StepsStored cells (set (set cells (2 * r .steps) b) (2 * r .steps + 1) a) (one-more (r .squarings + d))
-        (stepsIn cells (r .steps) ++ ordered a b ∷ [])
-    put-rising lt = put-ordered b a (omega arith) (omega arith) (omega arith)
-
-    pub put-falling : b ≤ a
-        → StepsStored cells (set (set cells (2 * r .steps) a) (2 * r .steps + 1) b) (one-more (r .squarings + d))
-        (stepsIn cells (r .steps) ++ ordered a b ∷ [])
-    put-falling ge = put-ordered a b (omega arith) (omega arith) ge
-
--- whether a product of two values is a squaring
-module _ (a b : ℕ) where
-  pub product-same : a ≡ b → SquaringCounted (ordered a b) 1
-  product-same e =
-      let u : max a b ≡ a = omega arith in
-      let v : min a b ≡ b = omega arith in
-      rw (u, v) (record { is = λ le. one-equal a b e; low = omega arith })
-
-  pub product-other : (a ≡ b → ⊥) → SquaringCounted (ordered a b) 0
-  product-other ne = record { is = λ le. one-unequal (max a b) (min a b) (omega arith); low = omega arith }
-
-pub ruleset putting = (put-rising, put-falling)
+  -- x is the step that multiplies a and b
+  pub put-ordered : (a b d : ℕ) (x : Step) → x ≡ ordered a b → SquaringCounted (by (x .first) (x .second)) d
+      → StepsStored cells (set (set cells (2 * r .steps) (x .first)) (2 * r .steps + 1) (x .second)) (one-more (r .squarings + d))
+      (stepsIn cells (r .steps) ++ ordered a b ∷ [])
+  put-ordered a b d x is counted =
+      let c = rw is at (counted .is) in
+      rw is (stored-put (max a b) (min a b) (r .squarings + d) (ap (λ (k : ℕ). r .squarings + k) (c (omega arith))))
 
 -- steps stored after others, which they begin with
 pub stored-on : {old cells cells′ : List ℕ} {r r′ : Progress} {a b : List Step} → StepsStored old cells r a → Begins a b → StepsStored cells cells′ r′ b

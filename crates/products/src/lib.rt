@@ -1,9 +1,10 @@
 // Products in the making: steps go into a lent flat slice, first and second in turn; the numbers of steps and of values say where. Squarings are counted
 // as they are put.
+ghost use mathlib.Core.Path.{_≡_};
 ghost use mathlib.Core.List.{[], _∷_, _++_};
-ghost use Rattle.chain.specs.Inner.{SquaringCounted};
 ghost use Rattle.products.specs.Product.{ordered, times, squared};
 ghost use Rattle.products.specs.Inner.{stepsIn, productIn, MoreRoom, StepsRoom, StepsStored, Emitted};
+use chain::Step;
 
 // How many steps there are so far, and how many of them are squarings.
 pub struct Progress {
@@ -17,14 +18,20 @@ pub struct PartialProduct {
     pub value: u32,
 }
 
-// 1 if a product is a squaring, else 0. Its two values are in no order yet.
-fn squaring(a: u32, b: u32) -> usize
-    ensures { λ r. ⌜ SquaringCounted (ordered a b) r ⌝ }
+// The step that multiplies two values: the larger number first.
+fn ordered(a: u32, b: u32) -> Step
+    ensures { λ r. ⌜ r ≡ ordered a b ⌝ }
 {
-    if a == b {
-        return 1;
+    if a < b {
+        return Step {
+            first: b,
+            second: a,
+        };
     }
-    0
+    Step {
+        first: a,
+        second: b,
+    }
 }
 
 // One step more: the larger value, then the smaller.
@@ -33,18 +40,13 @@ pub fn put(progress: Progress, a: u32, b: u32, steps: &mut [u32]) -> Progress
     ensures { λ r. ⌜ StepsStored (now (steps .entry)) (now (steps .exit)) r (stepsIn (now (steps .entry)) (progress .steps) ++ ordered a b ∷ []) ⌝ }
 {
     let n = progress.steps;
-    let after = Progress {
+    let step = ordered(a, b);
+    steps[2 * n] = step.first;
+    steps[2 * n + 1] = step.second;
+    Progress {
         steps: n + 1,
-        squarings: progress.squarings + squaring(a, b),
-    };
-    if a < b {
-        steps[2 * n] = b;
-        steps[2 * n + 1] = a;
-        return after;
+        squarings: progress.squarings + chain::squaring(step.first, step.second),
     }
-    steps[2 * n] = a;
-    steps[2 * n + 1] = b;
-    after
 }
 
 // The product times value y, for p columns.

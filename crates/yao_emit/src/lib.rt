@@ -47,7 +47,11 @@ fn gather_one(
     if digit == d {
         return products::times(p, b, power, steps);
     }
-    b
+    let before = b.progress;
+    PartialProduct {
+        progress: before,
+        value: b.value,
+    }
 }
 
 // b times each power whose digit is d, lowest first.

@@ -3,12 +3,12 @@ use mathlib.Core.Path.{_≡_, refl, sym, ap, ap₂, _∙_}
 use mathlib.Core.Bool.{Bool}
 use mathlib.Core.List.{List, [], _∷_, _++_, append-assoc}
 use Prim.Native.Nat.{ℕ, zero, suc, _+_, _-_, _*_, _/_, _%_, _^_, _≤_, _<_}
-use native.Mathlib.Nat.{zero-mul, suc-mul, div-add-mod', lt-of-not-le, lt-of-lt-of-le}
+use native.Mathlib.Nat.{zero-mul, suc-mul, lt-of-not-le, lt-of-lt-of-le}
 use native.Mathlib.Decide.{decLe}
 use native.Mathlib.Omega.{arith}
 use lib.ListN.{length, take, drop, getD, length-append, length-take, length-drop}
 use lib.Seq.{length-take-le, take-nil, take-add, drop-nil, drop-drop, drop-cons, take-append-add, drop-append-add}
-use lib.Pow.{pow-mono, high, low}
+use lib.Pow.{pow-mono}
 use Rattle.bits.specs.Bits.{bits, fields, value, bytesBits, fieldAt, fieldsAt}
 use Rattle.bits.specs.Inner.{window}
 use Rattle.bits.proofs.Parts.{drop-take, take-none, take-both}
@@ -95,14 +95,12 @@ take-window (suc n) l i k hn hl = by-place (λ h. take-window n l (suc i) (k - 8
         ∙ take-both k 8 (bits 8 (getD l i 0)) _ _ (length-bits 8 (getD l i 0)) (rest h)
         ∙ ap (take k) (sym (bytesBits-cons (getD l i 0) (window n l (suc i))))
 
--- a field, out of a window that covers it
-pub field-window : (n : ℕ) (l : List ℕ) (at w : ℕ) → at % 8 + w ≤ n * 8 → at + w ≤ 8 * length l
-    → fieldAt l at w ≡ value (bytesBits (window n l (at / 8))) / 2 ^ (n * 8 - (at % 8 + w)) % 2 ^ w
-field-window n l at w hn hl =
-    let i : ℕ = at / 8 in
-    let o : ℕ = at % 8 in
+-- a field, out of a window that covers it: it stands o bits behind the window's begin
+pub field-window : (n : ℕ) (l : List ℕ) (i o at w : ℕ) → at ≡ i * 8 + o → o + w ≤ n * 8 → at + w ≤ 8 * length l
+    → fieldAt l at w ≡ value (bytesBits (window n l i)) / 2 ^ (n * 8 - (o + w)) % 2 ^ w
+field-window n l i o at w place hn hl =
     let x : List Bool = bytesBits (window n l i) in
-    ap (λ (m : ℕ). value (take w (drop m (bytesBits l)))) (sym (div-add-mod' at 8))
+    ap (λ (m : ℕ). value (take w (drop m (bytesBits l)))) place
     ∙ ap (λ (t : List Bool). value (take w t)) (sym (drop-drop o (i * 8) (bytesBits l)) ∙ ap (drop o) (drop-bytesBits i l))
     ∙ ap value (drop-take o w (bytesBits (drop i l)) ∙ ap (drop o) (take-window n l i (o + w) hn (omega arith)) ∙ sym (drop-take o w x))
     ∙ value-slice x o w (n * 8) (length-bytesBits (window n l i) ∙ ap (λ (m : ℕ). m * 8) (length-window n l i)) hn
@@ -122,19 +120,6 @@ length-fieldsAt f at w (suc n) = ap suc (length-fieldsAt f (at + w) w n)
 pub field-lt : (f : List ℕ) (at w : ℕ) → fieldAt f at w < 2 ^ w
 field-lt f at w =
     lt-of-lt-of-le (value-lt (take w (drop at (bytesBits f)))) (pow-mono {j = w} (omega (arith, length-take w (drop at (bytesBits f)))))
-
--- a field of twice the width is two fields: the first is its high half, the second its low one
-pub field-two : (f : List ℕ) (at w : ℕ) → at + 2 * w ≤ 8 * length f
-    → (fieldAt f at (2 * w) / 2 ^ w ≡ fieldAt f at w) × (fieldAt f at (2 * w) % 2 ^ w ≡ fieldAt f (at + w) w)
-field-two f at w h =
-    let rest : List Bool = drop at (bytesBits f) in
-    let e : 2 * w ≡ w + w = omega arith in
-    let long : length (take w (drop w rest)) ≡ w =
-    length-take-le w (drop w rest) (omega (arith, length-drop w rest, length-drop at (bytesBits f), length-bytesBits f)) in
-    let both : fieldAt f at (2 * w) ≡ fieldAt f at w * 2 ^ w + fieldAt f (at + w) w =
-    ap (λ (k : ℕ). value (take k rest)) e ∙ ap value (take-add w w rest) ∙ value-append (take w rest) (take w (drop w rest))
-    ∙ ap₂ (λ (k : ℕ) (r : List Bool). value (take w rest) * 2 ^ k + value (take w r)) long (drop-drop w at (bytesBits f)) in
-    (rw both (high (fieldAt f at w) w (field-lt f (at + w) w)), rw both (low (fieldAt f at w) w (field-lt f (at + w) w)))
 
 -- the bits of a file are those of its fields
 module _ (f : List ℕ) (w : ℕ) where

@@ -5,3 +5,4 @@ pub mod Pack
 pub mod Filed
 pub mod Take
 pub mod Put
+pub mod Lengthened

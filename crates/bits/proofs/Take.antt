@@ -1,16 +1,16 @@
--- Eight bytes as one word cover any field of up to 56 bits from any bit on, so a shift and a remainder of the word are the field; two fields are split alike.
+-- Eight bytes as one word cover any field of up to 56 bits from any bit on, so a shift and a remainder of the word are the field; of two fields each.
 use mathlib.Core.Path.{_≡_, refl, sym, ap, ap₂, _∙_, subst}
 use mathlib.Core.List.{List, [], _∷_, _++_}
-use Prim.Native.Nat.{ℕ, zero, suc, _+_, _-_, _*_, _/_, _%_, _^_, _≤_, _<_}
-use native.Mathlib.Nat.{mod-lt, one-mul, zero-mul}
+use Prim.Native.Nat.{ℕ, zero, suc, _+_, _-_, _*_, _/_, _%_, _^_, _≤_, _<_, min}
+use native.Mathlib.Nat.{one-mul, zero-mul, div-add-mod'}
 use native.Mathlib.Omega.{arith}
 use lib.ListN.{length, getD, List·getD-eq-default}
 use lib.Dec.{lit<}
 use lib.Pow.{pow-pos, shl-exact, shr-shr}
 use Rattle.bits.specs.Bits.{value, bytesBits, fieldAt}
-use Rattle.bits.specs.Inner.{widestField, window, ByteAt, WordAt, FieldRoom, FieldTaken, TwoTaken}
+use Rattle.bits.specs.Inner.{widestField, window, ByteAt, WordAt, FieldRoom, FieldTaken, TwoRoom, TwoTaken}
 use Rattle.bits.proofs.Values.{value-lt, value-append}
-use Rattle.bits.proofs.Fields.{length-bytesBits, bytesBits-append, length-window, field-window, value-bytes, field-lt, field-two}
+use Rattle.bits.proofs.Fields.{length-bytesBits, bytesBits-append, length-window, field-window, value-bytes, field-lt}
 
 no-bytes : value (bytesBits []) ≡ 0
 unfolding value bytesBits
@@ -106,30 +106,48 @@ one-shl w h = shl-exact 1 w 64 (lit< tt) (omega arith) ∙ one-mul (2 ^ w)
 pub one-shl-pos : (w : ℕ) → w ≤ widestField → 0 < 1 * 2 ^ w % 2 ^ 64
 one-shl-pos w h = subst (λ (m : ℕ). 0 < m) (sym (one-shl w h)) (pow-pos w)
 
+-- eight bytes from i on, shifted and cut to a field that stands o bits behind their begin
+module _ (l : List ℕ) (i g : ℕ) (got : WordAt 8 l i g) where
+  cut : (o k at w : ℕ) → w ≤ widestField → at ≡ i * 8 + o → o + w ≤ 64 → at + w ≤ 8 * length l → k ≡ 64 - (o + w)
+      → g / 2 ^ k % (1 * 2 ^ w % 2 ^ 64) ≡ fieldAt l at w
+  cut o k at w narrow place covered within e =
+      ap₂ (λ (x m : ℕ). x / 2 ^ k % m) (got .is) (one-shl w narrow)
+      ∙ ap (λ (n : ℕ). value (bytesBits (window 8 l i)) / 2 ^ n % 2 ^ w) e
+      ∙ sym (field-window 8 l i o at w place covered within)
+
+module _ (l : List ℕ) (at w : ℕ) where
+  field-is : (v next : ℕ) → v ≡ fieldAt l at w → next ≡ at + w → FieldTaken l at w v next
+  field-is v next is moved = record { is = is; small = rw is (field-lt l at w); moved = moved }
+
 module _ (l : List ℕ) (at w : ℕ) where
   pub taken : (g : ℕ) → FieldRoom l at w → WordAt 8 l (at / 8) g → FieldTaken l at w (g / 2 / 2 ^ (63 - (at % 8 + w)) % (1 * 2 ^ w % 2 ^ 64)) (at + w)
   taken g room got =
       let r : ℕ = 63 - (at % 8 + w) in
-      let all : 1 + r ≡ 64 - (at % 8 + w) = omega (arith, room .narrow) in
-      let e : g / 2 / 2 ^ r % (1 * 2 ^ w % 2 ^ 64) ≡ g / 2 ^ (64 - (at % 8 + w)) % 2 ^ w =
-      ap₂ (λ (x m : ℕ). x % m) (shr-shr g 1 r ∙ ap (λ (k : ℕ). g / 2 ^ k) all) (one-shl w (room .narrow)) in
-      record {
-        is =
-            e
-            ∙ ap (λ (m : ℕ). m / 2 ^ (64 - (at % 8 + w)) % 2 ^ w) (got .is)
-            ∙ sym (field-window 8 l at w (omega (arith, room .narrow)) (room .within));
-        small = subst (λ (m : ℕ). m < 2 ^ w) (sym e) (mod-lt (g / 2 ^ (64 - (at % 8 + w))) (pow-pos w));
-        moved = refl;
-      }
+      field-is l at w _ _
+      (ap (λ (x : ℕ). x % (1 * 2 ^ w % 2 ^ 64)) (shr-shr g 1 r)
+      ∙ cut l (at / 8) g got (at % 8) (1 + r) at w (room .narrow) (sym (div-add-mod' at 8)) (omega (arith, room .narrow)) (room .within)
+      (omega (arith, room .narrow)))
+      refl
 
-  -- a field of twice the width is two fields
-  pub two-taken : (v next : ℕ) → FieldRoom l at (2 * w) → FieldTaken l at (2 * w) v next → TwoTaken l at w (v / 2 ^ w) (v % (1 * 2 ^ w % 2 ^ 64)) next
-  two-taken v next room t =
-      let halves = field-two l at w (room .within) in
-      let a : v / 2 ^ w ≡ fieldAt l at w = ap (λ (x : ℕ). x / 2 ^ w) (t .is) ∙ halves .0 in
-      let b : v % (1 * 2 ^ w % 2 ^ 64) ≡ fieldAt l (at + w) w =
-      ap₂ (λ (x m : ℕ). x % m) (t .is) (one-shl w (omega (arith, room .narrow))) ∙ halves .1 in
+  -- those from i on cover two fields
+  pub two-taken : (i g : ℕ) → TwoRoom l at w → i ≡ min (at / 8) (length l - 8) → WordAt 8 l i g
+      → let v : ℕ = g / 2 ^ (64 - (at - 8 * i + 2 * w)) in
+      TwoTaken l at w (v / 2 ^ w % (1 * 2 ^ w % 2 ^ 64)) (v % (1 * 2 ^ w % 2 ^ 64)) (at + 2 * w)
+  two-taken i g two begin got =
+      let room = two .room in
+      let o : ℕ = at - 8 * i in
+      let r : ℕ = 64 - (o + 2 * w) in
+      let place : at ≡ i * 8 + o = omega (arith, begin) in
+      let covered : o + 2 * w ≤ 64 = omega (arith, begin, two .long, room .narrow, room .within) in
+      let narrow : w ≤ widestField = omega (arith, room .narrow) in
       record {
-        first = record { is = a; small = rw a (field-lt l at w); moved = refl };
-        second = record { is = b; small = rw b (field-lt l (at + w) w); moved = omega (arith, t .moved) };
+        first =
+            field-is l at w _ _
+            (ap (λ (x : ℕ). x % (1 * 2 ^ w % 2 ^ 64)) (shr-shr g r w)
+            ∙ cut l i g got o (r + w) at w narrow place (omega (arith, covered)) (omega (arith, room .within)) (omega (arith, covered)))
+            refl;
+        second =
+            field-is l (at + w) w _ _
+            (cut l i g got (o + w) r (at + w) w narrow (omega (arith, place)) (omega (arith, covered)) (omega (arith, room .within)) (omega (arith, covered)))
+            (omega arith);
       }

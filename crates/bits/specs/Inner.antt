@@ -23,6 +23,12 @@ pub record FieldTaken (file : List ℕ) (at w v next : ℕ) : Type 0 where
   pub small : v < 2 ^ w
   pub moved : next ≡ at + w
 
+-- two fields of w bits, one at least, have room there one behind the other, and the file has eight bytes
+pub record TwoRoom (file : List ℕ) (at w : ℕ) : Type 0 where
+  pub long : 8 ≤ length file
+  pub some : 0 < w
+  pub room : FieldRoom file at (2 * w)
+
 -- v and u are the next two fields of w bits, and next the position past both
 pub record TwoTaken (file : List ℕ) (at w v u next : ℕ) : Type 0 where
   pub first : FieldTaken file at w v (at + w)

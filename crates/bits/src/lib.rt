@@ -1,9 +1,10 @@
 // Bit fields, most significant bit first.
 ghost use mathlib.Core.Path.{_≡_};
-ghost use Prim.Native.Nat.{_+_, _*_, _≤_, _<_};
+ghost use Prim.Native.Nat.{_+_, _-_, _*_, _/_, _≤_, _<_, min};
 ghost use lib.ListN.{length};
+ghost use Rattle.chain.specs.Written.{over};
 ghost use Rattle.bits.specs.Bits.{bits};
-ghost use Rattle.bits.specs.Inner.{ByteAt, LastBytes, WordAt, FieldRoom, FieldTaken, TwoTaken, FieldFill, FieldStored};
+ghost use Rattle.bits.specs.Inner.{ByteAt, LastBytes, WordAt, FieldRoom, FieldTaken, TwoRoom, TwoTaken, FieldFill, FieldStored};
 
 // A bit position of a file.
 pub struct Cursor {
@@ -62,17 +63,50 @@ fn gather_last(file: &[u8], i: usize) -> u64
     x
 }
 
-// The eight bytes from i on as one number, with 0 past the end. Where all are there, they are read as two words.
+// The eight bytes from i on as one number. They are read as two words.
+fn eight(file: &[u8], i: usize) -> u64
+    requires { ⌜ i + 8 ≤ length (now file) ⌝ }
+    ensures { λ r. ⌜ WordAt 8 (now (file .entry)) i r ⌝ }
+{
+    let x = word(file, i);
+    let y = word(file, i + 4);
+    x * 4294967296 + y
+}
+
+// The eight bytes from i on as one number, with 0 past the end.
 fn gather(file: &[u8], i: usize) -> u64
     requires { ⌜ i ≤ length (now file) ⌝ }
     ensures { λ r. ⌜ WordAt 8 (now (file .entry)) i r ⌝ }
 {
     if i + 8 <= file.len() {
-        let x = word(file, i);
-        let y = word(file, i + 4);
-        x * 4294967296 + y
+        eight(file, i)
     } else {
         gather_last(file, i)
+    }
+}
+
+// Where eight bytes begin that cover a field at a bit position: at its first byte, or at the eighth from the end of so many bytes.
+fn covering(at: usize, bytes: usize) -> usize
+    requires { ⌜ 8 ≤ bytes ⌝ }
+    ensures { λ r. ⌜ r ≡ min (at / 8) (bytes - 8) ⌝ }
+{
+    let i = at / 8;
+    let last = bytes - 8;
+    if i < last {
+        return i;
+    }
+    last
+}
+
+// A file's bytes, over the front of a longer slice. What is taken from a file of fewer than eight bytes is taken from such a copy.
+pub fn lengthen(file: &[u8], long: &mut [u8])
+    requires { ⌜ length (now file) ≤ length (now long) ⌝ }
+    ensures { λ _. ⌜ now (long .exit) ≡ over (now (file .entry)) (now (long .entry)) ⌝ }
+{
+    let mut i: usize = 0;
+    while i < file.len() {
+        long[i] = file[i];
+        i += 1;
     }
 }
 
@@ -92,18 +126,21 @@ impl Cursor {
         }
     }
 
-    // The next two fields of width bits, taken as one of twice the width.
+    // The next two fields of width bits, out of eight bytes that the file has: nothing is asked of its end, so that a loop that takes them stays short.
     pub fn take_two(self, file: &[u8], width: usize) -> TwoFields
-        requires { ⌜ FieldRoom (now file) (self .at) (2 * width) ⌝ }
+        requires { ⌜ TwoRoom (now file) (self .at) width ⌝ }
         ensures { λ r. ⌜ TwoTaken (now (file .entry)) (self .at) width (r .first) (r .second) (r .next .at) ⌝ }
     {
-        let both = self.take(file, 2 * width);
-        let value = both.value;
-        let next = both.next;
+        let at = self.at;
+        let i = covering(at, file.len());
+        let used = at - 8 * i + 2 * width;
+        let value = eight(file, i) >> (64 - used);
+        let first = (value >> width) % (1u64 << width);
+        let second = value % (1u64 << width);
         TwoFields {
-            first: value >> width,
-            second: value % (1usize << width),
-            next: next,
+            first: first as usize,
+            second: second as usize,
+            next: Cursor { at: at + 2 * width },
         }
     }
 

@@ -7,10 +7,11 @@ use native.Mathlib.Omega.{arith}
 use lib.ListN.{length, set, length-set}
 use lib.Pow.{pow-mono}
 use Rattle.chain.specs.Written.{over, laid}
-use Rattle.chain.proofs.Written.{over-laid, laid-nil, laid-one}
+use Rattle.chain.proofs.Written.{over-length, over-laid, laid-nil, laid-one}
 use Rattle.bits.specs.Bits.{fieldsAt}
-use Rattle.bits.specs.Inner.{widestField, FieldRoom, FieldTaken, TwoTaken}
-use Rattle.fields.specs.Inner.{widestNumber, FieldsRoom, FieldsTaken}
+use Rattle.bits.specs.Inner.{widestField, FieldRoom, FieldTaken, TwoRoom, TwoTaken}
+use Rattle.bits.proofs.Lengthened.{fields-over}
+use Rattle.fields.specs.Inner.{widestNumber, FieldsRoom, LongRoom, FieldsTaken}
 
 -- what out will be, from what it is with n fields to come, the first at position c for cell j
 unfoldable pub takenFrom : List ℕ → ℕ → ℕ → ℕ → ℕ → List ℕ → List ℕ
@@ -64,8 +65,8 @@ module _ (file whole : List ℕ) (at w n : ℕ) (old : List ℕ) (ok : FieldsRoo
     pub one-room : j < n → FieldRoom file c w
     one-room h = rw (one-mul w) at (room-some 1 (omega arith) (omega (arith, ok .narrow)))
 
-    pub two-room : 2 ≤ n - j → FieldRoom file c (2 * w)
-    two-room h = room-some 2 (omega arith) (omega (arith, ok .narrow))
+    pub two-room : 8 ≤ length file → 2 ≤ n - j → TwoRoom file c w
+    two-room long h = record { long = long; some = ok .some; room = room-some 2 (omega arith) (omega (arith, ok .narrow)) }
 
     pub one-on : j < n → (v next : ℕ) → FieldTaken file c w v next → Taking file whole (at + n * w) w n (set out j v) next (j + 1)
     unfolding takenFrom fieldsAt
@@ -87,6 +88,21 @@ module _ (file whole : List ℕ) (at w n : ℕ) (old : List ℕ) (ok : FieldsRoo
       let e : j + 1 + 1 ≡ j + 2 = omega arith in
       let first = one-on out c j inv (omega arith) v (c + w) (t .first) in
       rw e at (one-on (set out j v) (c + w) (j + 1) first (omega arith) u next (t .second))
+
+-- a short file is read from a list that begins with it
+module _ (file old long : List ℕ) (is : long ≡ over file old) (at w n : ℕ) (out : List ℕ) (ok : FieldsRoom file at w n out) where
+  pub long-room : length file ≤ length old → 8 ≤ length old → LongRoom long at w n out
+  long-room fits eight =
+      let same : length long ≡ length old = ap length is ∙ over-length file old fits in
+      record {
+        long = omega (arith, same);
+        room = record { narrow = ok .narrow; some = ok .some; within = omega (arith, ok .within, same); fits = ok .fits; room = ok .room };
+      }
+
+  pub long-taken : (new : List ℕ) (next : ℕ) → FieldsTaken long at w n out new next → FieldsTaken file at w n out new next
+  long-taken new next t =
+      let found : fieldsAt long at w n ≡ fieldsAt file at w n = ap (λ (l : List ℕ). fieldsAt l at w n) is ∙ fields-over file old at w n (ok .within) in
+      record { is = t .is ∙ ap (λ (l : List ℕ). over l out) found; moved = t .moved }
 
 -- a number of a list fits a value number
 pub number-fits : (w v : ℕ) → w ≤ widestNumber → v < 2 ^ w → v < 2 ^ 32

@@ -29,12 +29,18 @@ pub record FrontFill (buf : List ℕ) (at w n : ℕ) (l : List ℕ) : Type 0 whe
   pub there : n ≤ length l
   pub fill : FieldsFill buf at w (take n l)
 
--- n fields of w bits lie within the file from position at on, and out has a cell for each
+-- n fields of w bits, one at least, lie within the file from position at on, and out has a cell for each
 pub record FieldsRoom (file : List ℕ) (at w n : ℕ) (out : List ℕ) : Type 0 where
   pub narrow : w ≤ widestNumber
+  pub some : 0 < w
   pub within : at + n * w ≤ 8 * length file
   pub fits : at + n * w < 2 ^ 64
   pub room : n ≤ length out
+
+-- and the file has eight bytes
+pub record LongRoom (file : List ℕ) (at w n : ℕ) (out : List ℕ) : Type 0 where
+  pub long : 8 ≤ length file
+  pub room : FieldsRoom file at w n out
 
 -- they were read into new, which was old
 pub record FieldsTaken (file : List ℕ) (at w n : ℕ) (old new : List ℕ) (next : ℕ) : Type 0 where

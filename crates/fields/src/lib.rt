@@ -4,7 +4,7 @@ ghost use Prim.Native.Nat.{_*_};
 ghost use lib.ListN.{take};
 ghost use Rattle.bits.specs.Bits.{fields};
 ghost use Rattle.bits.specs.Inner.{FieldStored};
-ghost use Rattle.fields.specs.Inner.{FrontFill, FieldsRoom, FieldsTaken};
+ghost use Rattle.fields.specs.Inner.{FrontFill, FieldsRoom, LongRoom, FieldsTaken};
 use bits::Cursor;
 
 fn wide(x: u32) -> u64
@@ -33,9 +33,9 @@ pub fn put_fields(buf: &mut [u8], from: Cursor, width: usize, list: &[u32], coun
     c
 }
 
-// Reads count fields of width bits into the first cells of out, two at a time and a last odd one by itself.
-pub fn take_fields(file: &[u8], from: Cursor, width: usize, count: usize, out: &mut [u32]) -> Cursor
-    requires { ⌜ FieldsRoom (now file) (from .at) width count (now out) ⌝ }
+// Reads count fields of width bits into the first cells of out, two at a time and a last odd one by itself, from a file of eight bytes or more.
+fn take_long(file: &[u8], from: Cursor, width: usize, count: usize, out: &mut [u32]) -> Cursor
+    requires { ⌜ LongRoom (now file) (from .at) width count (now out) ⌝ }
     ensures { λ r. ⌜ FieldsTaken (now (file .entry)) (from .at) width count (now (out .entry)) (now (out .exit)) (r .at) ⌝ }
 {
     let mut c = from;
@@ -57,4 +57,17 @@ pub fn take_fields(file: &[u8], from: Cursor, width: usize, count: usize, out: &
         c = next;
     }
     c
+}
+
+// Reads count fields of width bits into the first cells of out. A short file is read from a copy that is long enough.
+pub fn take_fields(file: &[u8], from: Cursor, width: usize, count: usize, out: &mut [u32]) -> Cursor
+    requires { ⌜ FieldsRoom (now file) (from .at) width count (now out) ⌝ }
+    ensures { λ r. ⌜ FieldsTaken (now (file .entry)) (from .at) width count (now (out .entry)) (now (out .exit)) (r .at) ⌝ }
+{
+    if file.len() < 8 {
+        let mut long = [0u8; 8];
+        bits::lengthen(file, &mut long);
+        return take_long(&long, from, width, count, out);
+    }
+    take_long(file, from, width, count, out)
 }

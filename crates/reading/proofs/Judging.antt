@@ -7,7 +7,8 @@ use native.Mathlib.Numerals.{add-one}
 use native.Mathlib.Omega.{arith}
 use lib.ListN.{length}
 use Rattle.chain.specs.Tests.{_<?_}
-use Rattle.chain.specs.Verdict.{Verdict, fine, refused, _then_, refuseIf}
+use Rattle.chain.specs.Verdict.{Verdict, fine, refused, _then_, refuseIf, Answer}
+use Rattle.chain.specs.Written.{over}
 use Rattle.chain.specs.Judgement.{verdictOf}
 use Rattle.chain.specs.Chain.{by, pairs, stepRule, stepsRule, outputsRule, squaringsOf}
 use Rattle.chain.specs.Inner.{SquaringCounted}
@@ -15,15 +16,18 @@ use Rattle.chain.specs.declared.Judgement.{Judgement}
 use Rattle.chain.specs.declared.Judgement.the-variants.{Fine, Refused}
 use Rattle.chain.proofs.Squarings.{counted-one}
 use Rattle.chain.proofs.Rules.{stop, pass, told-fine, told-refused, refuse-yes, refuse-no, lt-yes, lt-no}
+use Rattle.chain.proofs.Written.{over-length}
 use Rattle.bits.specs.Bits.{fieldsAt}
-use Rattle.bits.specs.Inner.{FieldRoom, FieldTaken, TwoTaken}
+use Rattle.bits.specs.Inner.{FieldRoom, FieldTaken, TwoRoom, TwoTaken}
+use Rattle.bits.proofs.Lengthened.{fields-over}
 use Rattle.fields.specs.Inner.{widestNumber}
 use Rattle.layout.specs.declared.Extent.{Extent}
-use Rattle.reading.specs.Inner.{Contained}
+use Rattle.reading.specs.Inner.{Contained, LongContained, chainCounted}
 
 -- n fields of w bits from position at on may be read
 pub record FieldsWithin (bytes : List ℕ) (at w n : ℕ) : Type 0 where
   pub narrow : w ≤ widestNumber
+  pub some : 0 < w
   pub within : at + n * w ≤ 8 * length bytes
   pub fits : at + n * w < 2 ^ 64
 
@@ -31,12 +35,28 @@ module _ (bytes : List ℕ) (x : Extent) (ok : Contained bytes x) where
   pub steps-within : FieldsWithin bytes (x .start) (x .width) (2 * x .n)
   steps-within =
       let r = ok .proper in
-      record { narrow = r .narrow; within = omega (arith, r .parts, ok .within); fits = omega (arith, r .parts, r .low) }
+      record { narrow = r .narrow; some = r .some; within = omega (arith, r .parts, ok .within); fits = omega (arith, r .parts, r .low) }
 
   pub outputs-within : FieldsWithin bytes (x .start + 2 * x .n * x .width) (x .width) (x .q)
   outputs-within =
       let r = ok .proper in
-      record { narrow = r .narrow; within = omega (arith, r .parts, ok .within); fits = omega (arith, r .parts, r .low) }
+      record { narrow = r .narrow; some = r .some; within = omega (arith, r .parts, ok .within); fits = omega (arith, r .parts, r .low) }
+
+-- what a list that begins with the bytes holds by the extent is what they hold
+module _ (bytes old long : List ℕ) (is : long ≡ over bytes old) (x : Extent) (ok : Contained bytes x) where
+  pub long-contained : length bytes ≤ length old → 8 ≤ length old → LongContained long x
+  long-contained fits eight =
+      let same : length long ≡ length old = ap length is ∙ over-length bytes old fits in
+      record { long = omega (arith, same); contained = record { proper = ok .proper; within = omega (arith, ok .within, same) } }
+
+  found : (at n : ℕ) → FieldsWithin bytes at (x .width) n → fieldsAt long at (x .width) n ≡ fieldsAt bytes at (x .width) n
+  found at n room = ap (λ (l : List ℕ). fieldsAt l at (x .width) n) is ∙ fields-over bytes old at (x .width) n (room .within)
+
+  pub long-judged : (a : Answer) → a ≡ chainCounted long x → a ≡ chainCounted bytes x
+  long-judged a e =
+      let steps = ap pairs (found _ _ (steps-within bytes x ok)) in
+      let outputs = found _ _ (outputs-within bytes x ok) in
+      e ∙ rw (steps, outputs)
 
 -- a field of w bits is taken, and n are left
 within-take : (bytes : List ℕ) (at w n : ℕ) → FieldsWithin bytes at w (suc n) → FieldRoom bytes at w
@@ -51,6 +71,7 @@ within-rest : (bytes : List ℕ) (at w n v next : ℕ) → FieldsWithin bytes at
 within-rest bytes at w n v next ok t =
     record {
       narrow = ok .narrow;
+      some = ok .some;
       within = omega (arith, ok .within, suc-mul n w, t .moved);
       fits = omega (arith, ok .fits, suc-mul n w, t .moved);
     }
@@ -97,12 +118,17 @@ module _ (whole : Verdict) (total : ℕ) (bytes : List ℕ) (p w n c s k : ℕ) 
     two : FieldsWithin bytes c w (suc (suc after))
     two = rw (← left) (inv .room)
 
-    pub step-room : FieldRoom bytes c (2 * w)
-    step-room =
+    pub step-room : 8 ≤ length bytes → TwoRoom bytes c w
+    step-room long =
         record {
-          narrow = omega (arith, two .narrow);
-          within = omega (arith, two .within, suc-mul (suc after) w, suc-mul after w);
-          fits = omega (arith, two .fits, suc-mul (suc after) w, suc-mul after w);
+          long = long;
+          some = two .some;
+          room =
+              record {
+                narrow = omega (arith, two .narrow);
+                within = omega (arith, two .within, suc-mul (suc after) w, suc-mul after w);
+                fits = omega (arith, two .fits, suc-mul (suc after) w, suc-mul after w);
+              };
         }
 
     module _ (a b next : ℕ) (t : TwoTaken bytes c w a b next) where

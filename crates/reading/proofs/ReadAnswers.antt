@@ -19,7 +19,7 @@ use Rattle.layout.specs.declared.Layout.{Layout}
 use Rattle.layout.specs.declared.Extent.{Extent}
 use Rattle.layout.specs.File.{columnsOf, payslipsOf, lengthOf, stepsOf, outputsOf, readRule, readAnswer, readSteps, readOutputs}
 use Rattle.layout.specs.Inner.{SoundLayout, Sized, extentOf}
-use Rattle.layout.proofs.Lengths.{top-low, width-low, count-parts, count-fits}
+use Rattle.layout.proofs.Lengths.{width-some, top-low, width-low, count-parts, count-fits}
 use Rattle.layout.proofs.Readable.{header-sized}
 use Rattle.reading.specs.declared.Header.{Header}
 use Rattle.reading.specs.declared.Heading.{Heading}
@@ -58,6 +58,7 @@ module _ (L : Layout) (bytes : List ℕ) (r : Heading) (told : headed L bytes r)
       subst Proper (sym (f .1))
       (record {
         narrow = omega (arith, width-low L sound _ _ _ s);
+        some = width-some (columnsOf bytes) (lengthOf L bytes) (omega arith);
         parts = count-parts L (columnsOf bytes) (payslipsOf bytes) (lengthOf L bytes);
         low = count-fits L sound _ _ _ s;
         whole = refl;
@@ -118,12 +119,14 @@ module _ (bytes : List ℕ) (x : Extent) where
             let c = contained (not-ne _ _ (refuseIf-fine _ 6 0 (a .0))) in (
               record {
                 narrow = ok .narrow;
+                some = ok .some;
                 within = omega (arith, ok .parts, c .within);
                 fits = omega (arith, ok .parts, ok .low);
                 room = omega (arith, pairs-room);
               },
               record {
                 narrow = ok .narrow;
+                some = ok .some;
                 within = omega (arith, ok .parts, c .within);
                 fits = omega (arith, ok .parts, ok .low);
                 room = places;

@@ -6,7 +6,8 @@ use lib.ListN.{length}
 use Rattle.chain.specs.Tests.{_<?_, _≠?_, _or_}
 use Rattle.chain.specs.Verdict.{Verdict, fine, refused, _then_, refuseIf, Answer, answer, onFine}
 use Rattle.chain.specs.Written.{over}
-use Rattle.chain.specs.Chain.{pairs, flat, lengthRule, chainRule, counts}
+use Rattle.chain.specs.Chain.{pairs, flat, lengthRule, chainRule, squaringsOf, counts}
+use Rattle.chain.specs.Inner.{countedBy}
 use Rattle.chain.specs.declared.Step.{Step}
 use Rattle.bits.specs.Bits.{bytesFor, fieldAt, fieldsAt}
 use Rattle.fields.specs.Inner.{widestNumber}
@@ -46,6 +47,7 @@ headed L bytes (Refused number place) = refused number place ≡ headerRule L by
 -- an extent whose parts add up, with numbers that are small enough
 pub record Proper (x : Extent) : Type 0 where
   pub narrow : x .width ≤ widestNumber
+  pub some : 0 < x .width
   pub parts : x .total ≡ x .start + 2 * x .n * x .width + x .q * x .width
   pub low : x .total < 2 ^ 32
   pub whole : x .bytes ≡ bytesFor (x .total)
@@ -56,6 +58,11 @@ pub record Contained (bytes : List ℕ) (x : Extent) : Type 0 where
   pub proper : Proper x
   pub within : x .total ≤ 8 * length bytes
 
+-- and are eight or more
+pub record LongContained (bytes : List ℕ) (x : Extent) : Type 0 where
+  pub long : 8 ≤ length bytes
+  pub contained : Contained bytes x
+
 -- the chain that stands in bytes by an extent
 module _ (bytes : List ℕ) (x : Extent) where
   abbrev pub fileSteps : List Step
@@ -63,6 +70,10 @@ module _ (bytes : List ℕ) (x : Extent) where
 
   abbrev pub fileOutputs : List ℕ
   fileOutputs = fieldsAt bytes (x .start + 2 * x .n * x .width) (x .width) (x .q)
+
+  -- what is found of it, and how many of its steps are squarings
+  abbrev pub chainCounted : Answer
+  chainCounted = countedBy (chainRule (x .p) fileSteps fileOutputs) (squaringsOf fileSteps)
 
   -- the reader's rules after the header's: 6, 5, 8, steps, 12
   unfoldable pub bodyRule : ℕ → ℕ → Verdict

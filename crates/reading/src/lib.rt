@@ -3,14 +3,14 @@ ghost use mathlib.Core.Path.{_≡_};
 ghost use Prim.Native.Nat.{_+_, _*_, _/_};
 ghost use lib.ListN.{length};
 ghost use Rattle.chain.specs.Judgement.{verdictOf, countedOf};
-ghost use Rattle.chain.specs.Chain.{stepsRule, outputsRule, chainRule, squaringsOf};
+ghost use Rattle.chain.specs.Chain.{stepsRule, outputsRule, squaringsOf};
 ghost use Rattle.chain.specs.Inner.{countedBy};
 ghost use Rattle.fields.specs.Inner.{FieldsRoom};
 ghost use Rattle.layout.specs.Layout.{edition1};
 ghost use Rattle.layout.specs.File.{readAnswer, readSteps, readOutputs};
 ghost use Rattle.layout.specs.Inner.{SoundLayout};
 ghost use Rattle.answers.specs.Answers.{readOf};
-ghost use Rattle.reading.specs.Inner.{HeaderRoom, headerIn, headed, Proper, Contained, fileSteps, fileOutputs, bodyRule, BodyRead, FileRead, ListsTaken};
+ghost use Rattle.reading.specs.Inner.{HeaderRoom, headerIn, headed, Proper, Contained, LongContained, fileSteps, fileOutputs, chainCounted, bodyRule, BodyRead, FileRead, ListsTaken};
 use answers::Reading;
 use bits::Cursor;
 use chain::Counted;
@@ -74,7 +74,7 @@ fn judge_header(layout: Layout, bytes: &[u8]) -> Heading
 
 // The steps of a file, in order: 9, 10, 11; and how many of them are squarings.
 fn judge_steps(bytes: &[u8], x: Extent) -> Counted
-    requires { ⌜ Contained (now bytes) x ⌝ }
+    requires { ⌜ LongContained (now bytes) x ⌝ }
     ensures { λ r. ⌜ countedOf r ≡ countedBy (stepsRule (x .p) 1 (fileSteps (now (bytes .entry)) x)) (squaringsOf (fileSteps (now (bytes .entry)) x)) ⌝ }
 {
     let n = x.n;
@@ -123,11 +123,10 @@ fn judge_outputs(bytes: &[u8], x: Extent) -> Judgement
     Judgement::Fine
 }
 
-// The chain of a file: steps, then 12; and how many of the steps are squarings.
-fn judge_chain(bytes: &[u8], x: Extent) -> Counted
-    requires { ⌜ Contained (now bytes) x ⌝ }
-    ensures { λ r. ⌜ countedOf r ≡ countedBy (chainRule (x .p) (fileSteps (now (bytes .entry)) x) (fileOutputs (now (bytes .entry)) x))
-        (squaringsOf (fileSteps (now (bytes .entry)) x)) ⌝ }
+// The chain of a file of eight bytes or more: steps, then 12; and how many of the steps are squarings.
+fn judge_lists(bytes: &[u8], x: Extent) -> Counted
+    requires { ⌜ LongContained (now bytes) x ⌝ }
+    ensures { λ r. ⌜ countedOf r ≡ chainCounted (now (bytes .entry)) x ⌝ }
 {
     match judge_steps(bytes, x) {
         Counted::Refused(number, place) => Counted::Refused(number, place),
@@ -138,6 +137,19 @@ fn judge_chain(bytes: &[u8], x: Extent) -> Counted
             }
         }
     }
+}
+
+// The chain of a file; that of a short one is judged in a copy that is long enough.
+fn judge_chain(bytes: &[u8], x: Extent) -> Counted
+    requires { ⌜ Contained (now bytes) x ⌝ }
+    ensures { λ r. ⌜ countedOf r ≡ chainCounted (now (bytes .entry)) x ⌝ }
+{
+    if bytes.len() < 8 {
+        let mut long = [0u8; 8];
+        bits::lengthen(bytes, &mut long);
+        return judge_lists(&long, x);
+    }
+    judge_lists(bytes, x)
 }
 
 // 6, 5, 8, steps, 12, where there is room for so many pairs and places for so many outputs. n is not trusted before the length is right.

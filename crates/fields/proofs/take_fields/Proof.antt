@@ -1,127 +1,25 @@
--- The loop keeps `Taking`: what the cells are to become does not change while fields move from the file into them, two at a time, and a last one by itself.
-use mathlib.Core.Path.{_≡_, refl}
-use Prim.Native.Nat.{_+_, _-_, _*_}
+-- A short file's fields are those of the copy that begins with it (`long-taken`).
 use native.Mathlib.Omega.{arith}
-use lib.ListN.{length, length-set}
-use Rattle.chain.specs.Written.{over}
-use Rattle.bits.specs.Bits.{fieldsAt}
-use Rattle.fields.proofs.Taking.{Taking, take-start, one-room, one-on, two-room, two-on, take-end, number-fits}
 use borrow.Author.Needs.{needs}
+use Rattle.fields.proofs.Taking.{long-room, long-taken}
 use Rattle.fields.proofs.take_fields.Statement.{statement}
 use Rattle.fields.proofs.take_fields.Tie as tie
 
-abbrev Inv-loop : tie.InvT-loop
-Inv-loop file width count out₀ c₀ i₀ out c i =
-    (length out ≡ length out₀) × Taking file (over (fieldsAt file (c₀ .at) width count) out₀) (c₀ .at + count * width) width count out (c .at) i
+take-long-requires : tie.Need-take-long-requires
+take-long-requires c κs =
+    let copied = c .before .before .before in
+    let start = copied .before .before .before .before .before in
+    long-room _ _ _ (copied .lengthen .ensures) _ _ _ _ (start .pre) (search needs) (omega arith)
 
-abbrev μ-loop : tie.MeasureT-loop
-μ-loop file width count out₀ c₀ i₀ out c i = count - i
-
-loop-holds : tie.Need-loop-holds Inv-loop μ-loop
-loop-holds c = (refl, take-start _ _ _ _ _ (c .before .before .pre))
-
-sub-loop : tie.Need-sub-loop Inv-loop μ-loop
-sub-loop c = search needs
-
-take-two-requires : tie.Need-take-two-requires Inv-loop μ-loop
-take-two-requires c κs = two-room _ _ _ _ _ _ (c .before .before .before .before .pre) _ _ _ (c .before .loop .inv .1) (c .loop-test .taken)
-
-cast-first : tie.Need-cast-first Inv-loop μ-loop
-cast-first c =
-    let t = c .before in
-    record { fits = number-fits _ _ (t .before .before .before .before .before .pre .narrow) (t .take-two .ensures .first .small) }
-
-cast-second : tie.Need-cast-second Inv-loop μ-loop
-cast-second c =
-    let t = c .before .before in
-    record { fits = number-fits _ _ (t .before .before .before .before .before .pre .narrow) (t .take-two .ensures .second .small) }
-
-mul-out : tie.Need-mul-out Inv-loop μ-loop
-mul-out c = search needs
-
-slice-write-out : tie.Need-slice-write-out Inv-loop μ-loop
-slice-write-out c = omega (arith, c .before .before .before .before .loop .inv .1 .room)
-
-add-out : tie.Need-add-out Inv-loop μ-loop
-add-out c = search needs
-
-mul-out-2 : tie.Need-mul-out-2 Inv-loop μ-loop
-mul-out-2 c = search needs
-
-slice-write-out-2 : tie.Need-slice-write-out-2 Inv-loop μ-loop
-slice-write-out-2 c = simp length-set (omega (arith, c .before .before .before .before .loop .inv .1 .room))
-
-add-i : tie.Need-add-i Inv-loop μ-loop
-add-i c = search needs
-
-loop-less : tie.Need-loop-less Inv-loop μ-loop
-loop-less c = search needs
-
-loop-again : tie.Need-loop-again Inv-loop μ-loop
-loop-again c =
-    let t = c .before .before .before in
-    let l = t .before in
-    let s = l .before .before .before .before in
-    let i = l .before .loop .inv in
-    (simp length-set (i .0), two-on _ _ _ _ _ _ (s .pre) _ _ _ (i .1) (l .loop-test .taken) _ _ _ (t .take-two .ensures))
-
-take-requires : tie.Need-take-requires Inv-loop μ-loop
-take-requires c κs =
-    let l = c .before .before in
-    one-room _ _ _ _ _ _ (l .before .before .before .pre) _ _ _ (l .loop .inv .1) (c .if1 .taken)
-
-cast-out : tie.Need-cast-out Inv-loop μ-loop
-cast-out c =
-    let t = c .before in
-    record { fits = number-fits _ _ (t .before .before .before .before .before .before .pre .narrow) (t .take .ensures .small) }
-
-mul-out-3 : tie.Need-mul-out-3 Inv-loop μ-loop
-mul-out-3 c = search needs
-
-slice-write-out-3 : tie.Need-slice-write-out-3 Inv-loop μ-loop
-slice-write-out-3 c = omega (arith, c .before .before .before .before .loop .inv .1 .room)
-
-same-length : tie.Need-same-length Inv-loop μ-loop
-same-length c = simp length-set (c .before .before .before .before .before .loop .inv .0)
-
-returns : tie.Need-returns Inv-loop μ-loop
+returns : tie.Need-returns
 returns c =
-    let t = c .before .before in
-    let b = t .before in
-    let l = b .before .before in
-    let last = one-on _ _ _ _ _ _ (l .before .before .before .pre) _ _ _ (l .loop .inv .1) (b .if1 .taken) _ _ (t .take .ensures) in
-    take-end _ _ _ _ _ _ _ _ (omega (arith, b .before .loop-test .left)) last
-
-same-length-2 : tie.Need-same-length-2 Inv-loop μ-loop
-same-length-2 c = c .before .before .loop .inv .0
-
-returns-2 : tie.Need-returns-2 Inv-loop μ-loop
-returns-2 c = take-end _ _ _ _ _ _ _ _ (c .if1 .left) (c .before .before .loop .inv .1)
+    let read = c .before .before in
+    let copied = read .before .before .before .before in
+    let start = copied .before .before .before .before .before in
+    long-taken _ _ _ (copied .lengthen .ensures) _ _ _ _ (start .pre) _ _ (read .take-long .ensures)
 
 pub take-fields-spec : {M : Type 1} → statement M
 take-fields-spec =
     tie.close
-    (tie.spec
-    Inv-loop
-    μ-loop
-    loop-holds
-    sub-loop
-    take-two-requires
-    cast-first
-    cast-second
-    mul-out
-    slice-write-out
-    add-out
-    mul-out-2
-    slice-write-out-2
-    add-i
-    loop-less
-    loop-again
-    take-requires
-    cast-out
-    mul-out-3
-    slice-write-out-3
-    same-length
-    returns
-    same-length-2
-    returns-2)
+    (tie.spec (λ c. search needs) (λ c κs. search needs) (λ c. search needs) take-long-requires (λ c. search needs) returns (λ c κs. search needs)
+    (λ c. search needs) (λ c. search needs))

@@ -1,30 +1,23 @@
--- The steps' verdict, then the outputs': a refusal of the steps stops, and else the outputs decide; the squarings are those that the steps' judge counted.
+-- A short file's chain is that of the copy that begins with it (`long-judged`).
+use native.Mathlib.Omega.{arith}
 use borrow.Author.Needs.{needs}
-use Rattle.chain.proofs.Rules.{judging}
-use Rattle.chain.proofs.Squarings.{counted-refused, counted-done, found-number, counting}
-use Rattle.reading.proofs.ReadAnswers.{chain-is}
+use Rattle.reading.proofs.Judging.{long-contained, long-judged}
 use Rattle.reading.proofs.judge_chain.Statement.{statement}
 use Rattle.reading.proofs.judge_chain.Tie as tie
 
+judge-lists-requires : tie.Need-judge-lists-requires
+judge-lists-requires c κs =
+    let copied = c .before .before in
+    let start = copied .before .before .before .before in
+    long-contained _ _ _ (copied .lengthen .ensures) _ (start .pre) (search needs) (omega arith)
+
 returns : tie.Need-returns
 returns c =
-    let x = c .before .before .before .before .before .args .x in
-    counted-refused _ _ _ _ (chain-is _ x _ (search (judging, counting) depth 8))
-
-returns-2 : tie.Need-returns-2
-returns-2 c =
-    let x = c .before .before .before .before .before .before .before .before .before .args .x in
-    counted-refused _ _ _ _ (chain-is _ x _ (search (judging, counting) depth 8))
-
-returns-3 : tie.Need-returns-3
-returns-3 c =
-    let told = c .before .before .before .before in
-    let j = told .before .before in
-    let x = j .before .before .args .x in
-    counted-done _ _ _ (chain-is _ x _ (search (judging, counting) depth 8)) (found-number _ _ _ (j .judge-steps .ensures) _ (told .squarings .given .1))
+    let copied = c .before .before .before in
+    let start = copied .before .before .before .before in
+    long-judged _ _ _ (copied .lengthen .ensures) _ (start .pre) _ (c .judge-lists .ensures)
 
 pub judge-chain-spec : {M : Type 1} → statement M
 judge-chain-spec =
     tie.close
-    (tie.spec (λ c κs. search needs) (λ c. search needs) (λ c. search needs) (λ c κs. search needs) (λ c. search needs) (λ c. search needs) returns returns-2
-    returns-3)
+    (tie.spec (λ c. search needs) (λ c κs. search needs) (λ c. search needs) judge-lists-requires returns (λ c κs. search needs) (λ c. search needs))

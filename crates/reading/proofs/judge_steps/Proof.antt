@@ -18,10 +18,10 @@ abbrev μ-loop : tie.MeasureT-loop
 μ-loop bytes x n c₀ squarings₀ s₀ c squarings s = n - s
 
 loop-holds : tie.Need-loop-holds Inv-loop μ-loop
-loop-holds c = steps-start _ _ _ _ _ (steps-within _ _ (c .before .pre))
+loop-holds c = steps-start _ _ _ _ _ (steps-within _ _ (c .before .pre .contained))
 
 take-two-requires : tie.Need-take-two-requires Inv-loop μ-loop
-take-two-requires c κs = step-room _ _ _ _ _ _ _ _ _ (c .before .loop .inv) (c .loop-test .taken)
+take-two-requires c κs = step-room _ _ _ _ _ _ _ _ _ (c .before .loop .inv) (c .loop-test .taken) (c .before .before .before .pre .long)
 
 cast-a : tie.Need-cast-a Inv-loop μ-loop
 cast-a c =

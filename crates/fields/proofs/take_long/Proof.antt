@@ -20,9 +20,6 @@ abbrev μ-loop : tie.MeasureT-loop
 loop-holds : tie.Need-loop-holds Inv-loop μ-loop
 loop-holds c = (refl, take-start _ _ _ _ _ (c .before .before .pre .room))
 
-sub-loop : tie.Need-sub-loop Inv-loop μ-loop
-sub-loop c = search needs
-
 take-two-requires : tie.Need-take-two-requires Inv-loop μ-loop
 take-two-requires c κs =
     let asked = c .before .before .before .before .pre in
@@ -38,26 +35,11 @@ cast-second c =
     let t = c .before .before in
     record { fits = number-fits _ _ (t .before .before .before .before .before .pre .room .narrow) (t .take-two .ensures .second .small) }
 
-mul-out : tie.Need-mul-out Inv-loop μ-loop
-mul-out c = search needs
-
 slice-write-out : tie.Need-slice-write-out Inv-loop μ-loop
 slice-write-out c = omega (arith, c .before .before .before .before .loop .inv .1 .room)
 
-add-out : tie.Need-add-out Inv-loop μ-loop
-add-out c = search needs
-
-mul-out-2 : tie.Need-mul-out-2 Inv-loop μ-loop
-mul-out-2 c = search needs
-
 slice-write-out-2 : tie.Need-slice-write-out-2 Inv-loop μ-loop
 slice-write-out-2 c = simp length-set (omega (arith, c .before .before .before .before .loop .inv .1 .room))
-
-add-i : tie.Need-add-i Inv-loop μ-loop
-add-i c = search needs
-
-loop-less : tie.Need-loop-less Inv-loop μ-loop
-loop-less c = search needs
 
 loop-again : tie.Need-loop-again Inv-loop μ-loop
 loop-again c =
@@ -76,9 +58,6 @@ cast-out : tie.Need-cast-out Inv-loop μ-loop
 cast-out c =
     let t = c .before in
     record { fits = number-fits _ _ (t .before .before .before .before .before .before .pre .room .narrow) (t .take .ensures .small) }
-
-mul-out-3 : tie.Need-mul-out-3 Inv-loop μ-loop
-mul-out-3 c = search needs
 
 slice-write-out-3 : tie.Need-slice-write-out-3 Inv-loop μ-loop
 slice-write-out-3 c = omega (arith, c .before .before .before .before .loop .inv .1 .room)
@@ -103,27 +82,6 @@ returns-2 c = take-end _ _ _ _ _ _ _ _ (c .if1 .left) (c .before .before .loop .
 pub take-long-spec : {M : Type 1} → statement M
 take-long-spec =
     tie.close
-    (tie.spec
-    Inv-loop
-    μ-loop
-    loop-holds
-    sub-loop
-    take-two-requires
-    cast-first
-    cast-second
-    mul-out
-    slice-write-out
-    add-out
-    mul-out-2
-    slice-write-out-2
-    add-i
-    loop-less
-    loop-again
-    take-requires
-    cast-out
-    mul-out-3
-    slice-write-out-3
-    same-length
-    returns
-    same-length-2
-    returns-2)
+    (tie.spec Inv-loop μ-loop loop-holds (λ c. search needs) take-two-requires cast-first cast-second (λ c. search needs) slice-write-out (λ c. search needs)
+    (λ c. search needs) slice-write-out-2 (λ c. search needs) (λ c. search needs) loop-again take-requires cast-out (λ c. search needs) slice-write-out-3
+    same-length returns same-length-2 returns-2)

@@ -1,4 +1,4 @@
--- Eight bytes as one word cover any field of up to 56 bits from any bit on, so a shift and a remainder of the word are the field; of two fields each.
+-- Eight bytes as one word cover any field of up to 56 bits from any bit on, so a shift and a remainder of the word are the field, and of two fields each.
 use mathlib.Core.Path.{_≡_, refl, sym, ap, ap₂, _∙_, subst}
 use mathlib.Core.List.{List, [], _∷_, _++_}
 use Prim.Native.Nat.{ℕ, zero, suc, _+_, _-_, _*_, _/_, _%_, _^_, _≤_, _<_, min}
@@ -115,9 +115,8 @@ module _ (l : List ℕ) (i g : ℕ) (got : WordAt 8 l i g) where
       ∙ ap (λ (n : ℕ). value (bytesBits (window 8 l i)) / 2 ^ n % 2 ^ w) e
       ∙ sym (field-window 8 l i o at w place covered within)
 
-module _ (l : List ℕ) (at w : ℕ) where
-  field-is : (v next : ℕ) → v ≡ fieldAt l at w → next ≡ at + w → FieldTaken l at w v next
-  field-is v next is moved = record { is = is; small = rw is (field-lt l at w); moved = moved }
+field-is : (l : List ℕ) (at w v next : ℕ) → v ≡ fieldAt l at w → next ≡ at + w → FieldTaken l at w v next
+field-is l at w v next is moved = record { is = is; small = rw is (field-lt l at w); moved = moved }
 
 module _ (l : List ℕ) (at w : ℕ) where
   pub taken : (g : ℕ) → FieldRoom l at w → WordAt 8 l (at / 8) g → FieldTaken l at w (g / 2 / 2 ^ (63 - (at % 8 + w)) % (1 * 2 ^ w % 2 ^ 64)) (at + w)

@@ -7,10 +7,10 @@ use native.Mathlib.Omega.{arith}
 use lib.ListN.{length, set, length-set}
 use lib.Pow.{pow-mono}
 use Rattle.chain.specs.Written.{over, laid}
-use Rattle.chain.proofs.Written.{over-length, over-laid, laid-nil, laid-one}
+use Rattle.chain.proofs.Written.{over-laid, laid-nil, laid-one}
 use Rattle.bits.specs.Bits.{fieldsAt}
 use Rattle.bits.specs.Inner.{widestField, FieldRoom, FieldTaken, TwoRoom, TwoTaken}
-use Rattle.bits.proofs.Lengthened.{fields-over}
+use Rattle.bits.proofs.Lengthened.{long-length, fields-long}
 use Rattle.fields.specs.Inner.{widestNumber, FieldsRoom, LongRoom, FieldsTaken}
 
 -- what out will be, from what it is with n fields to come, the first at position c for cell j
@@ -93,7 +93,7 @@ module _ (file whole : List ℕ) (at w n : ℕ) (old : List ℕ) (ok : FieldsRoo
 module _ (file old long : List ℕ) (is : long ≡ over file old) (at w n : ℕ) (out : List ℕ) (ok : FieldsRoom file at w n out) where
   pub long-room : length file ≤ length old → 8 ≤ length old → LongRoom long at w n out
   long-room fits eight =
-      let same : length long ≡ length old = ap length is ∙ over-length file old fits in
+      let same = long-length file old long is fits in
       record {
         long = omega (arith, same);
         room = record { narrow = ok .narrow; some = ok .some; within = omega (arith, ok .within, same); fits = ok .fits; room = ok .room };
@@ -101,8 +101,7 @@ module _ (file old long : List ℕ) (is : long ≡ over file old) (at w n : ℕ)
 
   pub long-taken : (new : List ℕ) (next : ℕ) → FieldsTaken long at w n out new next → FieldsTaken file at w n out new next
   long-taken new next t =
-      let found : fieldsAt long at w n ≡ fieldsAt file at w n = ap (λ (l : List ℕ). fieldsAt l at w n) is ∙ fields-over file old at w n (ok .within) in
-      record { is = t .is ∙ ap (λ (l : List ℕ). over l out) found; moved = t .moved }
+      record { is = t .is ∙ ap (λ (l : List ℕ). over l out) (fields-long file old long is at w n (ok .within)); moved = t .moved }
 
 -- a number of a list fits a value number
 pub number-fits : (w v : ℕ) → w ≤ widestNumber → v < 2 ^ w → v < 2 ^ 32

@@ -16,10 +16,9 @@ use Rattle.chain.specs.declared.Judgement.{Judgement}
 use Rattle.chain.specs.declared.Judgement.the-variants.{Fine, Refused}
 use Rattle.chain.proofs.Squarings.{counted-one}
 use Rattle.chain.proofs.Rules.{stop, pass, told-fine, told-refused, refuse-yes, refuse-no, lt-yes, lt-no}
-use Rattle.chain.proofs.Written.{over-length}
 use Rattle.bits.specs.Bits.{fieldsAt}
 use Rattle.bits.specs.Inner.{FieldRoom, FieldTaken, TwoRoom, TwoTaken}
-use Rattle.bits.proofs.Lengthened.{fields-over}
+use Rattle.bits.proofs.Lengthened.{long-length, fields-long}
 use Rattle.fields.specs.Inner.{widestNumber}
 use Rattle.layout.specs.declared.Extent.{Extent}
 use Rattle.reading.specs.Inner.{Contained, LongContained, chainCounted}
@@ -46,16 +45,13 @@ module _ (bytes : List ℕ) (x : Extent) (ok : Contained bytes x) where
 module _ (bytes old long : List ℕ) (is : long ≡ over bytes old) (x : Extent) (ok : Contained bytes x) where
   pub long-contained : length bytes ≤ length old → 8 ≤ length old → LongContained long x
   long-contained fits eight =
-      let same : length long ≡ length old = ap length is ∙ over-length bytes old fits in
+      let same = long-length bytes old long is fits in
       record { long = omega (arith, same); contained = record { proper = ok .proper; within = omega (arith, ok .within, same) } }
-
-  found : (at n : ℕ) → FieldsWithin bytes at (x .width) n → fieldsAt long at (x .width) n ≡ fieldsAt bytes at (x .width) n
-  found at n room = ap (λ (l : List ℕ). fieldsAt l at (x .width) n) is ∙ fields-over bytes old at (x .width) n (room .within)
 
   pub long-judged : (a : Answer) → a ≡ chainCounted long x → a ≡ chainCounted bytes x
   long-judged a e =
-      let steps = ap pairs (found _ _ (steps-within bytes x ok)) in
-      let outputs = found _ _ (outputs-within bytes x ok) in
+      let steps = ap pairs (fields-long bytes old long is _ _ _ (steps-within bytes x ok .within)) in
+      let outputs = fields-long bytes old long is _ _ _ (outputs-within bytes x ok .within) in
       e ∙ rw (steps, outputs)
 
 -- a field of w bits is taken, and n are left

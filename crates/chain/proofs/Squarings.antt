@@ -91,17 +91,21 @@ module _ (l : List ℕ) where
 
   -- k are counted, and d is for the step at hand
   module _ (s k : ℕ) where
-    pub left-less : (x : Step) (d p : ℕ) (j : Judgement) → s < length l / 2 → x ≡ stepAt l s
-        → verdictOf j ≡ stepRule (p + s + 1) (s + 1) (by (x .first) (x .second)) → j ≡ judgement.Fine → SquaringCounted (by (x .first) (x .second)) d
+    pub left-one : (x : Step) (d : ℕ) → s < length l / 2 → x ≡ stepAt l s → d ≡ one isSquaring (by (x .first) (x .second))
         → squaringsOf (pairs l) ≡ k + squaringsLeft l s → squaringsOf (pairs l) ≡ k + d + squaringsLeft l (s + 1)
     unfolding squaringsLeft squaringsOf stepAt
-    left-less x d p j h is told ok one-more e =
-        let one-is = counted-one _ _ _ d (told-fine j _ told ok) one-more in
+    left-one x d h is one-is e =
         let there : s < length (pairs l) = rw length-pairs h in
         let next = ap (howMany isSquaring) (drop-cons (pairs l) s (by 0 0) there) in
         let same = ap (one isSquaring) (getD-pairs l s (omega arith) ∙ sym is) in
         let later = ap (λ (i : ℕ). howMany isSquaring (drop i (pairs l))) (add-one s) in
         omega (arith, e, next, same, later, one-is)
+
+    -- of a step that was judged
+    pub left-less : (x : Step) (d p : ℕ) (j : Judgement) → s < length l / 2 → x ≡ stepAt l s
+        → verdictOf j ≡ stepRule (p + s + 1) (s + 1) (by (x .first) (x .second)) → j ≡ judgement.Fine → SquaringCounted (by (x .first) (x .second)) d
+        → squaringsOf (pairs l) ≡ k + squaringsLeft l s → squaringsOf (pairs l) ≡ k + d + squaringsLeft l (s + 1)
+    left-less x d p j h is told ok one-more = left-one x d h is (counted-one _ _ _ d (told-fine j _ told ok) one-more)
 
     pub left-none : length l / 2 ≤ s → squaringsOf (pairs l) ≡ k + squaringsLeft l s → k ≡ squaringsOf (pairs l)
     unfolding squaringsLeft squaringsOf

@@ -1,32 +1,89 @@
 // The steps and outputs of a chain, judged in their order: each step, then 12 of an output.
 ghost use mathlib.Core.Path.{_≡_};
-ghost use Prim.Native.Nat.{_≤_};
-ghost use Rattle.chain.specs.Chain.{mostColumns, pairs, stepsRule, outputsRule, chainRule, squaringsOf};
+ghost use Prim.Native.Nat.{_/_};
+ghost use lib.ListN.{length};
+ghost use Rattle.digits.specs.Inner.{Bounded};
+ghost use Rattle.chain.specs.Chain.{by, pairs, stepsRule, outputsRule, chainRule, one, isSquaring, squaringsOf};
 ghost use Rattle.chain.specs.Judgement.{verdictOf, countedOf};
 ghost use Rattle.chain.specs.Inner.{countedBy};
+ghost use Rattle.legal.specs.Inner.{Numbered, Tallied};
 use chain::Counted;
 use chain::Judgement;
 
-// The steps in order, first and second in turn, and how many of them are squarings.
-pub fn judge_steps(p: usize, steps: &[u32]) -> Counted
-    requires { ⌜ p ≤ mostColumns ⌝ }
-    ensures { λ r. ⌜ countedOf r ≡ countedBy (stepsRule p 1 (pairs (now (steps .entry)))) (squaringsOf (pairs (now (steps .entry)))) ⌝ }
+// What is counted of steps without telling them apart.
+struct Tally {
+    legal: u32,
+    squarings: u32,
+}
+
+// 1 for a squaring, else 0, of a step that may be any.
+fn equal(first: u32, second: u32) -> u32
+    ensures { λ r. ⌜ Bounded r (one isSquaring (by first second)) 1 ⌝ }
+{
+    if first == second {
+        return 1;
+    }
+    0
+}
+
+// How many of the steps are legal, and how many are squarings. Nearly every list is legal as a whole, and so all of it is counted, several steps at a
+// time as compiled, and nothing is asked of a single one.
+fn count_steps(p: usize, steps: &[u32]) -> Tally
+    requires { ⌜ Numbered p (length (now steps) / 2) ⌝ }
+    ensures { λ r. ⌜ Tallied p (pairs (now (steps .entry))) r ⌝ }
 {
     let n = steps.len() / 2;
-    let mut squarings: usize = 0;
+    let mut legal: u32 = 0;
+    let mut squarings: u32 = 0;
+    let mut v = (p + 1) as u32;
+    let mut s: usize = 0;
+    while s < n {
+        let x = chain::step_at(steps, s);
+        legal += step::legal(v, x.first, x.second);
+        squarings += equal(x.first, x.second);
+        v += 1;
+        s += 1;
+    }
+    Tally {
+        legal: legal,
+        squarings: squarings,
+    }
+}
+
+// The steps in order, each by itself.
+fn judge_each(p: usize, steps: &[u32]) -> Judgement
+    requires { ⌜ Numbered p (length (now steps) / 2) ⌝ }
+    ensures { λ r. ⌜ verdictOf r ≡ stepsRule p 1 (pairs (now (steps .entry))) ⌝ }
+{
+    let n = steps.len() / 2;
     let mut s: usize = 0;
     while s < n {
         let x = chain::step_at(steps, s);
         match step::judge_step(p + s + 1, s + 1, x.first, x.second) {
             Judgement::Refused(number, place) => {
-                return Counted::Refused(number, place);
+                return Judgement::Refused(number, place);
             }
             Judgement::Fine => {}
         }
-        squarings += chain::squaring(x.first, x.second);
         s += 1;
     }
-    Counted::Fine(squarings)
+    Judgement::Fine
+}
+
+// The steps in order, first and second in turn, and how many of them are squarings. Where some are not legal, the first of these is looked for.
+pub fn judge_steps(p: usize, steps: &[u32]) -> Counted
+    requires { ⌜ Numbered p (length (now steps) / 2) ⌝ }
+    ensures { λ r. ⌜ countedOf r ≡ countedBy (stepsRule p 1 (pairs (now (steps .entry)))) (squaringsOf (pairs (now (steps .entry)))) ⌝ }
+{
+    let t = count_steps(p, steps);
+    let squarings = t.squarings as usize;
+    if t.legal as usize == steps.len() / 2 {
+        return Counted::Fine(squarings);
+    }
+    match judge_each(p, steps) {
+        Judgement::Refused(number, place) => Counted::Refused(number, place),
+        Judgement::Fine => Counted::Fine(squarings),
+    }
 }
 
 // 12: an output above top, the number of the last value.
@@ -38,7 +95,7 @@ pub fn judge_outputs(top: usize, outputs: &[u32]) -> Judgement
 
 // The steps, then 12.
 pub fn judge_chain(p: usize, steps: &[u32], outputs: &[u32]) -> Judgement
-    requires { ⌜ p ≤ mostColumns ⌝ }
+    requires { ⌜ Numbered p (length (now steps) / 2) ⌝ }
     ensures { λ r. ⌜ verdictOf r ≡ chainRule p (pairs (now (steps .entry))) (now (outputs .entry)) ⌝ }
 {
     match judge_steps(p, steps) {

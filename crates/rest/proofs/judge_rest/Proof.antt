@@ -2,6 +2,7 @@
 use borrow.Author.Needs.{needs}
 use mathlib.Core.Path.{ap}
 use Prim.Native.Nat.{_/_}
+use native.Mathlib.Omega.{arith}
 use lib.ListN.{length}
 use Rattle.chain.specs.Judgement.{verdictOf}
 use Rattle.chain.proofs.Rules.{judging}
@@ -18,7 +19,7 @@ able : (e : tie.After-enum-told)
 able e = e .before .before .before .before .pre (ap verdictOf (e .enum-told .given .1))
 
 judge-steps-requires : tie.Need-judge-steps-requires
-judge-steps-requires c κs = able c .p-low
+judge-steps-requires c κs = omega (arith, able c .p-low, able c .n-low)
 
 judge-end-requires : tie.Need-judge-end-requires
 judge-end-requires c κs = able (c .before .before .before .before)

@@ -1,21 +1,9 @@
 -- The first return is for a legal step; each later one is the verdict of the rule as far as the tests before it have gone.
-use mathlib.Core.Path.{_≡_, sym}
-use Prim.Native.Nat.{ℕ, _≤_, _<_}
-use native.Mathlib.Omega.{arith}
-use Rattle.chain.specs.Verdict.{fine}
-use Rattle.chain.specs.Chain.{by, stepRule}
+use Rattle.chain.specs.Chain.{stepRule}
 use Rattle.chain.proofs.Rules.{judging}
-use Rattle.chain.proofs.Steps.{legal-step}
+use Rattle.step.proofs.ThreeTests.{three-tests}
 use Rattle.step.proofs.judge_step.Statement.{statement}
 use Rattle.step.proofs.judge_step.Tie as tie
-
--- three tests tell all that a legal step keeps to
-three-tests : (v s a b : ℕ) → (b ≡ 0 → ⊥) → b ≤ a → a < v → fine ≡ stepRule v s (by a b)
-three-tests v s a b some in-order low =
-    let b-some : 0 < b = omega arith in
-    sym
-    (legal-step v s (by a b)
-    (record { first-some = omega arith; second-some = b-some; first-low = low; second-low = omega arith; in-order = in-order }))
 
 returns : tie.Need-returns
 returns c = three-tests _ _ _ _ (c .before .before .if1 .taken) (c .before .if2 .taken) (c .if3 .taken)

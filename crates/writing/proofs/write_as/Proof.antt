@@ -1,6 +1,7 @@
 -- Each return is one law of `WriteAnswers`: refused by the shape, refused by the rest, or written; the extent that was measured in between is the file's.
 use mathlib.Core.Path.{_≡_, ap, _∙_}
 use Prim.Native.Nat.{_/_}
+use native.Mathlib.Omega.{arith}
 use lib.ListN.{length}
 use denote.Ref.{now}
 use Rattle.chain.specs.Written.{over}
@@ -40,7 +41,10 @@ extent-of-requires : tie.Need-extent-of-requires
 extent-of-requires c κs = record { sound = c .before .before .before .before .before .before .pre; sized = held c }
 
 judge-rest-requires : tie.Need-judge-rest-requires
-judge-rest-requires c κs = held (c .before) .p-low
+judge-rest-requires c κs =
+    let start = c .before .before .before .before .before .before .before in
+    let sizes = held (c .before) in
+    omega (arith, sizes .p-low, sizes .n-low, start .pre .narrow)
 
 enum-known-number-2 : tie.Need-enum-known-number-2
 enum-known-number-2 c = search needs

@@ -1,0 +1,27 @@
+-- Inner vocabulary: what judging steps asks, and what counting them leaves. Nobody has to believe it to believe an entry point's promise.
+use mathlib.Core.Path.{_≡_}
+use mathlib.Core.List.{List, [], _∷_}
+use Prim.Native.Nat.{ℕ, suc, _+_, _^_, _<_}
+use Rattle.chain.specs.Verdict.{Verdict}
+use Rattle.chain.specs.Chain.{stepRule, squaringsOf}
+use Rattle.chain.specs.declared.Step.{Step}
+use Rattle.step.specs.Inner.{passed}
+use Rattle.legal.specs.declared.Tally.{Tally}
+
+-- the values of a chain of n steps, and one more, have numbers of 32 bits
+abbrev pub Numbered : ℕ → ℕ → Type 0
+Numbered p n = p + n + 1 < 2 ^ 32
+
+-- how many members of a list a rule passes, numbered i, i + 1, ..
+abbrev pub passing : {A : Type 0} → (ℕ → A → Verdict) → ℕ → List A → ℕ
+passing rule i [] = 0
+passing rule i (x ∷ r) = passed (rule i x) + passing rule (suc i) r
+
+-- how many of the steps are legal
+unfoldable pub legalOf : ℕ → List Step → ℕ
+legalOf p steps = passing (λ s x. stepRule (p + s) s x) 1 steps
+
+-- what a pass over steps that does not tell them apart counts
+pub record Tallied (p : ℕ) (steps : List Step) (t : Tally) : Type 0 where
+  pub legal-are : t .legal ≡ legalOf p steps
+  pub squarings-are : t .squarings ≡ squaringsOf steps

@@ -1,4 +1,5 @@
-//! A look at the run as compiled: its speed rests on the compiler making one wide multiplication of the upper half of a product, and no division a step.
+//! A look at the run as compiled: its speed rests on the compiler making one wide multiplication of the upper half of a product, and no division a step,
+//! and on its counting several steps at a time where they are judged.
 use std::path::Path;
 use std::process::Command;
 
@@ -11,7 +12,7 @@ fn archive() -> String {
     format!("{folder}/libspoutbasket.a")
 }
 
-/// Prints how many wide multiplications and divisions the function `runner::run` has.
+/// Prints how many wide multiplications and divisions the function `runner::run` has, and how many compares of several numbers at a time.
 pub fn look() {
     let listed = Command::new("objdump")
         .args(["--disassemble", "--no-show-raw-insn", &archive()])
@@ -32,8 +33,9 @@ pub fn look() {
         body.lines().filter(named).count()
     };
     println!(
-        "the run as compiled: wide multiplications {} (1 is wanted), divisions {} (1, for the inverse)",
+        "the run as compiled: wide multiplications {} (1 is wanted), divisions {} (1, for the inverse), packed compares {} (some, for the steps' count)",
         count("mul"),
-        count("div")
+        count("div"),
+        count("pcmpgtd")
     );
 }

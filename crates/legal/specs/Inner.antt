@@ -1,9 +1,9 @@
 -- Inner vocabulary: what judging steps asks, and what counting them leaves. Nobody has to believe it to believe an entry point's promise.
 use mathlib.Core.Path.{_≡_}
 use mathlib.Core.List.{List, [], _∷_}
-use Prim.Native.Nat.{ℕ, suc, _+_, _^_, _<_}
+use Prim.Native.Nat.{ℕ, suc, _+_, _^_, _≤_, _<_}
 use Rattle.chain.specs.Verdict.{Verdict}
-use Rattle.chain.specs.Chain.{stepRule, squaringsOf}
+use Rattle.chain.specs.Chain.{stepRule, one, isSquaring, squaringsOf}
 use Rattle.chain.specs.declared.Step.{Step}
 use Rattle.step.specs.Inner.{passed}
 use Rattle.legal.specs.declared.Tally.{Tally}
@@ -11,6 +11,11 @@ use Rattle.legal.specs.declared.Tally.{Tally}
 -- the values of a chain of n steps, and one more, have numbers of 32 bits
 abbrev pub Numbered : ℕ → ℕ → Type 0
 Numbered p n = p + n + 1 < 2 ^ 32
+
+-- r is 1 for a squaring, else 0, of any step
+pub record EqualCounted (x : Step) (r : ℕ) : Type 0 where
+  pub is : r ≡ one isSquaring x
+  pub low : r ≤ 1
 
 -- how many members of a list a rule passes, numbered i, i + 1, ..
 abbrev pub passing : {A : Type 0} → (ℕ → A → Verdict) → ℕ → List A → ℕ

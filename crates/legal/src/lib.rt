@@ -2,11 +2,10 @@
 ghost use mathlib.Core.Path.{_≡_};
 ghost use Prim.Native.Nat.{_/_};
 ghost use lib.ListN.{length};
-ghost use Rattle.digits.specs.Inner.{Bounded};
-ghost use Rattle.chain.specs.Chain.{by, pairs, stepsRule, outputsRule, chainRule, one, isSquaring, squaringsOf};
+ghost use Rattle.chain.specs.Chain.{by, pairs, stepsRule, outputsRule, chainRule, squaringsOf};
 ghost use Rattle.chain.specs.Judgement.{verdictOf, countedOf};
 ghost use Rattle.chain.specs.Inner.{countedBy};
-ghost use Rattle.legal.specs.Inner.{Numbered, Tallied};
+ghost use Rattle.legal.specs.Inner.{Numbered, EqualCounted, Tallied};
 use chain::Counted;
 use chain::Judgement;
 
@@ -18,7 +17,7 @@ struct Tally {
 
 // 1 for a squaring, else 0, of a step that may be any.
 fn equal(first: u32, second: u32) -> u32
-    ensures { λ r. ⌜ Bounded r (one isSquaring (by first second)) 1 ⌝ }
+    ensures { λ r. ⌜ EqualCounted (by first second) r ⌝ }
 {
     if first == second {
         return 1;

@@ -180,6 +180,43 @@ fn damaged_chains_and_short_slices() {
     }
 }
 
+/// Every fault of a step at every step of chains of up to forty: steps are counted several at a time, and none of them may hide among the others.
+#[test]
+fn a_fault_at_every_step() {
+    let mut r = Random(7);
+    for n in 1..=40 {
+        let p = r.within(2, MOST_COLUMNS);
+        let c = legal_chain(&mut r, p, 1, n, true);
+        let (cells, half) = (vec![9; p + n + 1], 1 << 31);
+        for s in 0..n {
+            let v = (p + s + 1) as u32;
+            for (pair, number) in [
+                ([0, 0], 9),
+                ([v - 1, 0], 9),
+                ([0, 1], 9),
+                ([0, u32::MAX], 9),
+                ([half, 0], 9),
+                ([v, 1], 10),
+                ([v, v], 10),
+                ([1, v], 10),
+                ([half, 1], 10),
+                ([half, half], 10),
+                ([u32::MAX, 1], 10),
+                ([1, u32::MAX], 10),
+                ([u32::MAX, u32::MAX], 10),
+                ([1, 2], 11),
+                ([v - 2, v - 1], 11),
+            ] {
+                let mut wrong = c.clone();
+                wrong.steps[2 * s..2 * s + 2].copy_from_slice(&pair);
+                let place = Err((number, s as u64 + 1));
+                assert_eq!(same_check(&wrong, &vec![1; p], &cells), place);
+                assert_eq!(same_run(&wrong, 7, &vec![3; p], &cells, &[9]).0, place);
+            }
+        }
+    }
+}
+
 /// Slices of steps up to the limit and past it, sound or with one wrong step; of results one cell too long, just long enough and too short.
 #[test]
 fn lengths_near_the_limit() {

@@ -5,7 +5,7 @@ use mathlib.Core.List.{List, [], _∷_}
 use Prim.Native.Nat.{ℕ, suc, _+_, _/_, _≤_, _<_}
 use native.Mathlib.Numerals.{add-one}
 use native.Mathlib.Omega.{arith}
-use lib.ListN.{length, getD, drop, drop-of-length-le}
+use lib.ListN.{length, drop, drop-of-length-le}
 use lib.Seq.{drop-cons}
 use Rattle.chain.specs.Verdict.{Verdict, fine, refused, _then_, inOrder}
 use Rattle.chain.specs.Chain.{by, pairs, stepRule, stepsRule}
@@ -16,13 +16,13 @@ use Rattle.chain.proofs.Pairs.{length-pairs, getD-pairs}
 use Rattle.step.specs.Inner.{passed, LegalCounted}
 use Rattle.legal.specs.Inner.{passing, legalOf}
 
+one-at-most : (w : Verdict) → passed w ≤ 1
+unfolding passed
+one-at-most fine = omega arith
+one-at-most (refused n s) = omega arith
+
 -- a rule passes no more members than there are, and as many only where it finds nothing
 module _ {A : Type 0} (rule : ℕ → A → Verdict) where
-  one-at-most : (w : Verdict) → passed w ≤ 1
-  unfolding passed
-  one-at-most fine = omega arith
-  one-at-most (refused n s) = omega arith
-
   passing-few : (i : ℕ) (l : List A) → passing rule i l ≤ length l
   passing-few i [] = omega arith
   passing-few i (x ∷ l) = omega (arith, one-at-most (rule i x), passing-few (suc i) l)

@@ -9,8 +9,8 @@ use Rattle.step.specs.Inner.{passed}
 use Rattle.legal.specs.declared.Tally.{Tally}
 
 -- the values of a chain of n steps, and one more, have numbers of 32 bits
-abbrev pub Numbered : ℕ → ℕ → Type 0
-Numbered p n = p + n + 1 < 2 ^ 32
+abbrev pub ValuesFit : ℕ → ℕ → Type 0
+ValuesFit p n = p + n + 1 < 2 ^ 32
 
 -- r is 1 for a squaring, else 0, of any step
 pub record EqualCounted (x : Step) (r : ℕ) : Type 0 where

@@ -5,7 +5,7 @@ ghost use lib.ListN.{length};
 ghost use Rattle.chain.specs.Chain.{by, pairs, stepsRule, outputsRule, chainRule, squaringsOf};
 ghost use Rattle.chain.specs.Judgement.{verdictOf, countedOf};
 ghost use Rattle.chain.specs.Inner.{countedBy};
-ghost use Rattle.legal.specs.Inner.{Numbered, EqualCounted, Tallied};
+ghost use Rattle.legal.specs.Inner.{ValuesFit, EqualCounted, Tallied};
 use chain::Counted;
 use chain::Judgement;
 
@@ -28,7 +28,7 @@ fn equal(first: u32, second: u32) -> u32
 // How many of the steps are legal, and how many are squarings. Nearly every list is legal as a whole, and so all of it is counted, several steps at a
 // time as compiled, and nothing is asked of a single one.
 fn count_steps(p: usize, steps: &[u32]) -> Tally
-    requires { ⌜ Numbered p (length (now steps) / 2) ⌝ }
+    requires { ⌜ ValuesFit p (length (now steps) / 2) ⌝ }
     ensures { λ r. ⌜ Tallied p (pairs (now (steps .entry))) r ⌝ }
 {
     let n = steps.len() / 2;
@@ -51,7 +51,7 @@ fn count_steps(p: usize, steps: &[u32]) -> Tally
 
 // The steps in order, each by itself.
 fn judge_each(p: usize, steps: &[u32]) -> Judgement
-    requires { ⌜ Numbered p (length (now steps) / 2) ⌝ }
+    requires { ⌜ ValuesFit p (length (now steps) / 2) ⌝ }
     ensures { λ r. ⌜ verdictOf r ≡ stepsRule p 1 (pairs (now (steps .entry))) ⌝ }
 {
     let n = steps.len() / 2;
@@ -71,7 +71,7 @@ fn judge_each(p: usize, steps: &[u32]) -> Judgement
 
 // The steps in order, first and second in turn, and how many of them are squarings. Where some are not legal, the first of these is looked for.
 pub fn judge_steps(p: usize, steps: &[u32]) -> Counted
-    requires { ⌜ Numbered p (length (now steps) / 2) ⌝ }
+    requires { ⌜ ValuesFit p (length (now steps) / 2) ⌝ }
     ensures { λ r. ⌜ countedOf r ≡ countedBy (stepsRule p 1 (pairs (now (steps .entry)))) (squaringsOf (pairs (now (steps .entry)))) ⌝ }
 {
     let t = count_steps(p, steps);
@@ -94,7 +94,7 @@ pub fn judge_outputs(top: usize, outputs: &[u32]) -> Judgement
 
 // The steps, then 12.
 pub fn judge_chain(p: usize, steps: &[u32], outputs: &[u32]) -> Judgement
-    requires { ⌜ Numbered p (length (now steps) / 2) ⌝ }
+    requires { ⌜ ValuesFit p (length (now steps) / 2) ⌝ }
     ensures { λ r. ⌜ verdictOf r ≡ chainRule p (pairs (now (steps .entry))) (now (outputs .entry)) ⌝ }
 {
     match judge_steps(p, steps) {

@@ -37,4 +37,4 @@ module _ (v a b : ℕ) where
   pub not-before : v ≤ a → (s : ℕ) → 0 ≡ passed (stepRule v s (by a b))
   not-before h = counts-none (λ l. omega (arith, l .first-low))
 
-pub ruleset counting-legal = (counts-one, second-none, out-of-order, not-before)
+pub ruleset counting-step = (counts-one, second-none, out-of-order, not-before)

@@ -7,7 +7,7 @@ ghost use Rattle.chain.specs.Verdict.{_then_, refuseIf};
 ghost use Rattle.chain.specs.Judgement.{verdictOf};
 ghost use Rattle.chain.specs.Written.{over};
 ghost use Rattle.chain.specs.Chain.{pairs, chainRule};
-ghost use Rattle.legal.specs.Inner.{Numbered};
+ghost use Rattle.legal.specs.Inner.{ValuesFit};
 ghost use Rattle.bits.specs.Inner.{FieldStored};
 ghost use Rattle.layout.specs.Layout.{edition1};
 ghost use Rattle.layout.specs.File.{headerBits, headerSize, fileOf, writeAnswer, writeBytes};
@@ -22,7 +22,7 @@ use layout::Layout;
 
 // The steps, 12, then 5 where fewer bytes are lent than the file has.
 fn judge_rest(p: usize, steps: &[u32], outputs: &[u32], count: usize, lent: usize) -> Judgement
-    requires { ⌜ Numbered p (length (now steps) / 2) ⌝ }
+    requires { ⌜ ValuesFit p (length (now steps) / 2) ⌝ }
     ensures { λ r. ⌜ verdictOf r ≡ (chainRule p (pairs (now (steps .entry))) (now (outputs .entry)) then refuseIf (lent <? count) 5 0) ⌝ }
 {
     match legal::judge_chain(p, steps, outputs) {

@@ -1,26 +1,20 @@
--- Every step is a squaring or another product, so the two add up to n. A loop that counts the squarings keeps what is counted and what is left: together
--- they are the squarings of all.
+-- Every step is a squaring or another product, so the two add up to n. What is counted for one step, and what a judge tells that counts.
 use mathlib.Core.Bool.{Bool, true, false}
 use mathlib.Core.Path.{_≡_, refl, sym, ap, _∙_}
 use mathlib.Core.List.{List, [], _∷_, _++_}
-use Prim.Native.Nat.{ℕ, _+_, _-_, _/_, _≤_, _<_}
-use native.Mathlib.Numerals.{add-one}
+use Prim.Native.Nat.{ℕ, _+_, _-_, _≤_, _<_}
 use native.Mathlib.Omega.{arith}
-use lib.ListN.{length, getD, drop, drop-of-length-le}
-use lib.Seq.{drop-cons}
+use lib.ListN.{length, getD}
 use Rattle.chain.specs.Tests.{_=?_}
 use Rattle.chain.specs.Verdict.{Verdict, fine, refused, done, refusal}
-use Rattle.chain.specs.Judgement.{verdictOf, countedOf}
-use Rattle.chain.specs.Chain.{by, pairs, stepRule, one, howMany, isSquaring, isOther, squaringsOf, productsOf, counts}
-use Rattle.chain.specs.Inner.{stepAt, countedBy, SquaringCounted}
+use Rattle.chain.specs.Judgement.{countedOf}
+use Rattle.chain.specs.Chain.{by, stepRule, one, howMany, isSquaring, isOther, squaringsOf, productsOf, counts}
+use Rattle.chain.specs.Inner.{countedBy, SquaringCounted}
 use Rattle.chain.specs.declared.Step.{Step}
-use Rattle.chain.specs.declared.Judgement.{Judgement}
-use Rattle.chain.specs.declared.Judgement.the-variants as judgement
 use Rattle.chain.specs.declared.Counted.{Counted}
 use Rattle.chain.specs.declared.Counted.the-variants.{Fine, Refused}
-use Rattle.chain.proofs.Rules.{eq-yes, eq-no, ne-yes, ne-no, is-eq, not-eq, told-fine, answer-refused, answer-done}
+use Rattle.chain.proofs.Rules.{eq-yes, eq-no, ne-yes, ne-no, is-eq, not-eq, answer-refused, answer-done}
 use Rattle.chain.proofs.Told.{verdictIn, told, told-values}
-use Rattle.chain.proofs.Pairs.{length-pairs, getD-pairs}
 use Rattle.chain.proofs.Steps.{step-legal}
 
 -- a step is one or the other
@@ -79,41 +73,6 @@ one-not-below a b ge le = one-equal a b (omega arith)
 -- as those of a step that was judged are
 pub counted-one : (v s : ℕ) (x : Step) (d : ℕ) → fine ≡ stepRule v s x → SquaringCounted x d → d ≡ one isSquaring x
 counted-one v s x d ok c = c .is (step-legal v s x (sym ok) .in-order)
-
--- the squarings that are left of a flat list after s steps
-unfoldable pub squaringsLeft : List ℕ → ℕ → ℕ
-squaringsLeft l s = squaringsOf (drop s (pairs l))
-
-module _ (l : List ℕ) where
-  pub left-all : squaringsOf (pairs l) ≡ 0 + squaringsLeft l 0
-  unfolding squaringsLeft
-  left-all = omega arith
-
-  -- k are counted, and d is for the step at hand
-  module _ (s k : ℕ) where
-    pub left-one : (x : Step) (d : ℕ) → s < length l / 2 → x ≡ stepAt l s → d ≡ one isSquaring (by (x .first) (x .second))
-        → squaringsOf (pairs l) ≡ k + squaringsLeft l s → squaringsOf (pairs l) ≡ k + d + squaringsLeft l (s + 1)
-    unfolding squaringsLeft squaringsOf stepAt
-    left-one x d h is one-is e =
-        let there : s < length (pairs l) = rw length-pairs h in
-        let next = ap (howMany isSquaring) (drop-cons (pairs l) s (by 0 0) there) in
-        let same = ap (one isSquaring) (getD-pairs l s (omega arith) ∙ sym is) in
-        let later = ap (λ (i : ℕ). howMany isSquaring (drop i (pairs l))) (add-one s) in
-        omega (arith, e, next, same, later, one-is)
-
-    -- of a step that was judged
-    pub left-less : (x : Step) (d p : ℕ) (j : Judgement) → s < length l / 2 → x ≡ stepAt l s
-        → verdictOf j ≡ stepRule (p + s + 1) (s + 1) (by (x .first) (x .second)) → j ≡ judgement.Fine → SquaringCounted (by (x .first) (x .second)) d
-        → squaringsOf (pairs l) ≡ k + squaringsLeft l s → squaringsOf (pairs l) ≡ k + d + squaringsLeft l (s + 1)
-    left-less x d p j h is told ok one-more = left-one x d h is (counted-one _ _ _ d (told-fine j _ told ok) one-more)
-
-    pub left-none : length l / 2 ≤ s → squaringsOf (pairs l) ≡ k + squaringsLeft l s → k ≡ squaringsOf (pairs l)
-    unfolding squaringsLeft squaringsOf
-    left-none h e =
-        let past : length (pairs l) ≤ s = rw length-pairs h in
-        omega (arith, e, ap (howMany isSquaring) (drop-of-length-le (pairs l) past))
-
-pub ruleset counting-squarings = (left-all, left-less, left-none)
 
 -- what is answered with a number, once the rule's verdict is known
 module _ (v : Verdict) (number : ℕ) where

@@ -2,7 +2,6 @@
 use mathlib.Core.Path.{_≡_}
 use mathlib.Core.List.{List, [], _∷_}
 use Prim.Native.Nat.{ℕ, suc, _+_, _^_, _≤_, _<_}
-use Rattle.chain.specs.Verdict.{Verdict}
 use Rattle.chain.specs.Chain.{stepRule, one, isSquaring, squaringsOf}
 use Rattle.chain.specs.declared.Step.{Step}
 use Rattle.step.specs.Inner.{passed}
@@ -17,14 +16,14 @@ pub record EqualCounted (x : Step) (r : ℕ) : Type 0 where
   pub is : r ≡ one isSquaring x
   pub low : r ≤ 1
 
--- how many members of a list a rule passes, numbered i, i + 1, ..
-abbrev pub passing : {A : Type 0} → (ℕ → A → Verdict) → ℕ → List A → ℕ
-passing rule i [] = 0
-passing rule i (x ∷ r) = passed (rule i x) + passing rule (suc i) r
+-- what a number for each member of a list adds up to, the members numbered i, i + 1, ..
+abbrev pub addedUp : {A : Type 0} → (ℕ → A → ℕ) → ℕ → List A → ℕ
+addedUp f i [] = 0
+addedUp f i (x ∷ r) = f i x + addedUp f (suc i) r
 
 -- how many of the steps are legal
 unfoldable pub legalOf : ℕ → List Step → ℕ
-legalOf p steps = passing (λ s x. stepRule (p + s) s x) 1 steps
+legalOf p steps = addedUp (λ s x. passed (stepRule (p + s) s x)) 1 steps
 
 -- what a pass over steps that does not tell them apart counts
 pub record Tallied (p : ℕ) (steps : List Step) (t : Tally) : Type 0 where

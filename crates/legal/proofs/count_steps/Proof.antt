@@ -3,9 +3,8 @@ use borrow.Author.Needs.{needs}
 use mathlib.Core.Path.{_≡_}
 use Prim.Native.Nat.{_+_, _-_, _≤_}
 use Rattle.chain.specs.Chain.{pairs, squaringsOf}
-use Rattle.chain.proofs.Squarings.{squaringsLeft, left-all, left-one, left-none}
 use Rattle.legal.specs.Inner.{legalOf}
-use Rattle.legal.proofs.Counting.{legalLeft, counting-legal}
+use Rattle.legal.proofs.Counting.{leftToAdd, legalAt, squaringAt, adding}
 use Rattle.legal.proofs.count_steps.Statement.{statement}
 use Rattle.legal.proofs.count_steps.Tie as tie
 
@@ -15,8 +14,8 @@ Inv-loop p steps n legal₀ squarings₀ v₀ s₀ legal squarings v s =
     × (legal ≤ s)
     × (squarings ≤ s)
     × (v ≡ p + s + 1)
-    × (legalOf p (pairs steps) ≡ legal + legalLeft p steps s)
-    × (squaringsOf (pairs steps) ≡ squarings + squaringsLeft steps s)
+    × (legalOf p (pairs steps) ≡ legal + leftToAdd (legalAt p) steps s)
+    × (squaringsOf (pairs steps) ≡ squarings + leftToAdd squaringAt steps s)
 
 abbrev μ-loop : tie.MeasureT-loop
 μ-loop p steps n legal₀ squarings₀ v₀ s₀ legal squarings v s = n - s
@@ -24,6 +23,6 @@ abbrev μ-loop : tie.MeasureT-loop
 pub count-steps-spec : {M : Type 1} → statement M
 count-steps-spec =
     tie.close
-    (tie.spec Inv-loop μ-loop (λ c. search needs) (λ c. search needs) (λ c. search (needs, counting-legal, left-all)) (λ c κs. search needs) (λ c κs. search needs)
+    (tie.spec Inv-loop μ-loop (λ c. search needs) (λ c. search needs) (λ c. search (needs, adding)) (λ c κs. search needs) (λ c κs. search needs)
     (λ c. search needs) (λ c κs. search needs) (λ c. search needs) (λ c. search needs) (λ c. search needs) (λ c. search needs)
-    (λ c. search (needs, counting-legal, left-one)) (λ c. search (needs, counting-legal, left-none)))
+    (λ c. search (needs, adding)) (λ c. search (needs, adding)))

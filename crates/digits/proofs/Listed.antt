@@ -8,23 +8,23 @@ use lib.ListN.{length, getD, take, length-append, List·getD-append}
 use lib.Seq.{getD-at, take-all, take-append-le}
 use Rattle.digits.specs.Range.{listTo}
 
-pub length-list : (n : ℕ) (f : ℕ → ℕ) → length (listTo n f) ≡ n
+pub length-list {ℓ} : {A : Type ℓ} (n : ℕ) (f : ℕ → A) → length (listTo n f) ≡ n
 length-list zero f = refl
 length-list (suc n) f = length-append (listTo n f) _ ∙ omega (arith, length-list n f)
 
-pub getD-list : (n : ℕ) (f : ℕ → ℕ) (j : ℕ) → j < n → getD (listTo n f) j 0 ≡ f j
-getD-list zero f j h = absurd (omega arith)
-getD-list (suc n) f j h = by-place (getD-list n f j) (decLt j n)
+pub getD-list {ℓ} : {A : Type ℓ} (n : ℕ) (f : ℕ → A) (d : A) (j : ℕ) → j < n → getD (listTo n f) j d ≡ f j
+getD-list zero f d j h = absurd (omega arith)
+getD-list (suc n) f d j h = by-place (getD-list n f d j) (decLt j n)
   where
-    by-place : (j < n → getD (listTo n f) j 0 ≡ f j) → Dec (j < n) → getD (listTo n f ++ f n ∷ []) j 0 ≡ f j
-    by-place ih (yes lt) = List·getD-append (listTo n f) _ 0 j (omega (arith, length-list n f)) ∙ ih lt
+    by-place : (j < n → getD (listTo n f) j d ≡ f j) → Dec (j < n) → getD (listTo n f ++ f n ∷ []) j d ≡ f j
+    by-place ih (yes lt) = List·getD-append (listTo n f) _ d j (omega (arith, length-list n f)) ∙ ih lt
     by-place ih (no ge) =
         let last : j ≡ n = omega arith in
-        rw last (getD-at (listTo n f) (f n) [] 0 n (length-list n f))
+        rw last (getD-at (listTo n f) (f n) [] d n (length-list n f))
 
-pub list-same : (n : ℕ) (f g : ℕ → ℕ) → ((j : ℕ) → j < n → f j ≡ g j) → listTo n f ≡ listTo n g
+pub list-same {ℓ} : {A : Type ℓ} (n : ℕ) (f g : ℕ → A) → ((j : ℕ) → j < n → f j ≡ g j) → listTo n f ≡ listTo n g
 list-same zero f g e = refl
-list-same (suc n) f g e = ap₂ (λ (l : List ℕ) (x : ℕ). l ++ x ∷ []) (list-same n f g (λ j h. e j (omega arith))) (e n (omega arith))
+list-same (suc n) f g e = ap₂ (λ l x. l ++ x ∷ []) (list-same n f g (λ j h. e j (omega arith))) (e n (omega arith))
 
 -- the first m numbers, then n more
 pub list-split : (m n : ℕ) (f : ℕ → ℕ) → listTo (m + n) f ≡ listTo m f ++ listTo n (λ j. f (m + j))

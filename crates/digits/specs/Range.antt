@@ -19,7 +19,7 @@ orTo zero f = 0
 orTo (suc n) f = bitOr (orTo n f) (f n)
 
 -- f 0, .., f (n - 1), one after the other
-abbrev pub listTo : ℕ → (ℕ → ℕ) → List ℕ
+abbrev pub listTo {ℓ} : {A : Type ℓ} → ℕ → (ℕ → A) → List A
 listTo zero f = []
 listTo (suc n) f = listTo n f ++ f n ∷ []
 

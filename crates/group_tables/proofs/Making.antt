@@ -35,7 +35,7 @@ module _ (bits old cells : List ℕ) (e : cells ≡ over (listTo (length bits) (
       at : (col : ℕ) → col < length bits → getD (take (length bits) cells) col 0 ≡ bitsLess bits 1 col
       at col h =
           ap (λ (l : List ℕ). getD l col 0) (filled-front (bitsLess bits 1) old (length bits) cells e)
-          ∙ getD-list (length bits) (bitsLess bits 1) col h
+          ∙ getD-list (length bits) (bitsLess bits 1) 0 col h
 
 -- room for all of it
 module _ {s : Grouping} {bits members₀ steps₀ : List ℕ} (room : GroupsRoom s bits members₀ steps₀) where

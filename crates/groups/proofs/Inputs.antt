@@ -37,7 +37,7 @@ module _ (bits : ℕ → ℕ) where
       by-column ih (no ge) =
           let last : col ≡ n = omega arith in
           let at : sumTo n bits + i ≡ length (overInputs bits f n) + i = omega (arith, length-over f n) in
-          rw (last, at) (getD-append-add (overInputs bits f n) _ i 0 ∙ getD-list (bits n) (f n) i (rw last at g))
+          rw (last, at) (getD-append-add (overInputs bits f n) _ i 0 ∙ getD-list (bits n) (f n) 0 i (rw last at g))
 
   -- the column and the power of the input at a place
   pub record Place (n j : ℕ) : Type 0 where

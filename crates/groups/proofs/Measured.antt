@@ -33,7 +33,7 @@ use Rattle.groups.proofs.Members.{members-count}
 -- the columns' bits in a slice
 module _ (p q : ℕ) (amounts bits : List ℕ) (is : bits ≡ listTo p (columnBits p q amounts)) where
   pub bits-at : (col : ℕ) → col < p → getD bits col 0 ≡ columnBits p q amounts col
-  bits-at col h = ap (λ (l : List ℕ). getD l col 0) is ∙ getD-list p (columnBits p q amounts) col h
+  bits-at col h = ap (λ (l : List ℕ). getD l col 0) is ∙ getD-list p (columnBits p q amounts) 0 col h
 
   pub bits-long : length bits ≡ p
   bits-long = ap length is ∙ length-list p (columnBits p q amounts)
@@ -56,7 +56,7 @@ module _ (p : ℕ) (largest old cells : List ℕ) (e : cells ≡ over (listTo p 
   measured-narrow h low = record { columns = omega (arith, measured-long); each = λ col. by-place col (decLt col p) }
     where
       by-place : (col : ℕ) → Dec (col < p) → getD (take p cells) col 0 ≤ 32
-      by-place col (yes lt) = rw (measured, getD-list p (digitsAt 1 largest) col lt) (digits-low 1 (getD largest col 0) _ (omega arith) (low col) refl)
+      by-place col (yes lt) = rw (measured, getD-list p (digitsAt 1 largest) 0 col lt) (digits-low 1 (getD largest col 0) _ (omega arith) (low col) refl)
       by-place col (no ge) = rw (List·getD-eq-default (take p cells) 0 {n = col} (omega (arith, measured-long))) (omega arith)
 
 -- their grouping, from what their bits add up to
@@ -194,4 +194,4 @@ module _ (s : Grouping) (amounts : List ℕ) (i : ℕ) (old cells : List ℕ)
   numbers-long = filled-length _ old (s .groups) cells e
 
   pub numbers-at : (g : ℕ) → g < s .groups → getD (take (s .groups) cells) g 0 ≡ weigh (group (s .c) g (selection (s .p) (s .q) amounts i))
-  numbers-at g h = ap (λ (l : List ℕ). getD l g 0) numbers-are ∙ getD-list (s .groups) _ g h
+  numbers-at g h = ap (λ (l : List ℕ). getD l g 0) numbers-are ∙ getD-list (s .groups) _ 0 g h

@@ -41,7 +41,7 @@ module _ (f : ℕ → ℕ) (old : List ℕ) where
   -- read back from the front
   module _ (n : ℕ) (cells : List ℕ) (e : cells ≡ over (listTo n f) old) where
     pub filled-at : (c : ℕ) → c < n → getD cells c 0 ≡ f c
-    filled-at c h = ap (λ (l : List ℕ). getD l c 0) e ∙ over-getD (listTo n f) old c (omega (arith, length-list n f)) ∙ getD-list n f c h
+    filled-at c h = ap (λ (l : List ℕ). getD l c 0) e ∙ over-getD (listTo n f) old c (omega (arith, length-list n f)) ∙ getD-list n f 0 c h
 
     pub filled-front : take n cells ≡ listTo n f
     filled-front = ap (take n) e ∙ take-over n (listTo n f) old (length-list n f)

@@ -22,7 +22,7 @@ pub length-bases : (p : ℕ) → length (bases p) ≡ p
 length-bases p = length-list p (λ c. c + 1)
 
 getD-bases : (p j : ℕ) → j < p → getD (bases p) j 0 ≡ j + 1
-getD-bases p = getD-list p (λ c. c + 1)
+getD-bases p = getD-list p (λ c. c + 1) 0
 
 bases-some : (p j : ℕ) → j < length (bases p) → 0 < getD (bases p) j 0
 bases-some p j h = rw (getD-bases p j (omega (arith, length-bases p))) (omega arith)

@@ -39,7 +39,7 @@ module _ {p q : ℕ} {amounts : List ℕ} {k : ℕ} {columns counts : List ℕ} 
   squared-is =
       ap (squarings p (countsOf counts)) counts-length
       ∙ squarings-same p (countsOf counts) (yaoSquarings p q amounts k) p
-      (λ c h. ap (λ (l : List ℕ). getD l c 0) (asked .counts-are) ∙ getD-list p (squaringsIn k columns) c h
+      (λ c h. ap (λ (l : List ℕ). getD l c 0) (asked .counts-are) ∙ getD-list p (squaringsIn k columns) 0 c h
       ∙ squarings-are p q amounts k columns (asked .chain .measured) c h)
 
   counted : length (payslips (yaoSlip p q amounts k) start q .steps) ≡ yaoCount p q amounts k

@@ -1,7 +1,7 @@
 -- A part's number has for digits what a payslip uses of the group, so the parts of the first groups make together what it uses of the first inputs.
 use mathlib.Core.Path.{_≡_, sym, ap, _∙_}
 use mathlib.Core.List.{List}
-use Prim.Native.Nat.{ℕ, suc, _+_, _*_, _^_, _≤_, _<_}
+use Prim.Native.Nat.{ℕ, zero, suc, _+_, _*_, _^_, _≤_, _<_}
 use native.Mathlib.Nat.{le-trans}
 use native.Mathlib.Omega.{arith}
 use lib.ListN.{length, getD}
@@ -60,6 +60,12 @@ module _ (c : ℕ) (members bits : List ℕ) (same : length bits ≡ length memb
 
     pub uses-on : (g d : ℕ) → uses g d + combined 1 (length (group c g members)) (λ j. x (g * c + j)) (weigh (group c g bits)) d ≡ uses (suc g) d
     uses-on g d = rw (part-makes g d) (sum-group c (length members) g (λ j. getD bits j 0 * x j d))
+
+    -- the parts of the first groups together
+    pub parts-sum : (g d : ℕ) → sumTo g (λ e. combined 1 (length (group c e members)) (λ j. x (e * c + j)) (weigh (group c e bits)) d) ≡ uses g d
+    parts-sum zero d = uses-none d
+    parts-sum (suc g) d =
+        ap (λ (s : ℕ). s + combined 1 (length (group c g members)) (λ j. x (g * c + j)) (weigh (group c g bits)) d) (parts-sum g d) ∙ uses-on g d
 
     pub uses-low : (g d limit : ℕ) → sumTo (length members) (λ j. getD bits j 0 * x j d) ≤ limit → uses g d ≤ limit
     uses-low g d limit low = le-trans (sum-more (λ j. getD bits j 0 * x j d) (reached c (length members) g) (length members) (omega arith)) low

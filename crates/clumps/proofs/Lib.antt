@@ -1,0 +1,13 @@
+pub mod Lists
+pub mod Totals
+pub mod Often
+pub mod Cut
+pub mod Chosen
+pub mod Ranked
+pub mod Together
+pub mod Products
+pub mod Outputs
+pub mod Inputs
+pub mod Solved
+pub mod Sizes
+pub mod Bound

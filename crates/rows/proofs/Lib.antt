@@ -1,0 +1,9 @@
+pub mod Lists
+pub mod Rows
+pub mod Counts
+pub mod Piles
+pub mod Dealing
+pub mod Sizes
+pub mod Laid
+pub mod Transposing
+pub mod Laying

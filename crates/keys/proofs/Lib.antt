@@ -1,0 +1,9 @@
+pub mod Weights
+pub mod Members
+pub mod Keys
+pub mod Entering
+pub mod Weighing
+pub mod Laying
+pub mod Clumps
+pub mod Climbing
+pub mod Rising

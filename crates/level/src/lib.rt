@@ -1,0 +1,1 @@
+// What the ranks of keys are of clumps: which clumps a row has, in order. There is no code here.

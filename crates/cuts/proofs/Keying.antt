@@ -85,7 +85,9 @@ module _ (old : List ℕ) (from to b limit top r : ℕ) where
           record {
             within = omega (arith, left);
             at = rw n (omega (arith, next, d .at));
-            laid = lay-more keyAt r old e x s (d .laid) (omega (arith, keys-room, d .laid .apart .size)) (is ∙ ap (λ (u : List ℕ). top - weightOf limit u) same);
+            laid =
+                lay-more keyAt r old e x s (d .laid) (omega (arith, keys-room, d .laid .apart .size))
+                (is ∙ ap (λ (u : List ℕ). top - weightOf limit u) same);
           }
 
     pub keys-all : to ≤ i → RunCut from to b limit top r e old s

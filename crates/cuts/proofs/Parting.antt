@@ -6,13 +6,13 @@ use mathlib.Core.List.{List, map}
 use Prim.Native.Nat.{ℕ, _+_, _-_, _*_, _/_, _%_, _^_, _≤_, _<_}
 use native.Mathlib.Nat.{add-mul, one-mul, mul-comm, mul-le-mul, mul-le-mul-right, div-add-mod'}
 use native.Mathlib.Omega.{arith}
-use lib.ListN.{length, getD, take, drop}
-use lib.Seq.{slice, length-slice, drop-drop}
+use lib.ListN.{length, getD, take, drop, length-take, length-drop}
+use lib.Seq.{slice, length-slice, getD-take, getD-drop, drop-drop}
 use Rattle.digits.specs.Range.{listTo}
 use Rattle.digits.proofs.Blocks.{block-div}
 use Rattle.digits.proofs.Listed.{list-same}
 use Rattle.groups.specs.Groups.{group}
-use Rattle.groups.proofs.Groups.{length-group, getD-group}
+use Rattle.groups.proofs.Groups.{length-group}
 use Rattle.clumps.specs.Clumps.{mostPart, remainder}
 use Rattle.clumps.proofs.Lists.{map-list}
 use Rattle.rows.proofs.Lists.{slice-cell, slice-is, slice-same}
@@ -52,6 +52,9 @@ module _ (s : List ℕ) (from to part a b keys rest : ℕ) (asked : PartAsked s 
   pub left-low : (to - from) % b ≤ to - from
   left-low = omega (arith, parted)
 
+  pub taken-are : to - from - (to - from) % b ≡ n * b
+  taken-are = omega (arith, parted)
+
   w-is : w ≡ from + n * b
   w-is = omega (arith, parted, room .order)
 
@@ -63,83 +66,99 @@ module _ (s : List ℕ) (from to part a b keys rest : ℕ) (asked : PartAsked s 
   long : length here ≡ to - from
   long = length-slice from to s (room .inside)
 
+  next : (k : ℕ) → (part + 1) * k ≡ part * k + k
+  next k = add-mul part 1 k ∙ ap (λ (x : ℕ). part * k + x) (one-mul k)
+
+  -- b numbers in a row, wherever they begin
+  module _ (g : ℕ) (low : from ≤ g) (high : g + b ≤ to) where
+    within-is : slice g (g + b) s ≡ take b (drop (g - from) here)
+    within-is =
+        slice-is g (g + b) s (take b (drop (g - from) here)) (omega (arith, room .inside)) (omega (arith, full))
+        (λ i h. cell i (omega (arith, full)) ∙ sym (getD-take b (drop (g - from) here) i 0 (omega (arith, full)) ∙ getD-drop (g - from) here i 0))
+      where
+        full : length (take b (drop (g - from) here)) ≡ b
+        full = omega (arith, length-take b (drop (g - from) here), length-drop (g - from) here, long)
+
+        cell : (i : ℕ) → i < b → getD s (g + i) 0 ≡ getD here (g - from + i) 0
+        cell i h =
+            let q : g + i ≡ from + (g - from + i) = omega arith in
+            ap (λ (c : ℕ). getD s c 0) q ∙ sym (slice-cell from to s (g - from + i) (omega arith))
+
+    climbs : Climbs (part * a) limit (slice g (g + b) s)
+    climbs =
+        subst (Climbs (part * a) limit) (sym within-is)
+        (climbs-take (part * a) limit b (drop (g - from) here) (climbs-drop (part * a) limit (g - from) here (asked .climbs)))
+
+    key-asked : KeyAsked s g (g + b) limit top
+    key-asked =
+        let size : limit - part * a ≡ a = omega (arith, next a) in
+        let light : weightOf limit (slice g (g + b) s) < 2 ^ a =
+        subst (λ (k : ℕ). weightOf limit (slice g (g + b) s) < 2 ^ k) size (weight-low (part * a) limit (slice g (g + b) s) (omega (arith, next a)) climbs) in
+        record {
+          rises = omega arith;
+          inside = omega (arith, room .inside);
+          climbs = climbs-lower (limit - mostPart) (part * a) limit (slice g (g + b) s) (omega (arith, next a, room .few)) climbs;
+          light = omega (arith, next (2 ^ a));
+        }
+
+  end : (m : ℕ) → m < n → m * b + b ≤ n * b
+  end m h =
+      let more : m + 1 ≤ n = omega arith in
+      omega (arith, mul-le-mul-right b more, add-mul m 1 b, one-mul b)
+
   -- clump m
   module _ (m : ℕ) (h : m < n) where
-    end : m * b + b ≤ n * b
-    end =
-        let more : m + 1 ≤ n = omega arith in
-        omega (arith, mul-le-mul-right b more, add-mul m 1 b, one-mul b)
-
-    full : length (group b m here) ≡ b
-    full = omega (arith, length-group b m here, long, end, parted)
+    inside : from + m * b + b ≤ to
+    inside = omega (arith, end m h, parted, room .order)
 
     clump-is : clumpFrom s from b m ≡ group b m here
     clump-is =
-        slice-is (from + m * b) (from + m * b + b) s (group b m here) (omega (arith, end, parted, room .order, room .inside)) (omega (arith, full))
-        (λ i g. cell i (omega (arith, full)) ∙ sym (getD-group b m here i g))
-      where
-        cell : (i : ℕ) → i < b → getD s (from + m * b + i) 0 ≡ getD here (m * b + i) 0
-        cell i g =
-            let q : from + m * b + i ≡ from + (m * b + i) = omega arith in
-            ap (λ (c : ℕ). getD s c 0) q ∙ sym (slice-cell from to s (m * b + i) (omega (arith, end, parted, room .order)))
+        let q : from + m * b - from ≡ m * b = omega arith in
+        within-is (from + m * b) (omega arith) inside ∙ ap (λ (k : ℕ). take b (drop k here)) q
 
-    climbs : Climbs (part * a) limit (clumpFrom s from b m)
-    climbs =
-        subst (Climbs (part * a) limit) (sym clump-is)
-        (climbs-take (part * a) limit b (drop (m * b) here) (climbs-drop (part * a) limit (m * b) here (asked .climbs)))
-
-    next : (k : ℕ) → (part + 1) * k ≡ part * k + k
-    next k = add-mul part 1 k ∙ ap (λ (x : ℕ). part * k + x) (one-mul k)
-
-    pub key-asked : KeyAsked s (from + m * b) (from + m * b + b) limit top
-    key-asked =
-        let size : limit - part * a ≡ a = omega (arith, next a) in
-        let light : weightOf limit (clumpFrom s from b m) < 2 ^ a =
-        subst (λ (k : ℕ). weightOf limit (clumpFrom s from b m) < 2 ^ k) size (weight-low (part * a) limit (clumpFrom s from b m) (omega (arith, next a)) climbs) in
-        record {
-          rises = omega arith;
-          inside = omega (arith, end, parted, room .order, room .inside);
-          climbs = climbs-lower (limit - mostPart) (part * a) limit (clumpFrom s from b m) (omega (arith, next a, room .few)) climbs;
-          light = omega (arith, next (2 ^ a));
-        }
+    full : length (group b m here) ≡ b
+    full = omega (arith, length-group b m here, long, inside)
 
     key-is : top - weightOf limit (clumpFrom s from b m) ≡ keyIn a (group b m here)
     key-is =
         ap (keyOf a part) clump-is
-        ∙ sym (key-in a part (group b m here) (omega (arith, room .some, room .within)) (subst (Climbs (part * a) limit) clump-is climbs) (omega (arith, full, room .some)))
+        ∙ sym (key-in a part (group b m here) (omega (arith, room .some, room .within))
+        (subst (Climbs (part * a) limit) clump-is (climbs (from + m * b) (omega arith) inside)) (omega (arith, full, room .some)))
 
-  pub run-asked : RunAsked s from w b limit top keys
-  run-asked =
+  -- as many clumps as the part has, from any of its cells on
+  pub run-asked : (f t : ℕ) → from ≤ f → t ≤ to → f ≤ t → t - f ≡ n * b → RunAsked s f t b limit top keys
+  run-asked f t low high order size =
       record {
         some = omega (arith, room .some);
-        order = omega (arith, w-is);
-        even = rw count (omega (arith, w-is));
+        order = order;
+        even = rw many (sym size);
         inside = omega (arith, room .inside);
-        room = rw count (omega (arith, room .keys-room, room .rest-room));
+        room = rw many (omega (arith, room .keys-room, room .rest-room));
         away = by-side (room .away);
-        asked = λ m h. key-asked m (rw count at h);
+        asked = λ m h. key-asked (f + m * b) (omega arith) (omega (arith, end m (rw many at h), size));
       }
     where
-      by-side : (to ≤ keys) ⊎ (rest + (to - from) ≤ from) → (w ≤ keys) ⊎ (keys + (w - from) / b ≤ from)
+      many : (t - f) / b ≡ n
+      many =
+          let q : t - f ≡ n * b + 0 = omega (arith, size) in
+          ap (λ (k : ℕ). k / b) q ∙ block-div n b 0 (omega (arith, room .some))
+
+      by-side : (to ≤ keys) ⊎ (rest + (to - from) ≤ from) → (t ≤ keys) ⊎ (keys + (t - f) / b ≤ f)
       by-side (inl low) = inl (omega arith)
-      by-side (inr high) = inr (omega (arith, count, room .keys-room))
+      by-side (inr high) = inr (omega (arith, many, room .keys-room))
+
+  -- any of its cells copied
+  pub copy-asked : (f t : ℕ) (mid : List ℕ) → from ≤ f → t ≤ to → f ≤ t → length mid ≡ length s → CopyAsked mid f t rest
+  copy-asked f t mid low high order size =
+      record { order = order; inside = omega (arith, room .inside); room = omega (arith, room .rest-room); away = by-side (room .away) }
+    where
+      by-side : (to ≤ keys) ⊎ (rest + (to - from) ≤ from) → (t ≤ rest) ⊎ (rest ≤ f)
+      by-side (inl low) = inl (omega (arith, room .keys-room))
+      by-side (inr high) = inr (omega arith)
 
   module _ (k : ℕ) (mid : List ℕ) (run : RunCut from w b limit top keys k s mid) where
     k-is : k ≡ keys + n
     k-is = omega (arith, run .end, count)
-
-    pub copy-asked : CopyAsked mid w to rest
-    copy-asked =
-        record {
-          order = omega arith;
-          inside = omega (arith, run .apart .size, room .inside);
-          room = omega (arith, run .apart .size, room .rest-room, w-is);
-          away = by-side (room .away);
-        }
-      where
-        by-side : (to ≤ keys) ⊎ (rest + (to - from) ≤ from) → (to ≤ rest) ⊎ (rest ≤ w)
-        by-side (inl low) = inl (omega (arith, room .keys-room))
-        by-side (inr high) = inr (omega (arith, w-is))
 
     pub part-cut : (r : ℕ) (new : List ℕ) → Copied w to rest r mid new → PartCut from to a b keys rest k r s new
     part-cut r new copied =

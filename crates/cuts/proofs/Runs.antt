@@ -22,7 +22,7 @@ module _ {A : Type 0} (f : List ℕ → List A) (empty : f [] ≡ []) (a : ℕ) 
   abbrev made : ℕ → List ℕ → List A
   made n u = joined n (λ j. f (inPart a j u))
 
-  pub made-none : (n : ℕ) → made n [] ≡ []
+  made-none : (n : ℕ) → made n [] ≡ []
   made-none n = joined-none n _ (λ j h. empty)
 
   -- parts past the last number's are empty
@@ -35,7 +35,7 @@ module _ {A : Type 0} (f : List ℕ → List A) (empty : f [] ≡ []) (a : ℕ) 
       (ap f (only-none _ u (λ i h. eq-no (getD u i 0 / a) (n + d) (λ e. omega (arith, low i h)))) ∙ empty)
       ∙ append-nil (made n u)
 
-  pub made-same : (n k : ℕ) (u : List ℕ) → ((i : ℕ) → i < length u → getD u i 0 / a < n) → ((i : ℕ) → i < length u → getD u i 0 / a < k)
+  made-same : (n k : ℕ) (u : List ℕ) → ((i : ℕ) → i < length u → getD u i 0 / a < n) → ((i : ℕ) → i < length u → getD u i 0 / a < k)
       → made n u ≡ made k u
   made-same n k u low less = by-order (decLt n k)
     where
@@ -59,7 +59,7 @@ module _ {A : Type 0} (f : List ℕ → List A) (empty : f [] ≡ []) (a : ℕ) 
         ∙ ap₂ _++_ (only-all _ here (λ i g. eq-yes (getD here i 0 / a) k (own i g))) (low k (omega arith))
         ∙ append-nil here
 
-    pub made-first : (n : ℕ) → k < n → made n (here ++ after) ≡ f here ++ made n after
+    made-first : (n : ℕ) → k < n → made n (here ++ after) ≡ f here ++ made n after
     made-first zero h = absurd (omega arith)
     made-first (suc n) h = by-place (made-first n) (decLt k n)
       where

@@ -45,7 +45,7 @@ pub record RunEnds (s : List ℕ) (i to limit e : ℕ) : Type 0 where
   pub below : (c : ℕ) → i ≤ c → c < e → getD s c 0 < limit
   pub stops : e < to → limit ≤ getD s e 0
 
--- the cells from .. to are copied to r on, and up to cell e: they lie before r, or not before it
+-- copying the cells from .. to to r on asks that they end before r, or begin at r or behind it; they are copied up to cell e
 pub record CopyAsked (s : List ℕ) (from to r : ℕ) : Type 0 where
   pub order : from ≤ to
   pub inside : to ≤ length s
@@ -57,7 +57,7 @@ pub record Copied (from to r e : ℕ) (old new : List ℕ) : Type 0 where
   pub end : e ≡ r + (to - from)
   pub are : slice r e new ≡ slice from to old
 
--- the numbers b at a time from a cell on, those that come behind m times as many
+-- the numbers b at a time from a cell on: clump m, counted from 0
 abbrev pub clumpFrom : List ℕ → ℕ → ℕ → ℕ → List ℕ
 clumpFrom s from b m = slice (from + m * b) (from + m * b + b) s
 

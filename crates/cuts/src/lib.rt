@@ -2,6 +2,7 @@
 ghost use mathlib.Core.Path.{_≡_};
 ghost use Prim.Native.Nat.{_+_, _-_, _*_, _^_, _≤_, _<_};
 ghost use lib.ListN.{length};
+ghost use Rattle.clumps.specs.Clumps.{mostPart};
 ghost use Rattle.cuts.specs.Inner.{CutAsked, RowsCut};
 ghost use Rattle.cuts.specs.Inner.{RunEnds, RunAsked, RunCut, CopyAsked, Copied, PartAsked, PartCut, RowAsked, RowCut, Placed};
 
@@ -64,7 +65,7 @@ pub fn copy(s: &mut [u32], from: usize, to: usize, r: usize) -> usize
 
 // The last key of a part.
 fn last_key(part: u32, a: u32) -> u32
-    requires { ⌜ (part < 2 ^ 23) × (a ≤ 8) ⌝ }
+    requires { ⌜ (part < 2 ^ 23) × (a ≤ mostPart) ⌝ }
     ensures { λ r. ⌜ r ≡ (part + 1) * 2 ^ a - 1 ⌝ }
 {
     (part + 1) * digits::power(a as usize) - 1

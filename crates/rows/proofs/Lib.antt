@@ -7,3 +7,4 @@ pub mod Sizes
 pub mod Laid
 pub mod Transposing
 pub mod Laying
+pub mod Members

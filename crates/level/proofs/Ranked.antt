@@ -30,6 +30,9 @@ module _ (a b : ℕ) (somea : 1 ≤ a) (someb : 1 ≤ b) where
   clump-is : (x : ℕ) (g : Good a b x) → clumpOf a x ≡ g .clump
   clump-is x g = ap (clumpOf a) (g .is) ∙ clump-of-key a (g .part) (g .clump) (g .inside)
 
+  pub clump-long : (x : ℕ) → Good a b x → length (clumpOf a x) ≡ b
+  clump-long x g = ap length (clump-is x g) ∙ g .long
+
   pub good-order : (x y : ℕ) → Good a b x → Good a b y → precedes (clumpOf a x) (clumpOf a y) ≡ (x <? y)
   good-order x y g h =
       ap₂ precedes (clump-is x g) (clump-is y h)
@@ -52,7 +55,7 @@ every-below : (lo hi : ℕ) (l : List ℕ) → Climbs lo hi l → Every (λ x. x
 every-below lo hi [] c = tt
 every-below lo hi (x ∷ l) c = (c .1, every-below (x + 1) hi l (c .2))
 
-every-has : (P : ℕ → Type 0) (x : ℕ) (l : List ℕ) → Every P l → has x l ≡ true → P x
+pub every-has : (P : ℕ → Type 0) (x : ℕ) (l : List ℕ) → Every P l → has x l ≡ true → P x
 every-has P x [] e h = absurd (true≢false (sym h))
 every-has P x (y ∷ l) e h = by-first (every-has P x l (e .1)) (x =? y) refl h
   where
@@ -100,10 +103,10 @@ module _ (l : Level) (somea : 1 ≤ l .a) (someb : 1 ≤ l .b) (n m : ℕ) (row 
   climbs : (j : ℕ) → j < m → Climbs 0 n (row j)
   climbs j h = rising-climbs n (row j) (rising j h)
 
-  goods : Every (Good a (l .b)) all
+  pub goods : Every (Good a (l .b)) all
   goods = every-joined (Good a (l .b)) m keys (λ j h. row-good l n (row j) somea someb (climbs j h))
 
-  low : Every (λ x. x < size) all
+  pub low : Every (λ x. x < size) all
   low = every-joined (λ x. x < size) m keys (λ j h. every-below 0 size (keys j) (row-climbs l n (row j) somea someb (climbs j h)))
 
   -- all clumps in order are those of the different keys

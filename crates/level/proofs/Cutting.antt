@@ -16,7 +16,7 @@ use Rattle.groups.specs.Groups.{groupCount}
 use Rattle.clumps.specs.Lists.{joined, which, has, holds, entered}
 use Rattle.clumps.specs.Clumps.{mostPart, clumpsIn, clumpsOf}
 use Rattle.clumps.proofs.Lists.{getD-map-in, joined-same}
-use Rattle.clumps.proofs.Ranked.{which-item}
+use Rattle.clumps.proofs.Ranked.{which-few, which-item}
 use Rattle.rows.specs.Inner.{rowAt, rowsAt, Formed}
 use Rattle.rows.proofs.Lists.{slice-cell}
 use Rattle.rows.proofs.Rows.{place-above, row-inside, row-kept, rows-kept}
@@ -146,6 +146,9 @@ module _ (at m n : ℕ) (l : Pair) (keys rest : ℕ) (s : List ℕ) (asked : Lev
     few-clumps : k ≤ ends .keys - from
     few-clumps = omega (arith, ranked .low)
 
+    few-keys : k ≤ T
+    few-keys = omega (arith, count, which-few (λ x. has x all) T)
+
     different-is : slice first clumps s2 ≡ different all T
     different-is = ranked .keys ∙ ap (λ (r : List ℕ). different r T) flat
 
@@ -182,7 +185,7 @@ module _ (at m n : ℕ) (l : Pair) (keys rest : ℕ) (s : List ℕ) (asked : Lev
           few = asked .cut .few;
           before = omega (arith, end-is);
           small = λ j h. rw (key-at j h) (small-key a n _ somea (asked .cut .few) (asked .few) (key-there j h .0));
-          room = omega (arith, sizes, end-is, count, few-clumps, few, times-few, cut .whole, asked .room, size2, rest-rise);
+          room = omega (arith, sizes, end-is, count, few-clumps, few-keys, few, times-few, cut .whole, asked .room, size2, rest-rise);
           fits = rw size2 (asked .cut .fits);
         }
 
@@ -257,7 +260,8 @@ module _ (at m n : ℕ) (l : Pair) (keys rest : ℕ) (s : List ℕ) (asked : Lev
             count = count ∙ sym D-long;
             clumps-formed = rw (length-list k (λ j. clumpIn a s2 (first + j))) at (laid .laid .formed);
             clumps-are = ap (rowsAt s3 clumps) (sym (length-list k (λ j. clumpIn a s2 (first + j)))) ∙ laid .laid .are ∙ rows-is;
-            low = omega (arith, laid .end, sizes, end-is, count, few-clumps, few, times-few, cut .whole, rest-rise);
+            few = omega (arith, few-clumps, few, few-keys);
+            low = omega (arith, laid .end, sizes, end-is, count, few-clumps, few-keys, few, times-few, cut .whole, rest-rise);
           }
         where
           own-end : {at e : ℕ} → Formed s3 at m e → Formed s3 at m (getD s3 (at + m) 0)

@@ -1,7 +1,7 @@
 -- Inner vocabulary: the cut of one level; nobody has to believe it to believe an entry point's promise.
 use mathlib.Core.Path.{_≡_}
 use mathlib.Core.List.{List, []}
-use Prim.Native.Nat.{ℕ, _+_, _*_, _/_, _^_, _≤_, _<_}
+use Prim.Native.Nat.{ℕ, _+_, _*_, _/_, _^_, _≤_, _<_, min}
 use lib.ListN.{length, getD}
 use Rattle.digits.specs.Range.{listTo}
 use Rattle.groups.specs.Groups.{groupCount}
@@ -19,6 +19,14 @@ levelOf l = level (l .a) (l .b)
 abbrev pub keysOf : Pair → ℕ → ℕ
 keysOf l n = groupCount (l .a) n * 2 ^ l .a
 
+-- how many clumps rows of so many numbers may have: none is of fewer than b, and each has a key
+abbrev pub mostClumps : Pair → ℕ → ℕ → ℕ
+mostClumps l n members = min (members / l .b) (keysOf l n)
+
+-- where the rows of the clumps of m rows of so many numbers end at the latest, what overflows being in rows at a cell
+abbrev pub levelEnd : Pair → ℕ → ℕ → ℕ → ℕ → ℕ
+levelEnd l n m members rest = rest + m + 1 + members + keysOf l n + members / l .b + mostClumps l n members + 1
+
 -- the clumps of each of m rows of indices below n, and all of them in order
 abbrev pub cutOf : Pair → ℕ → List ℕ → ℕ → ℕ → List (List (List ℕ))
 cutOf l n s at m = listTo m (λ j. clumpsOf (levelOf l) n (rowAt s at j))
@@ -32,7 +40,7 @@ pub record LevelAsked (s : List ℕ) (at m n : ℕ) (l : Pair) (keys rest : ℕ)
   pub cut : CutAsked s at m l keys rest
   pub rising : (j : ℕ) → j < m → Rising n (rowAt s at j)
   pub few : n < 2 ^ 24
-  pub room : rest + m + 1 + membersAt s at m + keysOf l n + 1 + 2 * (membersAt s at m / l .b) ≤ length s
+  pub room : levelEnd l n m (membersAt s at m) rest ≤ length s
 
 -- the level is cut: of each row the places of its clumps stand in a row at `keys`, its overflow in a row at `rest`, and behind them rows of the clumps
 pub record LevelCut (at m n : ℕ) (l : Pair) (keys rest : ℕ) (r : Clumped) (old new : List ℕ) : Type 0 where
@@ -47,4 +55,5 @@ pub record LevelCut (at m n : ℕ) (l : Pair) (keys rest : ℕ) (r : Clumped) (o
   pub count : r .k ≡ length (clumpsIn (cutOf l n old at m))
   pub clumps-formed : Formed new (r .clumps) (r .k) (r .end)
   pub clumps-are : rowsAt new (r .clumps) (r .k) ≡ clumpsIn (cutOf l n old at m)
-  pub low : r .end ≤ rest + m + 1 + membersAt old at m + keysOf l n + 1 + 2 * (membersAt old at m / l .b)
+  pub few : r .k ≤ mostClumps l n (membersAt old at m)
+  pub low : r .end ≤ levelEnd l n m (membersAt old at m) rest

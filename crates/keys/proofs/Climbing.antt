@@ -23,7 +23,7 @@ use Rattle.keys.proofs.Weights.{climbs-lower, weight-low}
 use Rattle.keys.proofs.Keys.{InPart, clump-of-key, key-low, key-high, key-rises}
 use Rattle.keys.proofs.Entering.{Every, every-append}
 
-climbs-append : (lo mid hi : ℕ) (l r : List ℕ) → lo ≤ mid → mid ≤ hi → Climbs lo mid l → Climbs mid hi r → Climbs lo hi (l ++ r)
+pub climbs-append : (lo mid hi : ℕ) (l r : List ℕ) → lo ≤ mid → mid ≤ hi → Climbs lo mid l → Climbs mid hi r → Climbs lo hi (l ++ r)
 climbs-append lo mid hi [] r h g c d = climbs-lower lo mid hi r h d
 climbs-append lo mid hi (x ∷ l) r h g c d = (c .0, omega (arith, c .1), climbs-append (x + 1) mid hi l r (omega (arith, c .1)) g (c .2) d)
 
@@ -53,7 +53,7 @@ climbs-list lo f (suc n) h up =
     (omega (arith, up n (omega arith)), omega arith, tt)
 
 -- those of a list that lie in part k climb in it
-only-climbs : (a k : ℕ) → 1 ≤ a → (lo hi from : ℕ) (s : List ℕ) → Climbs lo hi s → ((x : ℕ) → lo ≤ x → k * a ≤ x → from ≤ x)
+pub only-climbs : (a k : ℕ) → 1 ≤ a → (lo hi from : ℕ) (s : List ℕ) → Climbs lo hi s → ((x : ℕ) → lo ≤ x → k * a ≤ x → from ≤ x)
     → Climbs from ((k + 1) * a) (inPart a k s)
 only-climbs a k some lo hi from [] c h = tt
 only-climbs a k some lo hi from (x ∷ s) c h =
@@ -99,11 +99,11 @@ pub record Good (a b x : ℕ) : Type 0 where
   pub long : length clump ≡ b
   pub is : x ≡ keyOf a part clump
 
-every-list : (P : ℕ → Type 0) (n : ℕ) (f : ℕ → ℕ) → ((i : ℕ) → i < n → P (f i)) → Every P (listTo n f)
+pub every-list : {A : Type 0} (P : A → Type 0) (n : ℕ) (f : ℕ → A) → ((i : ℕ) → i < n → P (f i)) → Every P (listTo n f)
 every-list P zero f h = tt
 every-list P (suc n) f h = every-append P (listTo n f) (f n ∷ []) (every-list P n f (λ i g. h i (omega arith))) (h n (omega arith), tt)
 
-pub every-joined : (P : ℕ → Type 0) (n : ℕ) (f : ℕ → List ℕ) → ((i : ℕ) → i < n → Every P (f i)) → Every P (joined n f)
+pub every-joined : {A : Type 0} (P : A → Type 0) (n : ℕ) (f : ℕ → List A) → ((i : ℕ) → i < n → Every P (f i)) → Every P (joined n f)
 every-joined P zero f h = tt
 every-joined P (suc n) f h = every-append P (joined n f) (f n) (every-joined P n f (λ i g. h i (omega arith))) (h n (omega arith))
 

@@ -13,11 +13,11 @@ use Rattle.clumps.proofs.Chosen.{has-chosen}
 use Rattle.clumps.specs.Lists.{joined, which, has, holds, equal, precedes, insert, enter, entered}
 
 -- each member of a list
-abbrev pub Every : (ℕ → Type 0) → List ℕ → Type 0
+abbrev pub Every : {A : Type 0} → (A → Type 0) → List A → Type 0
 Every P [] = Unit
 Every P (x ∷ l) = P x × Every P l
 
-pub every-append : (P : ℕ → Type 0) (l r : List ℕ) → Every P l → Every P r → Every P (l ++ r)
+pub every-append : {A : Type 0} (P : A → Type 0) (l r : List A) → Every P l → Every P r → Every P (l ++ r)
 every-append P [] r a b = b
 every-append P (x ∷ l) r a b = (a .0, every-append P l r (a .1) b)
 

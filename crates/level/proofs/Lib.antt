@@ -1,3 +1,4 @@
 pub mod Ranked
 pub mod Cutting
 pub mod Next
+pub mod Rises

@@ -51,7 +51,7 @@ module _ (a b : ℕ) (somea : 1 ≤ a) (someb : 1 ≤ b) where
       by-key (no ne) false is = sym (eq-no x y ne)
       by-key (no ne) true is = absurd (ne (own x g ∙ ap (keyIn a) (members-tell .sound (clumpOf a x) (clumpOf a y) is) ∙ sym (own y h)))
 
-every-below : (lo hi : ℕ) (l : List ℕ) → Climbs lo hi l → Every (λ x. x < hi) l
+pub every-below : (lo hi : ℕ) (l : List ℕ) → Climbs lo hi l → Every (λ x. x < hi) l
 every-below lo hi [] c = tt
 every-below lo hi (x ∷ l) c = (c .1, every-below (x + 1) hi l (c .2))
 

@@ -31,7 +31,7 @@ use Rattle.cuts.specs.declared.Ends.{Ends}
 use Rattle.level.specs.Inner.{levelOf, keysOf, cutOf, placesOf, LevelAsked, LevelCut}
 use Rattle.level.proofs.Ranked.{every-has, goods, low, clumps-are, clumps-count, ranks-are, clump-long}
 
-quotient-low : (b k e : ℕ) → 1 ≤ b → b * k ≤ e → k ≤ e / b
+pub quotient-low : (b k e : ℕ) → 1 ≤ b → b * k ≤ e → k ≤ e / b
 quotient-low b k e some h = by-order (decLe k (e / b))
   where
     by-order : Dec (k ≤ e / b) → k ≤ e / b

@@ -10,12 +10,12 @@ use native.Mathlib.Omega.{arith}
 use lib.ListN.{length, getD, set, length-set}
 use lib.Seq.{slice, getD-set-same, getD-set-other, set-comm}
 use Rattle.clumps.specs.Clumps.{level, clumpsOf, overflowOf}
-use Rattle.rows.specs.Inner.{rowAt, Rising, Apart, RowsTo}
+use Rattle.rows.specs.Inner.{membersAt, rowAt, Rising, Apart, RowsTo}
 use Rattle.rows.proofs.Lists.{slice-same}
 use Rattle.rows.proofs.Rows.{place-above, place-below, row-inside, row-kept, rows-kept}
 use Rattle.rows.proofs.Laying.{rows-none, rows-more, rows-all}
 use Rattle.keys.specs.Inner.{keyIn}
-use Rattle.cuts.specs.Inner.{membersAt, CutAsked, RowsCut, CutTo, RowAsked, RowCut, Placed}
+use Rattle.cuts.specs.Inner.{CutAsked, RowsCut, CutTo, RowAsked, RowCut, Placed}
 use Rattle.cuts.specs.declared.Pair.{Pair}
 use Rattle.cuts.specs.declared.Ends.{Ends}
 use Rattle.cuts.proofs.Runs.{clumps-any, overflow-any}

@@ -7,14 +7,10 @@ use lib.ListN.{length, getD}
 use lib.Seq.{slice}
 use Rattle.digits.specs.Range.{listTo}
 use Rattle.clumps.specs.Clumps.{level, mostPart, taken, remainder, clumpsOf, overflowOf}
-use Rattle.rows.specs.Inner.{rowAt, Formed, Rising, Apart}
+use Rattle.rows.specs.Inner.{membersAt, rowAt, Formed, Rising, Apart}
 use Rattle.keys.specs.Inner.{Climbs, weightOf, keyIn, KeyAsked}
 use Rattle.cuts.specs.declared.Pair.{Pair}
 use Rattle.cuts.specs.declared.Ends.{Ends}
-
--- how many numbers the m rows at a cell have together
-abbrev pub membersAt : List ℕ → ℕ → ℕ → ℕ
-membersAt s at m = getD s (at + m) 0 - (at + m + 1)
 
 -- m rows of rising numbers, and room for as many rows of keys and of what overflows, away from them
 pub record CutAsked (s : List ℕ) (at m : ℕ) (l : Pair) (keys rest : ℕ) : Type 0 where

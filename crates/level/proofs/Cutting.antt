@@ -17,7 +17,7 @@ use Rattle.clumps.specs.Lists.{joined, which, has, holds, entered}
 use Rattle.clumps.specs.Clumps.{mostPart, clumpsIn, clumpsOf}
 use Rattle.clumps.proofs.Lists.{getD-map-in, joined-same}
 use Rattle.clumps.proofs.Ranked.{which-few, which-item}
-use Rattle.rows.specs.Inner.{rowAt, rowsAt, Formed}
+use Rattle.rows.specs.Inner.{membersAt, rowAt, rowsAt, Formed}
 use Rattle.rows.proofs.Lists.{slice-cell}
 use Rattle.rows.proofs.Rows.{place-above, row-inside, row-kept, rows-kept}
 use Rattle.rows.proofs.Members.{rows-joined, part-changed}
@@ -25,7 +25,7 @@ use Rattle.keys.specs.Inner.{keyIn, clumpOf, clumpIn, ClumpsAsked, ClumpsLaid}
 use Rattle.keys.proofs.Entering.{Every}
 use Rattle.keys.proofs.Climbing.{Good}
 use Rattle.ranks.specs.Inner.{different, rankIn, RankAsked, Ranked}
-use Rattle.cuts.specs.Inner.{RowsCut, membersAt}
+use Rattle.cuts.specs.Inner.{RowsCut}
 use Rattle.cuts.specs.declared.Pair.{Pair}
 use Rattle.cuts.specs.declared.Ends.{Ends}
 use Rattle.level.specs.Inner.{levelOf, keysOf, cutOf, placesOf, LevelAsked, LevelCut}

@@ -7,8 +7,8 @@ use Rattle.digits.specs.Range.{listTo}
 use Rattle.groups.specs.Groups.{groupCount}
 use Rattle.clumps.specs.Lists.{which, holds}
 use Rattle.clumps.specs.Clumps.{Level, level, clumpsIn, clumpsOf, overflowOf}
-use Rattle.rows.specs.Inner.{rowAt, rowsAt, Formed, Rising}
-use Rattle.cuts.specs.Inner.{CutAsked, membersAt}
+use Rattle.rows.specs.Inner.{membersAt, rowAt, rowsAt, Formed, Rising}
+use Rattle.cuts.specs.Inner.{CutAsked}
 use Rattle.cuts.specs.declared.Pair.{Pair}
 use Rattle.level.specs.declared.Clumped.{Clumped}
 

@@ -11,10 +11,9 @@ use Rattle.digits.proofs.Listed.{getD-list, length-list, list-same}
 use Rattle.clumps.specs.Lists.{having, holds}
 use Rattle.clumps.specs.Clumps.{clumpsIn, clumpsOf, overflowOf}
 use Rattle.clumps.specs.Levels.{outputCut, outputRest}
-use Rattle.rows.specs.Inner.{rowAt, rowsAt, Formed, Rising, TransposeAsked, Transposed}
+use Rattle.rows.specs.Inner.{membersAt, rowAt, rowsAt, Formed, Rising, TransposeAsked, Transposed}
 use Rattle.rows.proofs.Rows.{place-above, row-is, rows-kept, which-rises, having-rises}
 use Rattle.row_products.specs.declared.Problem.{Problem}
-use Rattle.cuts.specs.Inner.{membersAt}
 use Rattle.cuts.specs.declared.Pair.{Pair}
 use Rattle.level.specs.Inner.{levelOf, cutOf, placesOf, mostClumps, levelEnd, LevelAsked, LevelCut}
 use Rattle.level.specs.declared.Clumped.{Clumped}

@@ -5,9 +5,8 @@ use Prim.Native.Nat.{ℕ, _+_, _*_, _/_, _^_, _≤_, _<_}
 use lib.ListN.{length, getD}
 use Rattle.clumps.specs.Clumps.{mostPart, clumpsIn}
 use Rattle.clumps.specs.Levels.{outputCut, outputRest, nextOutputs}
-use Rattle.rows.specs.Inner.{rowAt, rowsAt, Formed, Rising}
+use Rattle.rows.specs.Inner.{membersAt, rowAt, rowsAt, Formed, Rising}
 use Rattle.row_products.specs.declared.Problem.{Problem}
-use Rattle.cuts.specs.Inner.{membersAt}
 use Rattle.cuts.specs.declared.Pair.{Pair}
 use Rattle.level.specs.Inner.{levelOf, levelEnd, mostClumps}
 use Rattle.opening.specs.declared.Opened.{Opened}

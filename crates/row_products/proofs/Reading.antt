@@ -10,10 +10,10 @@ use Rattle.chain.specs.Chain.{mostColumns, pick}
 use Rattle.chain.proofs.Picked.{pick-same}
 use Rattle.products.specs.Inner.{SoFar}
 use Rattle.products.specs.declared.Progress.{Progress}
-use Rattle.rows.specs.Inner.{rowAt}
+use Rattle.rows.specs.Inner.{membersAt, rowAt}
 use Rattle.rows.proofs.Lists.{slice-cell}
 use Rattle.rows.proofs.Rows.{place-above, place-below, row-inside, row-long, row-kept}
-use Rattle.row_products.specs.Inner.{valuesAt, listsFrom, PlacesAt, membersAt, RowAsked}
+use Rattle.row_products.specs.Inner.{valuesAt, listsFrom, PlacesAt, RowAsked}
 
 module _ (old : List ℕ) (at m n : ℕ) (rows : PlacesAt old at m n) where
   -- where row j begins

@@ -50,7 +50,7 @@ small-key a n y some few small h = by-order (decLe (y / 2 ^ a + 1) (groupCount a
         let far : groupCount a n * 2 ^ a ≤ y / 2 ^ a * 2 ^ a = mul-le-mul-right (2 ^ a) (omega arith) in
         absurd (omega (arith, far, div-add-mod' y (2 ^ a)))
 
-every-at : (P : ℕ → Type 0) (l : List ℕ) → Every P l → (i : ℕ) → i < length l → P (getD l i 0)
+pub every-at : (P : ℕ → Type 0) (l : List ℕ) → Every P l → (i : ℕ) → i < length l → P (getD l i 0)
 every-at P [] e i h = absurd (omega arith)
 every-at P (x ∷ l) e zero h = e .0
 every-at P (x ∷ l) e (suc i) h = every-at P l (e .1) i (omega arith)

@@ -29,7 +29,7 @@ use Rattle.cuts.specs.Inner.{RowsCut}
 use Rattle.cuts.specs.declared.Pair.{Pair}
 use Rattle.cuts.specs.declared.Ends.{Ends}
 use Rattle.level.specs.Inner.{levelOf, keysOf, cutOf, placesOf, LevelAsked, LevelCut}
-use Rattle.level.proofs.Ranked.{every-has, goods, low, clumps-are, clumps-count, ranks-are, clump-long}
+use Rattle.level.proofs.Ranked.{every-has, goods, low, clumps-are, clumps-count, clumps-listed, ranks-are, clump-long}
 
 pub quotient-low : (b k e : ℕ) → 1 ≤ b → b * k ≤ e → k ≤ e / b
 quotient-low b k e some h = by-order (decLe k (e / b))
@@ -120,9 +120,7 @@ module _ (at m n : ℕ) (l : Pair) (keys rest : ℕ) (s : List ℕ) (asked : Lev
   C j = clumpsOf (levelOf l) n (rowAt s at j)
 
   joined-is : D ≡ entered [] (joined m C)
-  joined-is =
-      ap (entered [])
-      (ap (λ (k : ℕ). joined k (λ i. getD (listTo m C) i [])) (length-list m C) ∙ joined-same m _ C (λ j h. getD-list m C [] j h))
+  joined-is = clumps-listed m C
 
   D-is : D ≡ map (clumpOf a) (different all T)
   D-is = joined-is ∙ clumps-are (levelOf l) somea someb n m (rowAt s at) (asked .rising)
@@ -246,6 +244,9 @@ module _ (at m n : ℕ) (l : Pair) (keys rest : ℕ) (s : List ℕ) (asked : Lev
       rest3 : Formed s3 rest m (ends .rest) × (rowsAt s3 rest m ≡ rowsAt s1 rest m)
       rest3 = rows-kept s1 rest m (ends .rest) (cut .rest-formed) s3 rest-both rest-room
 
+      clumps-last : getD s3 (clumps + k) 0 ≡ end
+      clumps-last = (rw (length-list k (λ j. clumpIn a s2 (first + j))) at (laid .laid .formed)) .last
+
       pub level-cut : LevelCut at m n l keys rest (record { clumps = clumps; k = k; end = end }) s s3
       level-cut =
           record {
@@ -260,6 +261,7 @@ module _ (at m n : ℕ) (l : Pair) (keys rest : ℕ) (s : List ℕ) (asked : Lev
             count = count ∙ sym D-long;
             clumps-formed = rw (length-list k (λ j. clumpIn a s2 (first + j))) at (laid .laid .formed);
             clumps-are = ap (rowsAt s3 clumps) (sym (length-list k (λ j. clumpIn a s2 (first + j)))) ∙ laid .laid .are ∙ rows-is;
+            members = omega (arith, clumps-last, laid .end, sizes, times-few, cut .whole, rest3 .0 .last);
             few = omega (arith, few-clumps, few, few-keys);
             low = omega (arith, laid .end, sizes, end-is, count, few-clumps, few-keys, few, times-few, cut .whole, rest-rise);
           }

@@ -9,9 +9,11 @@ use native.Mathlib.Omega.{arith}
 use lib.ListN.{length, getD, length-map}
 use Rattle.chain.specs.Tests.{_<?_, _=?_, _or_}
 use Rattle.chain.proofs.Rules.{eq-yes, eq-no, is-eq}
+use Rattle.digits.specs.Range.{listTo}
+use Rattle.digits.proofs.Listed.{getD-list, length-list}
 use Rattle.groups.specs.Groups.{groupCount}
 use Rattle.clumps.specs.Lists.{joined, which, has, equal, holds, precedes, entered}
-use Rattle.clumps.specs.Clumps.{Level, clumpsOf}
+use Rattle.clumps.specs.Clumps.{Level, clumpsIn, clumpsOf}
 use Rattle.clumps.proofs.Lists.{false-or, getD-map-in, has-joined, joined-same, map-joined, which-same}
 use Rattle.clumps.proofs.Often.{members-tell}
 use Rattle.clumps.proofs.Ranked.{which-item}
@@ -62,6 +64,11 @@ every-has P x (y ∷ l) e h = by-first (every-has P x l (e .1)) (x =? y) refl h
     by-first : (has x l ≡ true → P x) → (t : Bool) → (x =? y) ≡ t → (t or has x l) ≡ true → P x
     by-first rest true is g = subst P (sym (is-eq x y is)) (e .0)
     by-first rest false is g = rest (sym (false-or (has x l)) ∙ g)
+
+-- the clumps of some lists, list by list
+pub clumps-listed : (m : ℕ) (C : ℕ → List (List ℕ)) → clumpsIn (listTo m C) ≡ entered [] (joined m C)
+clumps-listed m C =
+    ap (entered []) (ap (λ (k : ℕ). joined k (λ i. getD (listTo m C) i [])) (length-list m C) ∙ joined-same m _ C (λ j h. getD-list m C [] j h))
 
 -- the rank of what stands at a place is the place
 rank-of : (l : List ℕ) (n x : ℕ) → x < length (different l n) → rankIn l (getD (different l n) x 0) ≡ x

@@ -55,5 +55,6 @@ pub record LevelCut (at m n : ℕ) (l : Pair) (keys rest : ℕ) (r : Clumped) (o
   pub count : r .k ≡ length (clumpsIn (cutOf l n old at m))
   pub clumps-formed : Formed new (r .clumps) (r .k) (r .end)
   pub clumps-are : rowsAt new (r .clumps) (r .k) ≡ clumpsIn (cutOf l n old at m)
+  pub members : membersAt new (r .clumps) (r .k) + membersAt new rest m ≤ membersAt old at m
   pub few : r .k ≤ mostClumps l n (membersAt old at m)
   pub low : r .end ≤ levelEnd l n m (membersAt old at m) rest

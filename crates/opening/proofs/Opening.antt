@@ -12,7 +12,7 @@ use Rattle.clumps.specs.Lists.{having, holds}
 use Rattle.clumps.specs.Clumps.{clumpsIn, clumpsOf, overflowOf}
 use Rattle.clumps.specs.Levels.{outputCut, outputRest}
 use Rattle.rows.specs.Inner.{membersAt, rowAt, rowsAt, Formed, Rising, TransposeAsked, Transposed}
-use Rattle.rows.proofs.Rows.{place-above, row-is, rows-kept, which-rises, having-rises}
+use Rattle.rows.proofs.Rows.{place-above, rising-more, row-is, rows-kept, which-rises, having-rises}
 use Rattle.row_products.specs.declared.Problem.{Problem}
 use Rattle.cuts.specs.declared.Pair.{Pair}
 use Rattle.level.specs.Inner.{levelOf, cutOf, placesOf, mostClumps, levelEnd, LevelAsked, LevelCut}
@@ -20,9 +20,6 @@ use Rattle.level.specs.declared.Clumped.{Clumped}
 use Rattle.level.proofs.Next.{next-outputs}
 use Rattle.level.proofs.Cutting.{quotient-low}
 use Rattle.opening.specs.Inner.{restFrom, OpenAsked, OutputsOpened}
-
-rising-more : (n k : ℕ) (l : List ℕ) → n ≤ k → Rising n l → Rising k l
-rising-more n k l h r = record { rises = r .rises; below = λ i g. omega (arith, r .below i g) }
 
 module _ (s : List ℕ) (t : Problem) (l : Pair) (to : ℕ) (asked : OpenAsked s t l to) where
   abbrev n : ℕ

@@ -14,7 +14,14 @@ pub struct NextInputs {
 }
 
 // The next level's inputs and its outputs over them, behind the room for the outputs' values.
-pub fn make_inputs(p: usize, t: Problem, l: Pair, to: usize, done: Progress, s: &mut [u32]) -> NextInputs
+pub fn make_inputs(
+    p: usize,
+    t: Problem,
+    l: Pair,
+    to: usize,
+    done: Progress,
+    s: &mut [u32],
+) -> NextInputs
     requires { ⌜ MakeAsked p (now s) t l to done ⌝ }
     ensures { λ r. ⌜ InputsMade p t l to done r (now (s .entry)) (now (s .exit)) ⌝ }
 {

@@ -2,22 +2,28 @@
 -- Each call leaves alone what the later ones read.
 use mathlib.Core.Path.{_≡_, refl, sym, ap, ap₂, subst, _∙_}
 use mathlib.Core.Logic.{inl}
-use mathlib.Core.List.{List, [], _++_, map}
+use mathlib.Core.List.{List, [], _∷_, _++_, map}
 use Prim.Native.Nat.{ℕ, _+_, _-_, _*_, _/_, _^_, _≤_, _<_}
 use native.Mathlib.Nat.{mul-le-mul-right, one-mul}
 use native.Mathlib.Omega.{arith}
 use lib.ListN.{length, getD, length-map}
-use lib.Seq.{slice}
+use lib.Seq.{slice, length-slice, ext-getD}
 use Rattle.chain.specs.Chain.{pairs, pick}
 use Rattle.digits.specs.Range.{listTo}
+use Rattle.digits.proofs.Range.{sum-same}
 use Rattle.digits.proofs.Listed.{getD-list, length-list, list-same}
 use Rattle.products.specs.Inner.{stepsIn}
+use Rattle.products.proofs.Emitted.{length-in}
 use Rattle.products.specs.declared.Progress.{Progress}
-use Rattle.clumps.specs.Clumps.{clumpsIn, clumpsOf, overflowOf}
+use Rattle.clumps.specs.Clumps.{Level, clumpsIn, clumpsOf, overflowOf}
 use Rattle.clumps.specs.Levels.{inputCut, nextInputs, separately}
-use Rattle.clumps.proofs.Bound.{payslips-length}
+use Rattle.clumps.specs.Lists.{joined}
+use Rattle.clumps.proofs.Totals.{length-total, total-joined, total-list}
+use Rattle.clumps.proofs.Sizes.{sizeOf}
+use Rattle.clumps.proofs.Bound.{payslips-length, separate-low}
 use Rattle.rows.specs.Inner.{membersAt, rowAt, rowsAt, Formed, Rising}
 use Rattle.rows.proofs.Lists.{slice-same, slice-split}
+use Rattle.rows.proofs.Members.{rows-joined}
 use Rattle.rows.proofs.Rows.{place-above, rising-more, row-is, row-kept, rows-kept}
 use Rattle.row_products.specs.Inner.{listsFrom, Done, FrontRoom, SeparatelyAsked}
 use Rattle.row_products.specs.declared.Problem.{Problem}
@@ -32,6 +38,28 @@ use Rattle.raising.specs.Inner.{raisedRow, RaiseAsked, Raised}
 use Rattle.closing.proofs.Places.{places-at, steps-kept, so-far-kept}
 use Rattle.making.specs.Inner.{overFrom, clumpsMade, MakeAsked, InputsMade}
 use Rattle.making.specs.declared.NextInputs.{NextInputs}
+
+-- all numbers of rows
+size-of-rows : (s : List ℕ) (at m : ℕ) → Formed s at m (getD s (at + m) 0) → sizeOf (rowsAt s at m) ≡ membersAt s at m
+size-of-rows s at m formed =
+    total-list length m (rowAt s at)
+    ∙ sym (length-total (joined m (rowAt s at)) ∙ total-joined (λ x. 1) m (rowAt s at) ∙ sum-same m _ _ (λ j h. sym (length-total (rowAt s at j))))
+    ∙ sym (ap length (rows-joined s at m (getD s (at + m) 0) formed))
+    ∙ length-slice (at + m + 1) (getD s (at + m) 0) s (formed .inside)
+
+-- a list is its items
+all-items : (lists : List (List ℕ)) (m : ℕ) → length lists ≡ m → listTo m (λ j. getD lists j []) ≡ lists
+all-items lists m long = ext-getD [] _ lists (length-list m _ ∙ sym long) (λ j h. getD-list m _ [] j (omega (arith, length-list m (λ j. getD lists j []))))
+
+next-inputs-long : (l : Level) (n : ℕ) (outs : List (List ℕ)) → length (nextInputs l n outs) ≡ length outs
+unfolding nextInputs
+next-inputs-long l n outs = length-list (length outs) _
+
+-- an output over the next inputs
+next-at : (l : Level) (n : ℕ) (outs : List (List ℕ)) (j : ℕ) → j < length outs
+    → getD (nextInputs l n outs) j [] ≡ placesOf (inputCut l n outs) j ++ map (λ i. length (clumpsIn (inputCut l n outs)) + i) (overflowOf l n (getD outs j []))
+unfolding nextInputs
+next-at l n outs j h = getD-list (length outs) _ [] j h
 
 module _ (p : ℕ) (s : List ℕ) (t : Problem) (l : Pair) (to : ℕ) (done : Progress) (asked : MakeAsked p s t l to done) where
   abbrev n : ℕ
@@ -249,20 +277,100 @@ module _ (p : ℕ) (s : List ℕ) (t : Problem) (l : Pair) (to : ℕ) (done : Pr
           size4 : length s4 ≡ length s3
           size4 = raised .laid .apart .size
 
-          front4 : (x : ℕ) → x < 2 * progress .steps → getD s4 x 0 ≡ getD s2 x 0
-          front4 x h = same4 x (omega (arith, rows-are, low)) ∙ copied .apart .before x (omega (arith, low))
+          few-steps : progress .steps ≤ done .steps + E
+          few-steps =
+              let made-steps = separate-low p (slice (t .ins) (t .ins + n) s) D (stepsIn s (done .steps)) in
+              omega (arith, chain .count, made-steps, size-of-rows s1 (c .clumps) k clumps-own, ap sizeOf clumps1, cut .members, length-in s (done .steps) (asked .front .so-far .fits))
             where
-              low : 2 * progress .steps ≤ values
-              low = ?
+              clumps-own : Formed s1 (c .clumps) k (getD s1 (c .clumps + k) 0)
+              clumps-own =
+                  record {
+                    first = cut .clumps-formed .first;
+                    rises = cut .clumps-formed .rises;
+                    last = refl;
+                    inside = omega (arith, cut .clumps-formed .last, cut .clumps-formed .inside);
+                  }
+
+          steps-low : 2 * progress .steps ≤ values
+          steps-low = omega (arith, few-steps, asked .front .enough, asked .values-behind, inside2)
 
           steps4 : stepsIn s4 (progress .steps) ≡ stepsIn s2 (progress .steps)
-          steps4 = ap pairs (slice-same 0 (2 * progress .steps) s4 s2 ? ? (λ x h g. front4 x g))
+          steps4 =
+              ap pairs
+              (slice-same 0 (2 * progress .steps) s4 s2 (omega (arith, steps-low, cut .low, asked .room, size4, size3)) (omega (arith, steps-low, cut .low, asked .room, size2))
+              (λ x h g. same4 x (omega (arith, rows-are, steps-low)) ∙ copied .apart .before x (omega (arith, steps-low))))
+
+          ins2 : slice (t .ins) (t .ins + n) s2 ≡ slice (t .ins) (t .ins + n) s
+          ins2 =
+              slice-same (t .ins) (t .ins + n) s2 s1 (omega (arith, inside2, cut .low, asked .room, size2)) (omega (arith, inside2, cut .low, asked .room, cut .size))
+              (λ x h g. chain .kept x (omega (arith, asked .values-behind)) (omega (arith, inside2)))
+              ∙ ins1
+
+          long4 : values + k + n ≤ length s4
+          long4 = omega (arith, cut .low, cut .few, asked .room, size4, size3)
 
           values4 : slice values (values + (k + n)) s4 ≡ clumpsMade p s t l done .outputs ++ slice (t .ins) (t .ins + n) s
-          values4 = ?
+          values4 =
+              slice-split values (values + k) (values + (k + n)) s4 (omega arith) (omega arith) (omega (arith, long4))
+              ∙ ap₂ _++_ made4 copied4
+            where
+              made4 : slice values (values + k) s4 ≡ clumpsMade p s t l done .outputs
+              made4 =
+                  slice-same values (values + k) s4 s2 (omega (arith, long4)) (omega (arith, long4, size4, copied .apart .size))
+                  (λ x h g. same4 x (omega (arith, rows-are)) ∙ copied .apart .before x g)
+                  ∙ ap (λ (x : ℕ). slice values (values + x) s2) (sym outputs-long)
+                  ∙ chain .outputs
+
+              copied4 : slice (values + k) (values + (k + n)) s4 ≡ slice (t .ins) (t .ins + n) s
+              copied4 =
+                  let q : values + (k + n) ≡ rows = omega (arith, rows-are) in
+                  ap (λ (x : ℕ). slice (values + k) x s4) q
+                  ∙ slice-same (values + k) rows s4 s3 (omega (arith, long4, rows-are)) (omega (arith, long4, rows-are, size4)) (λ x h g. same4 x g)
+                  ∙ copied .are
+                  ∙ ins2
 
           row4 : (j : ℕ) → j < m → raisedRow s3 keys rest k j ≡ getD (nextInputs (levelOf l) n outs) j []
-          row4 j h = ?
+          row4 j h = ap₂ _++_ places-is over-is ∙ sym next-is
+            where
+              row-at : (a : ℕ) → rowsAt s3 a m ≡ rowsAt s1 a m → rowAt s3 a j ≡ rowAt s1 a j
+              row-at a same = sym (getD-list m (rowAt s3 a) [] j h) ∙ ap (λ (r : List (List ℕ)). getD r j []) same ∙ getD-list m (rowAt s1 a) [] j h
+
+              places-is : rowAt s3 keys j ≡ placesOf (inputCut (levelOf l) n outs) j
+              places-is = row-at keys (keys3 .1) ∙ cut .places j h ∙ ap (λ (x : List (List (List ℕ))). placesOf x j) cut-is
+
+              over-is : map (λ i. k + i) (rowAt s3 rest j) ≡ map (λ i. length D + i) (overflowOf (levelOf l) n (getD outs j []))
+              over-is =
+                  ap₂ (λ (x : ℕ) (r : List ℕ). map (λ i. x + i) r) count
+                  (row-at rest (rest3 .1) ∙ cut .overflow j h ∙ ap (overflowOf (levelOf l) n) (sym (getD-list m (rowAt s (t .outs)) [] j h)))
+
+              next-is : getD (nextInputs (levelOf l) n outs) j []
+                  ≡ placesOf (inputCut (levelOf l) n outs) j ++ map (λ i. length D + i) (overflowOf (levelOf l) n (getD outs j []))
+              next-is = next-at (levelOf l) n outs j (omega (arith, outs-long))
 
           pub inputs-made : InputsMade p t l to done (record { values = values; k = k; rows = rows; end = end; progress = progress }) s s4
-          inputs-made = ?
+          inputs-made =
+              record {
+                size = size4 ∙ size3;
+                steps = steps4 ∙ chain .steps;
+                count = chain .count;
+                squarings = chain .squarings;
+                kept = λ x h g. same4 x (omega (arith, rows-are, rest-above, cut .rest-before, clumps-above)) ∙ same3 x h (omega (arith, rest-above, cut .rest-before, clumps-above)) ∙ cut .kept x g;
+                values-at = omega (arith, rest-above, cut .rest-before, clumps-above);
+                rows-at = omega (arith, rows-are);
+                values-are = values4;
+                rows-formed = formed4;
+                rows-are = rows4;
+                few = cut .few;
+                members = omega (arith, formed4 .last, raised .end, keys3 .0 .last, rest3 .0 .last, both-few);
+                low = omega (arith, raised .end, keys3 .0 .last, rest3 .0 .last, both-few, rows-are, cut .low);
+              }
+            where
+              formed4 : Formed s4 rows m end
+              formed4 = rw (length-list m (raisedRow s3 keys rest k)) at (raised .laid .formed)
+
+              rows4 : rowsAt s4 rows m ≡ nextInputs (levelOf l) n outs
+              rows4 =
+                  ap (rowsAt s4 rows) (sym (length-list m (raisedRow s3 keys rest k)))
+                  ∙ raised .laid .are
+                  ∙ list-same m _ _ row4
+                  ∙ all-items (nextInputs (levelOf l) n outs) m (next-inputs-long (levelOf l) n outs ∙ outs-long)

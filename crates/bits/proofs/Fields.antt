@@ -12,7 +12,7 @@ use lib.Pow.{pow_mono}
 use Rattle.bits.specs.Bits.{bits, fields, value, bytes_bits, field_at, fields_at}
 use Rattle.bits.specs.Inner.{window}
 use Rattle.bits.proofs.Parts.{drop-take, take_none, take_both}
-use Rattle.bits.proofs.Values.{length-bits, value-bits-lt, value-lt, bits-value, value-append, value_slice}
+use Rattle.bits.proofs.Values.{length-bits, value_bits_lt, value_lt, bits_value, value-append, value_slice}
 
 module _ (w : ℕ) where
   pub length_fields : (l : List ℕ) → length (fields w l) ≡ length l * w
@@ -96,19 +96,19 @@ take-window (suc n) l i k hn hl = by_place (λ h. take-window n l (suc i) (k - 8
         ∙ ap (take k) (sym (bytes_bits-cons (get_or l i 0) (window n l (suc i))))
 
 -- a field, out of a window that covers it: it stands o bits behind the window's begin
-pub field-window : (n : ℕ) (l : List ℕ) (i o at w : ℕ) → at ≡ i * 8 + o → o + w ≤ n * 8 → at + w ≤ 8 * length l
+pub field_window : (n : ℕ) (l : List ℕ) (i o at w : ℕ) → at ≡ i * 8 + o → o + w ≤ n * 8 → at + w ≤ 8 * length l
     → field_at l at w ≡ value (bytes_bits (window n l i)) / 2 ^ (n * 8 - (o + w)) % 2 ^ w
-field-window n l i o at w place hn hl =
+field_window n l i o at w place hn hl =
     let x : List Bool = bytes_bits (window n l i) in
     ap (λ (m : ℕ). value (take w (drop m (bytes_bits l)))) place
     ∙ ap (λ (t : List Bool). value (take w t)) (sym (drop-drop o (i * 8) (bytes_bits l)) ∙ ap (drop o) (drop-bytes_bits i l))
     ∙ ap value (drop-take o w (bytes_bits (drop i l)) ∙ ap (drop o) (take-window n l i (o + w) hn (omega arith)) ∙ sym (drop-take o w x))
     ∙ value_slice x o w (n * 8) (length-bytes_bits (window n l i) ∙ ap (λ (m : ℕ). m * 8) (length-window n l i)) hn
 
-pub value-bytes : (b : ℕ) (l : List ℕ) → b < 256 → value (bytes_bits (b ∷ l)) ≡ b * 2 ^ (length l * 8) + value (bytes_bits l)
-value-bytes b l h =
+pub value_bytes : (b : ℕ) (l : List ℕ) → b < 256 → value (bytes_bits (b ∷ l)) ≡ b * 2 ^ (length l * 8) + value (bytes_bits l)
+value_bytes b l h =
     ap value (bytes_bits-cons b l) ∙ value-append (bits 8 b) (bytes_bits l)
-    ∙ ap₂ (λ (v n : ℕ). v * 2 ^ n + value (bytes_bits l)) (value-bits-lt 8 b h) (length-bytes_bits l)
+    ∙ ap₂ (λ (v n : ℕ). v * 2 ^ n + value (bytes_bits l)) (value_bits_lt 8 b h) (length-bytes_bits l)
 
 -- the next fields of a file
 pub length_fields_at : (f : List ℕ) (at w n : ℕ) → length (fields_at f at w n) ≡ n
@@ -119,21 +119,21 @@ length_fields_at f at w (suc n) = ap suc (length_fields_at f (at + w) w n)
 -- a field is below its power of two
 pub field_lt : (f : List ℕ) (at w : ℕ) → field_at f at w < 2 ^ w
 field_lt f at w =
-    lt_of_lt_of_le (value-lt (take w (drop at (bytes_bits f)))) (pow_mono {j = w} (omega (arith, length-take w (drop at (bytes_bits f)))))
+    lt_of_lt_of_le (value_lt (take w (drop at (bytes_bits f)))) (pow_mono {j = w} (omega (arith, length-take w (drop at (bytes_bits f)))))
 
 -- the bits of a file are those of its fields
 module _ (f : List ℕ) (w : ℕ) where
-  pub bits-field : (at : ℕ) → at + w ≤ 8 * length f → bits w (field_at f at w) ≡ take w (drop at (bytes_bits f))
-  bits-field at h =
-      bits-value (take w (drop at (bytes_bits f))) w
+  pub bits_field : (at : ℕ) → at + w ≤ 8 * length f → bits w (field_at f at w) ≡ take w (drop at (bytes_bits f))
+  bits_field at h =
+      bits_value (take w (drop at (bytes_bits f))) w
       (length-take-le w (drop at (bytes_bits f)) (omega (arith, length-drop at (bytes_bits f), length-bytes_bits f)))
 
-  pub fields-fields : (at n : ℕ) → at + n * w ≤ 8 * length f → fields w (fields_at f at w n) ≡ take (n * w) (drop at (bytes_bits f))
+  pub fields_fields : (at n : ℕ) → at + n * w ≤ 8 * length f → fields w (fields_at f at w n) ≡ take (n * w) (drop at (bytes_bits f))
   unfolding fields fields_at
-  fields-fields at zero h = sym (ap (λ (k : ℕ). take k (drop at (bytes_bits f))) (zero-mul w))
-  fields-fields at (suc n) h =
+  fields_fields at zero h = sym (ap (λ (k : ℕ). take k (drop at (bytes_bits f))) (zero-mul w))
+  fields_fields at (suc n) h =
       let e : w + n * w ≡ suc n * w = omega (arith, suc-mul n w) in
-      ap₂ (λ (x y : List Bool). x ++ y) (bits-field at (omega arith)) (fields-fields (at + w) n (omega arith))
+      ap₂ (λ (x y : List Bool). x ++ y) (bits_field at (omega arith)) (fields_fields (at + w) n (omega arith))
       ∙ ap (λ (x : List Bool). take w (drop at (bytes_bits f)) ++ take (n * w) x) (sym (drop-drop w at (bytes_bits f)))
       ∙ sym (take-add w (n * w) (drop at (bytes_bits f)))
       ∙ ap (λ (k : ℕ). take k (drop at (bytes_bits f))) e

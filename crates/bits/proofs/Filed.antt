@@ -7,52 +7,52 @@ use native.Mathlib.Omega.{arith}
 use lib.ListN.{length, take, drop, get_or, replicate, length-append, length-drop, length-replicate, take-append-drop}
 use lib.Seq.{length-take-le, take_all, take-append_seam, take-take, take_at, drop_at}
 use Rattle.chain.specs.Written.{over}
-use Rattle.chain.proofs.Written.{over-over}
+use Rattle.chain.proofs.Written.{over_over}
 use Rattle.bits.specs.Bits.{bits, fields, value, bytes_bits, front, pack, bytes_for, field_at, fields_at}
 use Rattle.bits.specs.Inner.{filed, FieldStored}
 use Rattle.bits.proofs.Parts.{drop-take}
-use Rattle.bits.proofs.Values.{length-bits, value-bits-lt, value-zeros, zeros}
+use Rattle.bits.proofs.Values.{length-bits, value_bits_lt, value_zeros, zeros}
 use Rattle.bits.proofs.Fields.{length-bytes_bits, bytes_bits-append}
-use Rattle.bits.proofs.Pack.{Bytes, front_pad, length-pack, bytes_bits-pack, pack-bytes_bits, pack-front}
+use Rattle.bits.proofs.Pack.{Bytes, front_pad, length-pack, bytes_bits_pack, pack_bytes_bits, pack_front}
 
 -- the bits come back, then their filling, then what follows
-filed-rest : (b : List Bool) (old : List ℕ) (k : ℕ) → k ≡ bytes_for (length b)
+filed_rest : (b : List Bool) (old : List ℕ) (k : ℕ) → k ≡ bytes_for (length b)
     → bytes_bits (filed b old) ≡ b ++ (replicate (k * 8 - length b) false ++ bytes_bits (drop k old))
 unfolding over
-filed-rest b old k ek =
+filed_rest b old k ek =
     let e : length b + (k * 8 - length b) ≡ k * 8 = omega arith in
     ap (λ (n : ℕ). bytes_bits (pack n b ++ drop (length (pack n b)) old)) (sym ek)
     ∙ ap (λ (n : ℕ). bytes_bits (pack k b ++ drop n old)) (length-pack k b)
     ∙ bytes_bits-append (pack k b) (drop k old)
-    ∙ ap (λ (r : List Bool). r ++ bytes_bits (drop k old)) (bytes_bits-pack k b ∙ ap (λ (m : ℕ). front m b) (sym e) ∙ front_pad b (k * 8 - length b))
+    ∙ ap (λ (r : List Bool). r ++ bytes_bits (drop k old)) (bytes_bits_pack k b ∙ ap (λ (m : ℕ). front m b) (sym e) ∙ front_pad b (k * 8 - length b))
     ∙ append_assoc b (replicate (k * 8 - length b) false) (bytes_bits (drop k old))
 
-pub filed-bits : (b : List Bool) (old : List ℕ) → take (length b) (bytes_bits (filed b old)) ≡ b
-filed-bits b old = ap (take (length b)) (filed-rest b old (bytes_for (length b)) refl) ∙ take-append_seam b _
+pub filed_bits : (b : List Bool) (old : List ℕ) → take (length b) (bytes_bits (filed b old)) ≡ b
+filed_bits b old = ap (take (length b)) (filed_rest b old (bytes_for (length b)) refl) ∙ take-append_seam b _
 
 -- of two that are written, the later and longer one stays
-pub filed-filed : (b c : List Bool) (old : List ℕ) → length b ≤ length c → filed c (filed b old) ≡ filed c old
-filed-filed b c old h =
-    over-over _ _ old (omega (arith, length-pack (bytes_for (length b)) b, length-pack (bytes_for (length c)) c))
+pub filed_filed : (b c : List Bool) (old : List ℕ) → length b ≤ length c → filed c (filed b old) ≡ filed c old
+filed_filed b c old h =
+    over_over _ _ old (omega (arith, length-pack (bytes_for (length b)) b, length-pack (bytes_for (length c)) c))
 
 -- bits more, after those that the buffer has so far
-pub filed-more : (b more : List Bool) (old : List ℕ) (at : ℕ) → length b ≡ at
+pub filed_more : (b more : List Bool) (old : List ℕ) (at : ℕ) → length b ≡ at
     → filed (take at (bytes_bits (filed b old)) ++ more) (filed b old) ≡ filed (b ++ more) old
-filed-more b more old at lb =
-    ap (λ (r : List Bool). filed (r ++ more) (filed b old)) (ap (λ (k : ℕ). take k (bytes_bits (filed b old))) (sym lb) ∙ filed-bits b old)
-    ∙ filed-filed b (b ++ more) old (omega (arith, length-append b more))
+filed_more b more old at lb =
+    ap (λ (r : List Bool). filed (r ++ more) (filed b old)) (ap (λ (k : ℕ). take k (bytes_bits (filed b old))) (sym lb) ∙ filed_bits b old)
+    ∙ filed_filed b (b ++ more) old (omega (arith, length-append b more))
 
 pub put_next : (b more : List Bool) (old now new : List ℕ) (at w next : ℕ) → length b ≡ at → now ≡ filed b old → FieldStored now at w more new next
     → new ≡ filed (b ++ more) old
 put_next b more old now new at w next lb em s =
-    s.is ∙ ap (λ (r : List ℕ). filed (take at (bytes_bits r) ++ more) r) em ∙ filed-more b more old at lb
+    s.is ∙ ap (λ (r : List ℕ). filed (take at (bytes_bits r) ++ more) r) em ∙ filed_more b more old at lb
 
 -- a field of what was written is one of its bits
-pub field-filed : (b : List Bool) (old : List ℕ) (at w : ℕ) → at + w ≤ length b → field_at (filed b old) at w ≡ value (take w (drop at b))
-field-filed b old at w h =
+pub field_filed : (b : List Bool) (old : List ℕ) (at w : ℕ) → at + w ≤ length b → field_at (filed b old) at w ≡ value (take w (drop at b))
+field_filed b old at w h =
     ap value
     (drop-take at w (bytes_bits (filed b old))
-    ∙ ap (drop at) (sym (take-take (at + w) (length b) (bytes_bits (filed b old)) h) ∙ ap (take (at + w)) (filed-bits b old))
+    ∙ ap (drop at) (sym (take-take (at + w) (length b) (bytes_bits (filed b old)) h) ∙ ap (take (at + w)) (filed_bits b old))
     ∙ sym (drop-take at w b))
 
 -- what was written as a field after the bits a is read there
@@ -60,10 +60,10 @@ pub field_back : (w x : ℕ) (a c : List Bool) (old : List ℕ) → x < 2 ^ w �
 field_back w x a c old h =
     let b : List Bool = a ++ (bits w x ++ c) in
     let long : length a + w ≤ length b = omega (arith, length-append a (bits w x ++ c), length-append (bits w x) c, length-bits w x) in
-    field-filed b old (length a) w long
+    field_filed b old (length a) w long
     ∙ ap (λ (t : List Bool). value (take w t)) (drop_at a (bits w x ++ c) (length a) refl)
     ∙ ap value (take_at (bits w x) c w (length-bits w x))
-    ∙ value-bits-lt w x h
+    ∙ value_bits_lt w x h
 
 -- and so is a list of fields
 pub fields_back : (xs : List ℕ) (w : ℕ) (a c : List Bool) (old : List ℕ) → ((k : ℕ) → get_or xs k 0 < 2 ^ w)
@@ -85,9 +85,9 @@ filling_zero b old n k en ek =
     let m : ℕ = bytes_for (length b) * 8 - length b in
     let e : k ≡ m = omega arith in
     ap₂ (λ (i j : ℕ). value (take j (drop i (bytes_bits (filed b old))))) (sym en) e
-    ∙ ap (λ (r : List Bool). value (take m (drop (length b) r))) (filed-rest b old (bytes_for (length b)) refl)
+    ∙ ap (λ (r : List Bool). value (take m (drop (length b) r))) (filed_rest b old (bytes_for (length b)) refl)
     ∙ ap (λ (r : List Bool). value (take m r)) (drop_at b _ (length b) refl)
-    ∙ ap value (take_at (replicate m false) _ m (length-replicate m false)) ∙ value-zeros m
+    ∙ ap value (take_at (replicate m false) _ m (length-replicate m false)) ∙ value_zeros m
 
 -- if the filling bits of a file are zero, the file is the bits before them, filled up
 pub filled : (file : List ℕ) (n k : ℕ) → Bytes file → length file ≡ bytes_for n → k ≡ 8 * length file - n
@@ -100,7 +100,7 @@ filled file n k ok e ek z =
     let all : take k (drop n x) ≡ drop n x = take_all k (drop n x) (omega arith) in
     let zs : drop n x ≡ replicate k false = sym all ∙ zeros (take k (drop n x)) z ∙ ap (λ (m : ℕ). replicate m false) (ap length all ∙ ld) in
     let s : length (take n x) + k ≡ length file * 8 = omega arith in
-    sym (pack-bytes_bits file ok)
+    sym (pack_bytes_bits file ok)
     ∙ ap (pack (length file))
     (sym (take-append-drop n x) ∙ ap (λ (r : List Bool). take n x ++ r) zs ∙ sym (front_pad (take n x) k) ∙ ap (λ (m : ℕ). front m (take n x)) s)
-    ∙ pack-front (length file) (take n x)
+    ∙ pack_front (length file) (take n x)

@@ -16,9 +16,9 @@ module _ (file old long : List ℕ) (is : long ≡ over file old) where
   pub long-length : length file ≤ length old → length long ≡ length old
   long-length fits = ap length is ∙ over-length file old fits
 
-  field-long : (at w : ℕ) → at + w ≤ 8 * length file → field_at long at w ≡ field_at file at w
+  field_long : (at w : ℕ) → at + w ≤ 8 * length file → field_at long at w ≡ field_at file at w
   unfolding over
-  field-long at w within =
+  field_long at w within =
       let rest : List ℕ = drop (length file) old in
       ap (λ (l : List ℕ). field_at l at w) is
       ∙ ap value
@@ -28,9 +28,9 @@ module _ (file old long : List ℕ) (is : long ≡ over file old) where
       ∙ take-append-le (at + w) (bytes_bits file) (bytes_bits rest) (omega (arith, within, length-bytes_bits file)))
       ∙ sym (drop-take at w (bytes_bits file)))
 
-  pub fields-long : (at w n : ℕ) → at + n * w ≤ 8 * length file → fields_at long at w n ≡ fields_at file at w n
+  pub fields_long : (at w n : ℕ) → at + n * w ≤ 8 * length file → fields_at long at w n ≡ fields_at file at w n
   unfolding fields_at
-  fields-long at w zero within = refl
-  fields-long at w (suc n) within =
-      ap₂ (λ (x : ℕ) (r : List ℕ). x ∷ r) (field-long at w (omega (arith, within, suc-mul n w)))
-      (fields-long (at + w) w n (omega (arith, within, suc-mul n w)))
+  fields_long at w zero within = refl
+  fields_long at w (suc n) within =
+      ap₂ (λ (x : ℕ) (r : List ℕ). x ∷ r) (field_long at w (omega (arith, within, suc-mul n w)))
+      (fields_long (at + w) w n (omega (arith, within, suc-mul n w)))

@@ -9,8 +9,8 @@ use lib.Dec.{lit<}
 use lib.Pow.{pow_pos, shl_exact, shr_shr}
 use Rattle.bits.specs.Bits.{value, bytes_bits, field_at}
 use Rattle.bits.specs.Inner.{widest_field, window, ByteAt, WordAt, FieldRoom, FieldTaken, TwoRoom, TwoTaken}
-use Rattle.bits.proofs.Values.{value-lt, value-append}
-use Rattle.bits.proofs.Fields.{length-bytes_bits, bytes_bits-append, length-window, field-window, value-bytes, field_lt}
+use Rattle.bits.proofs.Values.{value_lt, value-append}
+use Rattle.bits.proofs.Fields.{length-bytes_bits, bytes_bits-append, length-window, field_window, value_bytes, field_lt}
 
 no_bytes : value (bytes_bits []) ≡ 0
 unfolding value bytes_bits
@@ -18,13 +18,13 @@ no_bytes = refl
 
 four : (a b c d : ℕ) → a < 256 → b < 256 → c < 256 → d < 256 → value (bytes_bits (a ∷ b ∷ c ∷ d ∷ [])) ≡ ((a * 256 + b) * 256 + c) * 256 + d
 four a b c d ha hb hc hd =
-    omega (arith, value-bytes a (b ∷ c ∷ d ∷ []) ha, value-bytes b (c ∷ d ∷ []) hb, value-bytes c (d ∷ []) hc, value-bytes d [] hd, no_bytes)
+    omega (arith, value_bytes a (b ∷ c ∷ d ∷ []) ha, value_bytes b (c ∷ d ∷ []) hb, value_bytes c (d ∷ []) hc, value_bytes d [] hd, no_bytes)
 
 -- what n bytes spell is a word
 word_is : (n : ℕ) (l : List ℕ) (i r : ℕ) → r ≡ value (bytes_bits (window n l i)) → WordAt n l i r
 word_is n l i r e =
     let long : length (bytes_bits (window n l i)) ≡ n * 8 = length-bytes_bits (window n l i) ∙ ap (λ (k : ℕ). k * 8) (length-window n l i) in
-    record { is = e; small = rw (e, ← long) (value-lt (bytes_bits (window n l i))) }
+    record { is = e; small = rw (e, ← long) (value_lt (bytes_bits (window n l i))) }
 
 pub gathered : (l : List ℕ) (i a b c d : ℕ) → ByteAt l i a → ByteAt l (i + 1) b → ByteAt l (i + 2) c → ByteAt l (i + 3) d
     → WordAt 4 l i (((a * 256 + b) * 256 + c) * 256 + d)
@@ -38,9 +38,9 @@ gathered l i a b c d pa pb pc pd =
     (ap₂ (λ (x : ℕ) (r : List ℕ). x ∷ r) (at (i + 2) (suc (suc i)) c (omega arith) pc.is)
     (ap (λ (x : ℕ). x ∷ []) (at (i + 3) (suc (suc (suc i))) d (omega arith) pd.is)))))
 
-window-halves : (l : List ℕ) (i : ℕ) → window 8 l i ≡ window 4 l i ++ window 4 l (i + 4)
+window_halves : (l : List ℕ) (i : ℕ) → window 8 l i ≡ window 4 l i ++ window 4 l (i + 4)
 unfolding window
-window-halves l i =
+window_halves l i =
     let e : suc (suc (suc (suc i))) ≡ i + 4 = omega arith in
     ap (λ (k : ℕ). window 4 l i ++ window 4 l k) e
 
@@ -53,7 +53,7 @@ joined l i x y hx hy =
     word_is 8 l i _
     (ap₂ (λ (m n : ℕ). m * 2 ^ 32 + n) hx.is hy.is
     ∙ ap (λ (n : ℕ). value (bytes_bits a) * 2 ^ n + value (bytes_bits b)) (sym long)
-    ∙ sym (ap value (ap bytes_bits (window-halves l i) ∙ bytes_bits-append a b) ∙ value-append (bytes_bits a) (bytes_bits b)))
+    ∙ sym (ap value (ap bytes_bits (window_halves l i) ∙ bytes_bits-append a b) ∙ value-append (bytes_bits a) (bytes_bits b)))
 
 -- byte by byte: x is what the first j bytes come to, and the others are still to be added
 pub record Gathering (l : List ℕ) (i x j : ℕ) : Type 0 where
@@ -67,7 +67,7 @@ nothing_past zero l i h = no_bytes
 nothing_past (suc n) l i h =
     let rest : List ℕ = window n l (suc i) in
     ap (λ (b : ℕ). value (bytes_bits (b ∷ rest))) (get_or-eq_default l 0 h)
-    ∙ value-bytes 0 rest (lit< tt) ∙ omega (arith, zero-mul (2 ^ (length rest * 8)), nothing_past n l (suc i) (omega arith))
+    ∙ value_bytes 0 rest (lit< tt) ∙ omega (arith, zero-mul (2 ^ (length rest * 8)), nothing_past n l (suc i) (omega arith))
 
 pub gather_start : (l : List ℕ) (i : ℕ) → i ≤ length l → Gathering l i 0 0
 gather_start l i h =
@@ -75,8 +75,8 @@ gather_start l i h =
     record { within = omega arith; is = ap (λ (k : ℕ). value (bytes_bits (window 8 l k))) e ∙ omega arith }
 
 module _ (l : List ℕ) (i x j : ℕ) (inv : Gathering l i x j) where
-  pub gather-end : length l ≤ i + j → WordAt 8 l i x
-  gather-end h = word_is 8 l i x (omega (arith, inv.is, nothing_past (8 - j) l (i + j) h))
+  pub gather_end : length l ≤ i + j → WordAt 8 l i x
+  gather_end h = word_is 8 l i x (omega (arith, inv.is, nothing_past (8 - j) l (i + j) h))
 
   module _ (short : length l < i + 8) (h : i + j < length l) (b : ℕ) (is : ByteAt l (i + j) b) where
     shifted : b * 2 ^ (56 - 8 * j) % 2 ^ 64 ≡ b * 2 ^ (56 - 8 * j)
@@ -91,14 +91,14 @@ module _ (l : List ℕ) (i x j : ℕ) (inv : Gathering l i x j) where
         let e : length (window n l (i + (j + 1))) * 8 ≡ 56 - 8 * j = ap (λ (z : ℕ). z * 8) (length-window n l (i + (j + 1))) ∙ omega arith in
         ap (λ (z : ℕ). value (bytes_bits (window z l (i + j)))) m
         ∙ ap₂ (λ (y z : ℕ). value (bytes_bits (y ∷ window n l z))) (sym is.is) k
-        ∙ value-bytes b (window n l (i + (j + 1))) is.small
+        ∙ value_bytes b (window n l (i + (j + 1))) is.small
         ∙ ap (λ (z : ℕ). b * 2 ^ z + value (bytes_bits (window n l (i + (j + 1))))) e
 
     pub gather_on : Gathering l i (x + b * 2 ^ (56 - 8 * j) % 2 ^ 64) (j + 1)
     gather_on = record { within = omega arith; is = omega (arith, inv.is, next_byte, shifted) }
 
-    pub gather-fits : x + b * 2 ^ (56 - 8 * j) % 2 ^ 64 < 2 ^ 64
-    gather-fits = omega (arith, gather_on.is, (word_is 8 l i _ refl).small)
+    pub gather_fits : x + b * 2 ^ (56 - 8 * j) % 2 ^ 64 < 2 ^ 64
+    gather_fits = omega (arith, gather_on.is, (word_is 8 l i _ refl).small)
 
 one_shl : (w : ℕ) → w ≤ widest_field → 1 * 2 ^ w % 2 ^ 64 ≡ 2 ^ w
 one_shl w h = shl_exact 1 w 64 (lit< tt) (omega arith) ∙ one-mul (2 ^ w)
@@ -113,7 +113,7 @@ module _ (l : List ℕ) (i g : ℕ) (got : WordAt 8 l i g) where
   cut o k at w narrow place covered within e =
       ap₂ (λ (x m : ℕ). x / 2 ^ k % m) got.is (one_shl w narrow)
       ∙ ap (λ (n : ℕ). value (bytes_bits (window 8 l i)) / 2 ^ n % 2 ^ w) e
-      ∙ sym (field-window 8 l i o at w place covered within)
+      ∙ sym (field_window 8 l i o at w place covered within)
 
 field_is : (l : List ℕ) (at w v next : ℕ) → v ≡ field_at l at w → next ≡ at + w → FieldTaken l at w v next
 field_is l at w v next is moved = record { is = is; small = rw is (field_lt l at w); moved = moved }

@@ -18,12 +18,12 @@ bit_eqb zero h = refl
 bit_eqb (suc zero) h = refl
 bit_eqb (suc (suc m)) h = absurd (not-suc-le-zero (le_of_suc-le-suc (le_of_suc-le-suc h)))
 
-bit-odd : (n : ℕ) → bit (odd n) ≡ n % 2
-bit-odd n = bit_eqb (n % 2) (mod-lt n (zero-lt-suc 1))
+bit_odd : (n : ℕ) → bit (odd n) ≡ n % 2
+bit_odd n = bit_eqb (n % 2) (mod-lt n (zero-lt-suc 1))
 
-bit-lt : (b : Bool) → bit b < 2
-bit-lt true = lit< tt
-bit-lt false = lit< tt
+bit_lt : (b : Bool) → bit b < 2
+bit_lt true = lit< tt
+bit_lt false = lit< tt
 
 bit_inj : (a b : Bool) → bit a ≡ bit b → a ≡ b
 bit_inj true true e = refl
@@ -36,24 +36,24 @@ unfolding bits
 length-bits zero x = refl
 length-bits (suc w) x = ap suc (length-bits w x)
 
-pub value-bits : (w x : ℕ) → value (bits w x) ≡ x % 2 ^ w
+pub value_bits : (w x : ℕ) → value (bits w x) ≡ x % 2 ^ w
 unfolding bits value
-value-bits zero x = sym (mod-one x)
-value-bits (suc w) x =
-    ap₂ (λ (a l : ℕ). a * 2 ^ l + value (bits w x)) (bit-odd (x / 2 ^ w)) (length-bits w x)
-    ∙ ap (λ (v : ℕ). x / 2 ^ w % 2 * 2 ^ w + v) (value-bits w x)
+value_bits zero x = sym (mod-one x)
+value_bits (suc w) x =
+    ap₂ (λ (a l : ℕ). a * 2 ^ l + value (bits w x)) (bit_odd (x / 2 ^ w)) (length-bits w x)
+    ∙ ap (λ (v : ℕ). x / 2 ^ w % 2 * 2 ^ w + v) (value_bits w x)
     ∙ sym (mod-pow-add x 1 w)
     ∙ ap (λ (k : ℕ). x % 2 ^ k) (one-add w)
 
-pub value-bits-lt : (w x : ℕ) → x < 2 ^ w → value (bits w x) ≡ x
-value-bits-lt w x h = value-bits w x ∙ mod-eq_of_lt h
+pub value_bits_lt : (w x : ℕ) → x < 2 ^ w → value (bits w x) ≡ x
+value_bits_lt w x h = value_bits w x ∙ mod-eq_of_lt h
 
-pub value-lt : (b : List Bool) → value b < 2 ^ length b
+pub value_lt : (b : List Bool) → value b < 2 ^ length b
 unfolding value
-value-lt [] = lit< tt
-value-lt (b ∷ r) =
+value_lt [] = lit< tt
+value_lt (b ∷ r) =
     subst (λ (k : ℕ). bit b * 2 ^ length r + value r < k) (sym (pow-add 2 1 (length r)) ∙ ap (λ (k : ℕ). 2 ^ k) (one-add (length r)))
-    (digits_lt (bit-lt b) (value-lt r))
+    (digits_lt (bit_lt b) (value_lt r))
 
 -- a list of bits is known by its length and its value
 pub value_inj : (a b : List Bool) → length a ≡ length b → value a ≡ value b → a ≡ b
@@ -63,17 +63,17 @@ value_inj [] (y ∷ b) l e = absurd (omega arith)
 value_inj (x ∷ a) [] l e = absurd (omega arith)
 value_inj (x ∷ a) (y ∷ b) l e =
     let l' : length a ≡ length b = omega arith in
-    let hb : value b < 2 ^ length a = subst (λ (k : ℕ). value b < 2 ^ k) (sym l') (value-lt b) in
+    let hb : value b < 2 ^ length a = subst (λ (k : ℕ). value b < 2 ^ k) (sym l') (value_lt b) in
     let e' : bit x * 2 ^ length a + value a ≡ bit y * 2 ^ length a + value b =
     e ∙ ap (λ (k : ℕ). bit y * 2 ^ k + value b) (sym l') in
     ap₂ (λ (h : Bool) (t : List Bool). h ∷ t)
-    (bit_inj x y (sym (high (bit x) (length a) (value-lt a)) ∙ ap (λ (n : ℕ). n / 2 ^ length a) e' ∙ high (bit y) (length a) hb))
-    (value_inj a b l' (sym (low (bit x) (length a) (value-lt a)) ∙ ap (λ (n : ℕ). n % 2 ^ length a) e' ∙ low (bit y) (length a) hb))
+    (bit_inj x y (sym (high (bit x) (length a) (value_lt a)) ∙ ap (λ (n : ℕ). n / 2 ^ length a) e' ∙ high (bit y) (length a) hb))
+    (value_inj a b l' (sym (low (bit x) (length a) (value_lt a)) ∙ ap (λ (n : ℕ). n % 2 ^ length a) e' ∙ low (bit y) (length a) hb))
 
-pub bits-value : (b : List Bool) (w : ℕ) → length b ≡ w → bits w (value b) ≡ b
-bits-value b w l =
+pub bits_value : (b : List Bool) (w : ℕ) → length b ≡ w → bits w (value b) ≡ b
+bits_value b w l =
     value_inj (bits w (value b)) b (length-bits w (value b) ∙ sym l)
-    (value-bits-lt w (value b) (subst (λ (k : ℕ). value b < 2 ^ k) l (value-lt b)))
+    (value_bits_lt w (value b) (subst (λ (k : ℕ). value b < 2 ^ k) l (value_lt b)))
 
 -- a field of two widths is the high bits and then the low ones
 pub bits-add : (a b x : ℕ) → bits (a + b) x ≡ bits a (x / 2 ^ b) ++ bits b x
@@ -90,7 +90,7 @@ bits_two w a b h =
     let e : 2 * w ≡ w + w = omega arith in
     ap (λ (k : ℕ). bits k x) e ∙ bits-add w w x
     ∙ ap₂ (λ (y : ℕ) (r : List Bool). bits w y ++ r) (high a w h)
-    (value_inj (bits w x) (bits w b) (length-bits w x ∙ sym (length-bits w b)) (value-bits w x ∙ low a w h ∙ sym (value-bits-lt w b h)))
+    (value_inj (bits w x) (bits w b) (length-bits w x ∙ sym (length-bits w b)) (value_bits w x ∙ low a w h ∙ sym (value_bits_lt w b h)))
 
 pub value-append : (a b : List Bool) → value (a ++ b) ≡ value a * 2 ^ length b + value b
 unfolding value
@@ -107,9 +107,9 @@ value_mid : (a b c : List Bool) → value (a ++ (b ++ c)) / 2 ^ length c % 2 ^ l
 value_mid a b c =
     ap (λ (l : List Bool). value l / 2 ^ length c % 2 ^ length b) (sym (append_assoc a b c))
     ∙ ap (λ (n : ℕ). n / 2 ^ length c % 2 ^ length b) (value-append (a ++ b) c)
-    ∙ ap (λ (n : ℕ). n % 2 ^ length b) (high (value (a ++ b)) (length c) (value-lt c))
+    ∙ ap (λ (n : ℕ). n % 2 ^ length b) (high (value (a ++ b)) (length c) (value_lt c))
     ∙ ap (λ (n : ℕ). n % 2 ^ length b) (value-append a b)
-    ∙ low (value a) (length b) (value-lt b)
+    ∙ low (value a) (length b) (value_lt b)
 
 -- the same, of w bits from o on
 pub value_slice : (x : List Bool) (o w n : ℕ) → length x ≡ n → o + w ≤ n → value (take w (drop o x)) ≡ value x / 2 ^ (n - (o + w)) % 2 ^ w
@@ -124,10 +124,10 @@ value_slice x o w n l h =
     ∙ ap₂ (λ (i j : ℕ). value x / 2 ^ i % 2 ^ j) lc lb
 
 -- zero bits spell 0, and nothing else does
-pub value-zeros : (k : ℕ) → value (replicate k false) ≡ 0
+pub value_zeros : (k : ℕ) → value (replicate k false) ≡ 0
 unfolding value
-value-zeros zero = refl
-value-zeros (suc k) = ap (λ (v : ℕ). 0 * 2 ^ length (replicate k false) + v) (value-zeros k) ∙ omega (arith, zero-mul (2 ^ length (replicate k false)))
+value_zeros zero = refl
+value_zeros (suc k) = ap (λ (v : ℕ). 0 * 2 ^ length (replicate k false) + v) (value_zeros k) ∙ omega (arith, zero-mul (2 ^ length (replicate k false)))
 
 pub zeros : (b : List Bool) → value b ≡ 0 → b ≡ replicate (length b) false
-zeros b e = value_inj b (replicate (length b) false) (sym (length-replicate (length b) false)) (e ∙ sym (value-zeros (length b)))
+zeros b e = value_inj b (replicate (length b) false) (sym (length-replicate (length b) false)) (e ∙ sym (value_zeros (length b)))

@@ -13,17 +13,17 @@ use Rattle.chain.proofs.Rules.{then_fine, stop, pass}
 
 -- a rule, and what is read past a list's end
 module _ {A : Type 0} (rule : ℕ → A → Verdict) (d : A) where
-  pub each-fine : (i : ℕ) (l : List A) → in_order rule i l ≡ fine → (k : ℕ) → k < length l → rule (i + k) (get_or l k d) ≡ fine
-  each-fine i [] ok k h = absurd (omega arith)
-  each-fine i (x ∷ l) ok zero h = rw add-zero (then_fine _ _ ok).0
-  each-fine i (x ∷ l) ok (suc k) h =
+  pub each_fine : (i : ℕ) (l : List A) → in_order rule i l ≡ fine → (k : ℕ) → k < length l → rule (i + k) (get_or l k d) ≡ fine
+  each_fine i [] ok k h = absurd (omega arith)
+  each_fine i (x ∷ l) ok zero h = rw add-zero (then_fine _ _ ok).0
+  each_fine i (x ∷ l) ok (suc k) h =
       let e : suc i + k ≡ i + suc k = omega arith in
-      rw (← e) (each-fine (suc i) l (then_fine _ _ ok).1 k (omega arith))
+      rw (← e) (each_fine (suc i) l (then_fine _ _ ok).1 k (omega arith))
 
-  pub fine-each : (i : ℕ) (l : List A) → ((k : ℕ) → k < length l → rule (i + k) (get_or l k d) ≡ fine) → in_order rule i l ≡ fine
-  fine-each i [] h = refl
-  fine-each i (x ∷ l) h =
-      sym (pass _ _ fine (sym (rw add-zero at (h 0 (omega arith)))) (sym (fine-each (suc i) l (λ k g. later k (h (suc k) (omega arith))))))
+  pub fine_each : (i : ℕ) (l : List A) → ((k : ℕ) → k < length l → rule (i + k) (get_or l k d) ≡ fine) → in_order rule i l ≡ fine
+  fine_each i [] h = refl
+  fine_each i (x ∷ l) h =
+      sym (pass _ _ fine (sym (rw add-zero at (h 0 (omega arith)))) (sym (fine_each (suc i) l (λ k g. later k (h (suc k) (omega arith))))))
     where
       later : (k : ℕ) → rule (i + suc k) (get_or l k d) ≡ fine → rule (suc i + k) (get_or l k d) ≡ fine
       later k ok =
@@ -31,13 +31,13 @@ module _ {A : Type 0} (rule : ℕ → A → Verdict) (d : A) where
           rw e ok
 
   -- the first member that is refused
-  pub first-refused : (i : ℕ) (l : List A) (k n s : ℕ) → k < length l → ((j : ℕ) → j < k → rule (i + j) (get_or l j d) ≡ fine)
+  pub first_refused : (i : ℕ) (l : List A) (k n s : ℕ) → k < length l → ((j : ℕ) → j < k → rule (i + j) (get_or l j d) ≡ fine)
       → rule (i + k) (get_or l k d) ≡ refused n s → in_order rule i l ≡ refused n s
-  first-refused i [] k n s h before bad = absurd (omega arith)
-  first-refused i (x ∷ l) zero n s h before bad = sym (stop _ _ n s (sym (rw add-zero at bad)))
-  first-refused i (x ∷ l) (suc k) n s h before bad =
+  first_refused i [] k n s h before bad = absurd (omega arith)
+  first_refused i (x ∷ l) zero n s h before bad = sym (stop _ _ n s (sym (rw add-zero at bad)))
+  first_refused i (x ∷ l) (suc k) n s h before bad =
       let e : suc i + k ≡ i + suc k = omega arith in
-      sym (pass _ _ _ (sym (rw add-zero at (before 0 (omega arith)))) (sym (first-refused (suc i) l k n s (omega arith) earlier (rw e bad))))
+      sym (pass _ _ _ (sym (rw add-zero at (before 0 (omega arith)))) (sym (first_refused (suc i) l k n s (omega arith) earlier (rw e bad))))
     where
       earlier : (j : ℕ) → j < k → rule (suc i + j) (get_or l j d) ≡ fine
       earlier j g =

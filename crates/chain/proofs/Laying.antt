@@ -7,7 +7,7 @@ use native.Mathlib.Omega.{arith}
 use lib.ListN.{length, get_or, drop, set, length-set, drop_of_length-le}
 use lib.Seq.{drop-cons}
 use Rattle.chain.specs.Written.{over, laid}
-use Rattle.chain.proofs.Written.{laid_nil, laid_on, over-laid}
+use Rattle.chain.proofs.Written.{laid_nil, laid_on, over_laid}
 
 module _ (numbers : List ℕ) (at : ℕ) (old : List ℕ) where
   -- the loop's invariant: i numbers are laid
@@ -41,13 +41,13 @@ module _ (numbers : List ℕ) (at : ℕ) (old : List ℕ) where
 
 -- the same over the front
 module _ (numbers old : List ℕ) where
-  pub front-more : (i x : ℕ) (cells : List ℕ) → i < length numbers → length numbers ≤ length old → x ≡ get_or numbers i 0 → LaidTo numbers 0 old i cells
+  pub front_more : (i x : ℕ) (cells : List ℕ) → i < length numbers → length numbers ≤ length old → x ≡ get_or numbers i 0 → LaidTo numbers 0 old i cells
       → LaidTo numbers 0 old (i + 1) (set cells i x)
-  front-more i x cells h room is d =
+  front_more i x cells h room is d =
       let e : 0 + i ≡ i = omega arith in
       rw e at (lay_more numbers 0 old i x cells h (omega arith) is d)
 
-  pub front-all : (i : ℕ) (cells : List ℕ) → length numbers ≤ i → LaidTo numbers 0 old i cells → cells ≡ over numbers old
-  front-all i cells h d = lay_all numbers 0 old i cells h d ∙ sym (over-laid numbers old)
+  pub front_all : (i : ℕ) (cells : List ℕ) → length numbers ≤ i → LaidTo numbers 0 old i cells → cells ≡ over numbers old
+  front_all i cells h d = lay_all numbers 0 old i cells h d ∙ sym (over_laid numbers old)
 
 pub ruleset laying = (lay_none, lay_more, lay_all)

@@ -6,22 +6,22 @@ use lib.ListN.{length, get_or}
 use Rattle.chain.specs.Tests.{◌<?◌}
 use Rattle.chain.specs.Verdict.{Verdict, fine, refused, refuse_if}
 use Rattle.chain.specs.Chain.{limit_rule, outputs_rule}
-use Rattle.chain.proofs.Rules.{refuse_if-fine, not_lt, lt_yes, lt_no, refuse_yes, refuse_no}
-use Rattle.chain.proofs.InOrder.{each-fine, fine-each, left, judge_start_lem, judge_on, judge_bad, judge_end_lem}
+use Rattle.chain.proofs.Rules.{refuse_if_fine, not_lt, lt_yes, lt_no, refuse_yes, refuse_no}
+use Rattle.chain.proofs.InOrder.{each_fine, fine_each, left, judge_start_lem, judge_on, judge_bad, judge_end_lem}
 
 module _ (number most i : ℕ) (l : List ℕ) where
-  pub numbers-low : limit_rule number most i l ≡ fine → (k : ℕ) → k < length l → get_or l k 0 ≤ most
-  numbers-low ok k h = not_lt most (get_or l k 0) (refuse_if-fine _ number (i + k) (each-fine _ 0 i l ok k h))
+  pub numbers_low : limit_rule number most i l ≡ fine → (k : ℕ) → k < length l → get_or l k 0 ≤ most
+  numbers_low ok k h = not_lt most (get_or l k 0) (refuse_if_fine _ number (i + k) (each_fine _ 0 i l ok k h))
 
-  pub low-numbers : ((k : ℕ) → k < length l → get_or l k 0 ≤ most) → limit_rule number most i l ≡ fine
-  low-numbers low = fine-each _ 0 i l (λ k h. sym (refuse_no _ number (i + k) (lt_no most (get_or l k 0) (low k h))))
+  pub low_numbers : ((k : ℕ) → k < length l → get_or l k 0 ≤ most) → limit_rule number most i l ≡ fine
+  low_numbers low = fine_each _ 0 i l (λ k h. sym (refuse_no _ number (i + k) (lt_no most (get_or l k 0) (low k h))))
 
 -- outputs are numbers of values
-pub outputs-low : (top i : ℕ) (l : List ℕ) → outputs_rule top i l ≡ fine → (k : ℕ) → k < length l → get_or l k 0 ≤ top
-outputs-low = numbers-low 12
+pub outputs_low : (top i : ℕ) (l : List ℕ) → outputs_rule top i l ≡ fine → (k : ℕ) → k < length l → get_or l k 0 ≤ top
+outputs_low = numbers_low 12
 
-pub low-outputs : (top i : ℕ) (l : List ℕ) → ((k : ℕ) → k < length l → get_or l k 0 ≤ top) → outputs_rule top i l ≡ fine
-low-outputs = low-numbers 12
+pub low_outputs : (top i : ℕ) (l : List ℕ) → ((k : ℕ) → k < length l → get_or l k 0 ≤ top) → outputs_rule top i l ≡ fine
+low_outputs = low_numbers 12
 
 -- what is left to judge after i numbers
 abbrev pub numbers_left : ℕ → ℕ → List ℕ → ℕ → Verdict
@@ -39,7 +39,7 @@ module _ (number most : ℕ) (l : List ℕ) where
     pub numbers_bad : i < length l → most < get_or l i 0 → w ≡ numbers_left number most l i → refused number (i + 1) ≡ w
     numbers_bad h high = judge_bad _ 0 l i w number (i + 1) h (refuse_yes _ number (i + 1) (lt_yes _ _ high))
 
-    pub numbers-end : length l ≤ i → w ≡ numbers_left number most l i → fine ≡ w
-    numbers-end = judge_end_lem _ l i w
+    pub numbers_end : length l ≤ i → w ≡ numbers_left number most l i → fine ≡ w
+    numbers_end = judge_end_lem _ l i w
 
-pub ruleset limiting = (numbers_start, numbers_on, numbers_bad, numbers-end)
+pub ruleset limiting = (numbers_start, numbers_on, numbers_bad, numbers_end)

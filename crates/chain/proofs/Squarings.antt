@@ -13,8 +13,8 @@ use Rattle.chain.specs.Inner.{counted_by, SquaringCounted}
 use Rattle.chain.specs.declared.Step.{Step}
 use Rattle.chain.specs.declared.Counted.{Counted}
 use Rattle.chain.specs.declared.Counted.TheVariants.{Fine, Refused}
-use Rattle.chain.proofs.Rules.{eq_yes, eq_no, ne_yes, ne_no, is_eq, not_eq, answer-refused, answer-done}
-use Rattle.chain.proofs.Told.{verdict_in, told, told-values}
+use Rattle.chain.proofs.Rules.{eq_yes, eq_no, ne_yes, ne_no, is_eq, not_eq, answer_refused, answer_done}
+use Rattle.chain.proofs.Told.{verdict_in, told, told_values_lem}
 use Rattle.chain.proofs.Steps.{step_legal}
 
 -- a step is one or the other
@@ -32,12 +32,12 @@ adds_up [] = refl
 adds_up (x ∷ r) = omega (arith, one_each x, adds_up r)
 
 -- so neither is more than n, and each tells the other
-pub squarings-few : (steps : List Step) → squarings_of steps ≤ length steps
-squarings-few steps = omega (arith, adds_up steps)
+pub squarings_few : (steps : List Step) → squarings_of steps ≤ length steps
+squarings_few steps = omega (arith, adds_up steps)
 
-pub counts-are : (steps : List Step) (n s : ℕ) → n ≡ length steps → s ≡ squarings_of steps → n ∷ s ∷ (n - s) ∷ [] ≡ counts steps
+pub counts_are : (steps : List Step) (n s : ℕ) → n ≡ length steps → s ≡ squarings_of steps → n ∷ s ∷ (n - s) ∷ [] ≡ counts steps
 unfolding counts
-counts-are steps n s e f =
+counts_are steps n s e f =
     let rest : n - s ≡ products_of steps = omega (arith, adds_up steps) in
     rw (rest, e, f)
 
@@ -50,55 +50,55 @@ pub squarings-append : (a b : List Step) → squarings_of (a ++ b) ≡ squarings
 unfolding squarings_of
 squarings-append a b = many_append is_squaring a b
 
-pub squarings-one : (x : Step) → squarings_of (x ∷ []) ≡ one is_squaring x
+pub squarings_one : (x : Step) → squarings_of (x ∷ []) ≡ one is_squaring x
 unfolding squarings_of
-squarings-one x = omega arith
+squarings_one x = omega arith
 
 -- a step counted
-pub one-equal : (a b : ℕ) → a ≡ b → 1 ≡ one is_squaring (by a b)
+pub one_equal : (a b : ℕ) → a ≡ b → 1 ≡ one is_squaring (by a b)
 unfolding one
-one-equal a b e = rw (eq_yes a b e)
+one_equal a b e = rw (eq_yes a b e)
 
-pub one-unequal : (a b : ℕ) → (a ≡ b → ⊥) → 0 ≡ one is_squaring (by a b)
+pub one_unequal : (a b : ℕ) → (a ≡ b → ⊥) → 0 ≡ one is_squaring (by a b)
 unfolding one
-one-unequal a b ne = rw (eq_no a b ne)
+one_unequal a b ne = rw (eq_no a b ne)
 
 -- operands that are in order
 pub one_below : (a b : ℕ) → b < a → b ≤ a → 0 ≡ one is_squaring (by a b)
-one_below a b lt le = one-unequal a b (omega arith)
+one_below a b lt le = one_unequal a b (omega arith)
 
 pub one_not_below : (a b : ℕ) → a ≤ b → b ≤ a → 1 ≡ one is_squaring (by a b)
-one_not_below a b ge le = one-equal a b (omega arith)
+one_not_below a b ge le = one_equal a b (omega arith)
 
 -- as those of a step that was judged are
-pub counted-one : (v s : ℕ) (x : Step) (d : ℕ) → fine ≡ step_rule v s x → SquaringCounted x d → d ≡ one is_squaring x
-counted-one v s x d ok c = c.is (step_legal v s x (sym ok)).in_order
+pub counted_one : (v s : ℕ) (x : Step) (d : ℕ) → fine ≡ step_rule v s x → SquaringCounted x d → d ≡ one is_squaring x
+counted_one v s x d ok c = c.is (step_legal v s x (sym ok)).in_order
 
 -- what is answered with a number, once the rule's verdict is known
 module _ (v : Verdict) (number : ℕ) where
-  pub counted-refused : (n s : ℕ) → refused n s ≡ v → refusal n s ≡ counted_by v number
+  pub counted_refused : (n s : ℕ) → refused n s ≡ v → refusal n s ≡ counted_by v number
   unfolding counted_by
-  counted-refused n s e = answer-refused v _ n s e
+  counted_refused n s e = answer_refused v _ n s e
 
-  pub counted-done : (k : ℕ) → fine ≡ v → k ≡ number → done (k ∷ []) ≡ counted_by v number
+  pub counted_done : (k : ℕ) → fine ≡ v → k ≡ number → done (k ∷ []) ≡ counted_by v number
   unfolding counted_by
-  counted-done k e f = ap (λ (x : ℕ). done (x ∷ [])) f ∙ answer-done v _ e
+  counted_done k e f = ap (λ (x : ℕ). done (x ∷ [])) f ∙ answer_done v _ e
 
   -- and what a callee's answer tells of them
   module _ (j : Counted) (e : counted_of j ≡ counted_by v number) where
-    verdict-told : verdict_in (counted_of j) ≡ v
+    verdict_told : verdict_in (counted_of j) ≡ v
     unfolding counted_by
-    verdict-told = told _ _ _ e
+    verdict_told = told _ _ _ e
 
-    pub found-refused : (n s : ℕ) → j ≡ Refused n s → refused n s ≡ v
-    found-refused n s f = sym (ap (λ (x : Counted). verdict_in (counted_of x)) f) ∙ verdict-told
+    pub found_refused : (n s : ℕ) → j ≡ Refused n s → refused n s ≡ v
+    found_refused n s f = sym (ap (λ (x : Counted). verdict_in (counted_of x)) f) ∙ verdict_told
 
     module _ (k : ℕ) (f : j ≡ Fine k) where
-      pub found-fine : fine ≡ v
-      found-fine = sym (ap (λ (x : Counted). verdict_in (counted_of x)) f) ∙ verdict-told
+      pub found_fine : fine ≡ v
+      found_fine = sym (ap (λ (x : Counted). verdict_in (counted_of x)) f) ∙ verdict_told
 
       pub found_number : k ≡ number
       unfolding counted_by
-      found_number = ap (λ (l : List ℕ). get_or l 0 0) (told-values _ _ _ (sym (ap counted_of f) ∙ e))
+      found_number = ap (λ (l : List ℕ). get_or l 0 0) (told_values_lem _ _ _ (sym (ap counted_of f) ∙ e))
 
-pub ruleset counting = (counted-refused, counted-done, found-refused, found-fine, found_number)
+pub ruleset counting = (counted_refused, counted_done, found_refused, found_fine, found_number)

@@ -11,24 +11,24 @@ step_at l s = by (get_or l (2 * s) 0) (get_or l (2 * s + 1) 0)
 
 -- sizes that are not too large
 pub record SizesLow (p q : ℕ) : Type 0 where
-  pub p-low : p ≤ most_columns
+  pub p_low : p ≤ most_columns
   pub q_low : q ≤ most_payslips
 
 -- a chain whose steps are in order, with a cell for each of its values
 pub record StepsSound (p : ℕ) (steps cells : List ℕ) : Type 0 where
-  pub p-low : p ≤ most_columns
-  pub steps-fine : steps_rule p 1 (pairs steps) ≡ fine
+  pub p_low : p ≤ most_columns
+  pub steps_fine : steps_rule p 1 (pairs steps) ≡ fine
   pub room : p + length steps / 2 < length cells
 
 -- and whose outputs are numbers of its values
 pub record ChainSound (p : ℕ) (steps outputs cells : List ℕ) : Type 0 where
-  pub steps-sound : StepsSound p steps cells
-  pub outputs-fine : outputs_rule (p + length (pairs steps)) 1 outputs ≡ fine
+  pub steps_sound : StepsSound p steps cells
+  pub outputs_fine : outputs_rule (p + length (pairs steps)) 1 outputs ≡ fine
 
 -- a cell for each of the outputs, which are numbers of so many values
 pub record FiguresAble (outputs : List ℕ) (values figures : ℕ) : Type 0 where
   pub figures_fit : length outputs ≤ figures
-  pub outputs-within : (i : ℕ) → i < length outputs → get_or outputs i 0 < values
+  pub outputs_within : (i : ℕ) → i < length outputs → get_or outputs i 0 < values
 
 -- what a rule finds, and a number counted on the way where it finds nothing
 unfoldable pub counted_by : Verdict → ℕ → Answer

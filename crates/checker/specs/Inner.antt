@@ -5,9 +5,9 @@ use Rattle.chain.specs.Inner.{StepsSound, ChainSound}
 -- what the sums of column c ask
 pub record ColumnAsked (p c : ℕ) (steps scratch : List ℕ) : Type 0 where
   pub column : c < p
-  pub steps-sound : StepsSound p steps scratch
+  pub steps_sound : StepsSound p steps scratch
 
 -- what those of all columns ask, to be held against the amounts
 pub record HoldAsked (p : ℕ) (steps outputs amounts scratch : List ℕ) : Type 0 where
-  pub chain-sound : ChainSound p steps outputs scratch
+  pub chain_sound : ChainSound p steps outputs scratch
   pub amounts_fit : length amounts ≡ p * length outputs

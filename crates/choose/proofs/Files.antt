@@ -9,7 +9,7 @@ use Rattle.chain.specs.Chain.{most_payslips, pairs}
 use Rattle.chain.specs.declared.Step.{Step}
 use Rattle.chain.proofs.Rules.{not_fine, stop, pass, refuse_yes, refuse_no, or_left, or_right, or_none, ne_yes, ne_no}
 use Rattle.chain.proofs.Told.{verdict_in, told}
-use Rattle.chain.proofs.Pairs.{pairs-flat}
+use Rattle.chain.proofs.Pairs.{pairs_flat}
 use Rattle.verify.specs.Verify.{verify_rule, verify_answer}
 use Rattle.answers.specs.Answers.{verified_of}
 use Rattle.answers.specs.declared.Counts.{Counts}
@@ -17,7 +17,7 @@ use Rattle.answers.specs.declared.Verified.{Verified}
 use Rattle.answers.specs.declared.Verified.TheVariants as verified
 use Rattle.layout.specs.Layout.{edition1}
 use Rattle.layout.specs.File.{steps_of, outputs_of, read_rule}
-use Rattle.layout.proofs.Readable.{columns-low}
+use Rattle.layout.proofs.Readable.{columns_low}
 use Rattle.layout.proofs.OneFile.{length_steps_of}
 use Rattle.reading.proofs.Good.{Good}
 use Rattle.choose.specs.Choose.{most_scratch, file_rule}
@@ -37,14 +37,14 @@ unread p q amounts bytes k s e = stop _ _ k s e
 
 -- the rules after reading, for a sheet of p columns and q payslips
 module _ (bytes steps outputs amounts : List ℕ) (p q columns payslips n : ℕ) (t : Good edition1 bytes steps outputs columns payslips n) where
-  pub other-columns : (columns ≡ p → ⊥) → refused 14 0 ≡ file_rule p q amounts bytes
+  pub other_columns : (columns ≡ p → ⊥) → refused 14 0 ≡ file_rule p q amounts bytes
   unfolding file_rule
-  other-columns differ =
+  other_columns differ =
       pass _ _ _ t.reads (stop _ _ 14 0 (refuse_yes _ 14 0 (or_left _ _ (ne_yes _ _ (λ e. differ (t.taken.columns ∙ e))))))
 
-  pub other-payslips : (payslips ≡ q → ⊥) → refused 14 0 ≡ file_rule p q amounts bytes
+  pub other_payslips : (payslips ≡ q → ⊥) → refused 14 0 ≡ file_rule p q amounts bytes
   unfolding file_rule
-  other-payslips differ =
+  other_payslips differ =
       pass _ _ _ t.reads (stop _ _ 14 0 (refuse_yes _ 14 0 (or_right _ _ (ne_yes _ _ (λ e. differ (t.taken.payslips ∙ e))))))
 
   module _ (ep : columns ≡ p) (eq : payslips ≡ q) (scratch : ℕ) (room : most_scratch ≤ scratch) (w : Verified)
@@ -53,12 +53,12 @@ module _ (bytes steps outputs amounts : List ℕ) (p q columns payslips n : ℕ)
     unfolding file_rule verify_answer
     held =
         let l = length_steps_of edition1 bytes in
-        let low = columns-low bytes in
+        let low = columns_low bytes in
         let e = t.taken.columns in
         let f = t.taken.long in
         let g = t.taken.few in
-        let es : pairs (take (2 * n) steps) ≡ steps_of edition1 bytes = ap pairs t.taken.steps_front ∙ pairs-flat (steps_of edition1 bytes) in
-        let eo : take q outputs ≡ outputs_of edition1 bytes = ap (λ (k : ℕ). take k outputs) (sym eq) ∙ t.taken.outputs-front in
+        let es : pairs (take (2 * n) steps) ≡ steps_of edition1 bytes = ap pairs t.taken.steps_front ∙ pairs_flat (steps_of edition1 bytes) in
+        let eo : take q outputs ≡ outputs_of edition1 bytes = ap (λ (k : ℕ). take k outputs) (sym eq) ∙ t.taken.outputs_front in
         let same-columns = ne_no _ _ (sym t.taken.columns ∙ ep) in
         let same-payslips = ne_no _ _ (sym t.taken.payslips ∙ eq) in
         pass _ _ _ t.reads

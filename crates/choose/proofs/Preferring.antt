@@ -15,30 +15,30 @@ abbrev pub better_of : Judged → Judged → Choice
 better_of x y = better (verdict_of x) (verdict_of y) (count_of x) (count_of y)
 
 module _ (x y : Judged) where
-  pub first-fewer : (m n : ℕ) → x ≡ Passed m → y ≡ Passed n → m ≤ n → first ≡ better_of x y
+  pub first_fewer : (m n : ℕ) → x ≡ Passed m → y ≡ Passed n → m ≤ n → first ≡ better_of x y
   unfolding better
-  first-fewer m n ex ey h = sym (ap₂ better_of ex ey ∙ ap (λ (t : Bool). cond t first second) (le_yes m n h))
+  first_fewer m n ex ey h = sym (ap₂ better_of ex ey ∙ ap (λ (t : Bool). cond t first second) (le_yes m n h))
 
-  pub second-fewer : (m n : ℕ) → x ≡ Passed m → y ≡ Passed n → n < m → second ≡ better_of x y
+  pub second_fewer : (m n : ℕ) → x ≡ Passed m → y ≡ Passed n → n < m → second ≡ better_of x y
   unfolding better
-  second-fewer m n ex ey h = sym (ap₂ better_of ex ey ∙ ap (λ (t : Bool). cond t first second) (le_no m n h))
+  second_fewer m n ex ey h = sym (ap₂ better_of ex ey ∙ ap (λ (t : Bool). cond t first second) (le_no m n h))
 
-  pub first-only : (m j t : ℕ) → x ≡ Passed m → y ≡ Refused j t → first ≡ better_of x y
+  pub first_only : (m j t : ℕ) → x ≡ Passed m → y ≡ Refused j t → first ≡ better_of x y
   unfolding better
-  first-only m j t ex ey = sym (ap₂ better_of ex ey)
+  first_only m j t ex ey = sym (ap₂ better_of ex ey)
 
-  pub second-only : (k s n : ℕ) → x ≡ Refused k s → y ≡ Passed n → second ≡ better_of x y
+  pub second_only : (k s n : ℕ) → x ≡ Refused k s → y ≡ Passed n → second ≡ better_of x y
   unfolding better
-  second-only k s n ex ey = sym (ap₂ better_of ex ey)
+  second_only k s n ex ey = sym (ap₂ better_of ex ey)
 
   pub none : (k s j t : ℕ) → x ≡ Refused k s → y ≡ Refused j t → neither k s ≡ better_of x y
   unfolding better
   none k s j t ex ey = sym (ap₂ better_of ex ey)
 
 -- only the lengths of files that pass count
-pub same-better : (v w : Verdict) (m n m' n' : ℕ) → (v ≡ fine → m ≡ m') → (w ≡ fine → n ≡ n') → better v w m n ≡ better v w m' n'
+pub same_better : (v w : Verdict) (m n m' n' : ℕ) → (v ≡ fine → m ≡ m') → (w ≡ fine → n ≡ n') → better v w m n ≡ better v w m' n'
 unfolding better
-same-better fine fine m n m' n' h k = ap₂ (λ (i j : ℕ). cond (i ≤? j) first second) (h refl) (k refl)
-same-better fine (refused j t) m n m' n' h k = refl
-same-better (refused k s) fine m n m' n' h l = refl
-same-better (refused k s) (refused j t) m n m' n' h l = refl
+same_better fine fine m n m' n' h k = ap₂ (λ (i j : ℕ). cond (i ≤? j) first second) (h refl) (k refl)
+same_better fine (refused j t) m n m' n' h k = refl
+same_better (refused k s) fine m n m' n' h l = refl
+same_better (refused k s) (refused j t) m n m' n' h l = refl

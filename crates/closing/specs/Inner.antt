@@ -19,14 +19,14 @@ closed_by s t o =
 -- rows of what overflows of n inputs and of k clumps, of outputs below m, the clumps' values behind them, and room for both transposed
 pub record CloseAsked (p : ℕ) (s : List ℕ) (t : Problem) (o : Opened) (to : ℕ) (r : Progress) : Type 0 where
   pub rest_at : to + t.m ≤ o.rest
-  pub rest-formed : Formed s o.rest t.n (get_or s (o.rest + t.n) 0)
-  pub rest-rising : (i : ℕ) → i < t.n → Rising t.m (row_at s o.rest i)
-  pub rest-before : get_or s (o.rest + t.n) 0 ≤ o.clumps
-  pub clumps-formed : Formed s o.clumps o.k (get_or s (o.clumps + o.k) 0)
-  pub clumps-rising : (x : ℕ) → x < o.k → Rising t.m (row_at s o.clumps x)
-  pub clumps-before : get_or s (o.clumps + o.k) 0 ≤ o.made
-  pub values-behind : lists_from ≤ t.ins
-  pub values-before : t.ins + t.n ≤ to
+  pub rest_formed : Formed s o.rest t.n (get_or s (o.rest + t.n) 0)
+  pub rest_rising : (i : ℕ) → i < t.n → Rising t.m (row_at s o.rest i)
+  pub rest_before : get_or s (o.rest + t.n) 0 ≤ o.clumps
+  pub clumps_formed : Formed s o.clumps o.k (get_or s (o.clumps + o.k) 0)
+  pub clumps_rising : (x : ℕ) → x < o.k → Rising t.m (row_at s o.clumps x)
+  pub clumps_before : get_or s (o.clumps + o.k) 0 ≤ o.made
+  pub values_behind : lists_from ≤ t.ins
+  pub values_before : t.ins + t.n ≤ to
   pub room : o.made + o.k + (t.m + 1 + members_at s o.clumps o.k) + (t.m + 1 + members_at s o.rest t.n) ≤ length s
   pub front : FrontRoom p s r (members_at s o.clumps o.k + members_at s o.rest t.n)
   pub small : length s < 2 ^ 32

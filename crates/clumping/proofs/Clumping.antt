@@ -21,15 +21,15 @@ use Rattle.clumps.proofs.Products.{Given, sum_of, Posed, Solved}
 use Rattle.clumps.proofs.Solved.{Sizes, clump_outputs_lem}
 use Rattle.clumping.specs.Clumping.{clumping, clumping_count, is_nonzero, nonzero, part_value, sheet_groups, used, used_values, wanted}
 use Rattle.clumps.proofs.Lists.{get_d_map_in}
-use Rattle.clumping.proofs.Parts.{input_part, slip_below, slip_sum, slip_at, used_exponents, wanted_at, wanted-count}
+use Rattle.clumping.proofs.Parts.{input_part, slip_below, slip_sum, slip_at, used_exponents, wanted_at, wanted_count}
 use Rattle.clumps.proofs.Lists.{get_d_map_in}
-use Rattle.clumping.proofs.Parts.{wanted-proper, zero-amount}
+use Rattle.clumping.proofs.Parts.{wanted_proper, zero_amount}
 
 -- the steps are as many as the count
-pub clumping-count : (p q : ℕ) (amounts : List ℕ) (c : ℕ) (levels : List Level)
+pub clumping_count_lem : (p q : ℕ) (amounts : List ℕ) (c : ℕ) (levels : List Level)
     → length (clumping p q amounts c levels).steps ≡ clumping_count p q amounts c levels
 unfolding clumping_count
-clumping-count p q amounts c levels = refl
+clumping_count_lem p q amounts c levels = refl
 
 module _ (p q : ℕ) (amounts : List ℕ) (c : ℕ) where
   abbrev U : List ℕ
@@ -49,16 +49,16 @@ module _ (p q : ℕ) (amounts : List ℕ) (c : ℕ) where
   output_at levels i h = get_d_list q _ 0 i h
 
   -- a zero payslip has output 0
-  pub clumping-zero : (levels : List Level) (i : ℕ) → i < q → is_nonzero p q amounts c i ≡ false → get_or (clumping p q amounts c levels).outputs i 0 ≡ 0
-  clumping-zero levels i h e = output_at levels i h ∙ ap (output_of levels i) e
+  pub clumping_zero : (levels : List Level) (i : ℕ) → i < q → is_nonzero p q amounts c i ≡ false → get_or (clumping p q amounts c levels).outputs i 0 ≡ 0
+  clumping_zero levels i h e = output_at levels i h ∙ ap (output_of levels i) e
 
   module _ (some : 1 ≤ c) (low : (j : ℕ) → get_or amounts j 0 ≤ most_amount) where
     tabled : Tabled p most_amount c (inputs p q amounts) (sheet_squarings p q amounts) (exponent_in p q amounts) (sheet_groups p q amounts c)
     tabled = sheet_tables_lem p q amounts low c (sheet_groups p q amounts c)
 
-    values-size : length (used_values p q amounts c) ≡ length U
+    values_size : length (used_values p q amounts c) ≡ length U
     unfolding used_values
-    values-size = length-map U _
+    values_size = length-map U _
 
     value_at_lem : (x : ℕ) → x < length U → get_or (used_values p q amounts c) x 0 ≡ part_value p q amounts c (get_or U x 0 / 2 ^ c) (get_or U x 0 % 2 ^ c)
     unfolding used_values
@@ -66,7 +66,7 @@ module _ (p q : ℕ) (amounts : List ℕ) (c : ℕ) where
 
     -- each part that is used makes its exponents
     parts_given : Given p (sheet_tables p q amounts c) (used_values p q amounts c) (used_exponents p q amounts c)
-    parts_given = record { makes = λ x h. one x (rw values-size at h) }
+    parts_given = record { makes = λ x h. one x (rw values_size at h) }
       where
         one : (x : ℕ) → x < length U
             → Makes p (sheet_tables p q amounts c) (get_or (used_values p q amounts c) x 0) (λ d. get_or (used_exponents p q amounts c d) x 0)
@@ -87,8 +87,8 @@ module _ (p q : ℕ) (amounts : List ℕ) (c : ℕ) where
         record {
           sound = tabled.sound;
           given = parts_given;
-          sizes = λ d. length-list (length U) _ ∙ sym values-size;
-          proper = λ j h. rw values-size (wanted-proper p q amounts c j h);
+          sizes = λ d. length-list (length U) _ ∙ sym values_size;
+          proper = λ j h. rw values_size (wanted_proper p q amounts c j h);
           low = λ j d h k. rw (wanted-sum j d h k) (low (slip_at p q amounts c j * p + d));
         }
 
@@ -108,9 +108,9 @@ module _ (p q : ℕ) (amounts : List ℕ) (c : ℕ) where
         solved = clump_outputs_lem levels sizes p most_amount _ _ _ _ parts_posed
 
         makes : (i : ℕ) → i < q → (t : Bool) → is_nonzero p q amounts c i ≡ t → Makes p (done levels).steps (output_of levels i t) (amount p amounts i)
-        makes i h false e = makes_like p _ _ _ _ (λ d k. sym (zero-amount p q amounts c some i d h k e)) (makes_zero p (done levels).steps)
+        makes i h false e = makes_like p _ _ _ _ (λ d k. sym (zero_amount p q amounts c some i d h k e)) (makes_zero p (done levels).steps)
         makes i h true e =
             let j : ℕ = length (nonzero p q amounts c i) in
-            let there : j < length W = rw (wanted-count p q amounts c) (rank_low (is_nonzero p q amounts c) i e q h) in
+            let there : j < length W = rw (wanted_count p q amounts c) (rank_low (is_nonzero p q amounts c) i e q h) in
             let own : slip_at p q amounts c j ≡ i = rank_at (is_nonzero p q amounts c) i e q h in
             makes_like p _ _ _ _ (λ d k. wanted-sum j d there k ∙ ap (λ (s : ℕ). amount p amounts s d) own) (solved.makes j there)

@@ -13,7 +13,7 @@ use Rattle.chain.specs.Tests.{◌=?◌}
 use Rattle.chain.proofs.Rules.{eq_yes, eq_no, is_eq}
 use Rattle.digits.specs.Range.{sum_to, list_to, sign}
 use Rattle.digits.proofs.Blocks.{block_div, block_mod, sum_blocks}
-use Rattle.digits.proofs.Range.{sum_same, sum_single, sum-zero, le-sum, sign_pos, sign-some}
+use Rattle.digits.proofs.Range.{sum_same, sum_single, sum-zero, le_sum, sign_pos, sign_some}
 use Rattle.digits.proofs.Listed.{get_d_list}
 use Rattle.sheet.specs.Sheet.{amount}
 use Rattle.tables.proofs.Entries.{combined, combined_zero}
@@ -21,12 +21,12 @@ use Rattle.groups.specs.Groups.{group, inputs, selection, weigh}
 use Rattle.groups.proofs.Groups.{length-group}
 use Rattle.groups.proofs.Members.{exponent_in, selection_two}
 use Rattle.groups.proofs.Parts.{part_number, parts-sum}
-use Rattle.groups.proofs.Prepared.{selected, selection-long}
+use Rattle.groups.proofs.Prepared.{selected, selection_long}
 use Rattle.clumps.specs.Lists.{which, some_below}
 use Rattle.clumps.proofs.Lists.{get_d_map_in}
 use Rattle.clumps.proofs.Totals.{bit, total, total_at, total_which, Part, sum-part}
 use Rattle.clumps.proofs.Cut.{Proper}
-use Rattle.clumps.proofs.Chosen.{chosen-proper}
+use Rattle.clumps.proofs.Chosen.{chosen_proper}
 use Rattle.clumps.proofs.Ranked.{which_item, some-sum}
 use Rattle.clumping.specs.Clumping.{is_nonzero, nonzero, parts_of, sheet_groups, used, uses, wanted}
 
@@ -35,9 +35,9 @@ bit_not_zero : (t : ℕ) → bit (not (t =? 0)) ≡ sign t
 bit_not_zero zero = rw (eq_yes 0 0 refl)
 bit_not_zero (suc t) = rw (eq_no (suc t) 0 (λ e. omega arith))
 
-sign-none : (x : ℕ) → sign x ≡ 0 → x ≡ 0
-sign-none zero e = refl
-sign-none (suc x) e = absurd (omega arith)
+sign_none : (x : ℕ) → sign x ≡ 0 → x ≡ 0
+sign_none zero e = refl
+sign_none (suc x) e = absurd (omega arith)
 
 and_false : (s : Bool) → bit (s && false) ≡ 0
 and_false true = refl
@@ -66,7 +66,7 @@ module _ (p q : ℕ) (amounts : List ℕ) (c : ℕ) where
   number_at i g h = get_d_list G _ 0 g h
 
   number_low : (i g : ℕ) → number i g < 2 ^ (1 * length (group c g (inputs p q amounts)))
-  number_low i g = part_number c (inputs p q amounts) (selection p q amounts i) (selection-long p q amounts i) (selection_two p q amounts i) g
+  number_low i g = part_number c (inputs p q amounts) (selection p q amounts i) (selection_long p q amounts i) (selection_two p q amounts i) g
 
   number_small : (i g : ℕ) → number i g < B
   number_small i g =
@@ -101,9 +101,9 @@ module _ (p q : ℕ) (amounts : List ℕ) (c : ℕ) where
   abbrev pub someone : ℕ → Bool
   someone k = some_below (λ i. uses p q amounts c (get_or (list_to q (parts_of p q amounts c)) i []) k) q
 
-  pub used-is : U ≡ which someone (G * B)
+  pub used_is : U ≡ which someone (G * B)
   unfolding used
-  used-is = refl
+  used_is = refl
 
   pub someone_sum : (k : ℕ) → bit (someone k) ≡ sign (sum_to q (λ i. bit (mine i k)))
   someone_sum k =
@@ -113,7 +113,7 @@ module _ (p q : ℕ) (amounts : List ℕ) (c : ℕ) where
   -- the sum over those that payslip i uses
   used_total : (f : ℕ → ℕ) (i : ℕ) → i < q → total (λ k. bit (mine i k) * f k) U ≡ sum_to G (λ g. sign (number i g) * f (g * B + number i g))
   used_total f i h =
-      ap (total (λ k. bit (mine i k) * f k)) used-is
+      ap (total (λ k. bit (mine i k) * f k)) used_is
       ∙ total_which (λ k. bit (mine i k) * f k) someone (G * B)
       ∙ sum_same (G * B) _ _ (λ k g. there k (mine i k) refl)
       ∙ slip_parts f i
@@ -121,7 +121,7 @@ module _ (p q : ℕ) (amounts : List ℕ) (c : ℕ) where
       there : (k : ℕ) (t : Bool) → mine i k ≡ t → bit (someone k) * (bit (mine i k) * f k) ≡ bit (mine i k) * f k
       there k true e =
           let found : bit (someone k) ≡ 1 =
-          someone_sum k ∙ sign-some (sum_to q (λ i. bit (mine i k))) (omega (arith, le-sum q (λ i. bit (mine i k)) i h, ap bit e)) in
+          someone_sum k ∙ sign_some (sum_to q (λ i. bit (mine i k))) (omega (arith, le_sum q (λ i. bit (mine i k)) i h, ap bit e)) in
           ap (λ (b : ℕ). b * (bit (mine i k) * f k)) found ∙ one-mul _
       there k false e =
           let z : bit (mine i k) * f k ≡ 0 = ap (λ (b : Bool). bit b * f k) e ∙ zero-mul (f k) in
@@ -139,26 +139,26 @@ module _ (p q : ℕ) (amounts : List ℕ) (c : ℕ) where
       ∙ sym (total_at (λ k. bit (mine i k) * f k) U 0)
       ∙ used_total f i h
 
-  pub wanted-is : wanted p q amounts c ≡ map of_slip (nonzero p q amounts c q)
+  pub wanted_is : wanted p q amounts c ≡ map of_slip (nonzero p q amounts c q)
   unfolding wanted
-  wanted-is = refl
+  wanted_is = refl
 
-  pub wanted-count : length (wanted p q amounts c) ≡ length (nonzero p q amounts c q)
-  wanted-count = ap length wanted-is ∙ length-map (nonzero p q amounts c q) of_slip
+  pub wanted_count : length (wanted p q amounts c) ≡ length (nonzero p q amounts c q)
+  wanted_count = ap length wanted_is ∙ length-map (nonzero p q amounts c q) of_slip
 
   -- payslip number j of those that are not zero
   abbrev pub slip_at : ℕ → ℕ
   slip_at j = get_or (nonzero p q amounts c q) j 0
 
   pub slip_below : (j : ℕ) → j < length (wanted p q amounts c) → slip_at j < q
-  slip_below j h = (which_item (is_nonzero p q amounts c) q j (rw wanted-count at h)).0
+  slip_below j h = (which_item (is_nonzero p q amounts c) q j (rw wanted_count at h)).0
 
   pub wanted_at : (j : ℕ) → j < length (wanted p q amounts c) → get_or (wanted p q amounts c) j [] ≡ of_slip (slip_at j)
   wanted_at j h =
-      ap (λ (l : List (List ℕ)). get_or l j []) wanted-is ∙ get_d_map_in of_slip (nonzero p q amounts c q) j 0 [] (rw wanted-count at h)
+      ap (λ (l : List (List ℕ)). get_or l j []) wanted_is ∙ get_d_map_in of_slip (nonzero p q amounts c q) j 0 [] (rw wanted_count at h)
 
-  pub wanted-proper : (j : ℕ) → j < length (wanted p q amounts c) → Proper (length U) (get_or (wanted p q amounts c) j [])
-  wanted-proper j h = rw (wanted_at j h) (chosen-proper (λ x. mine (slip_at j) (get_or U x 0)) (length U))
+  pub wanted_proper : (j : ℕ) → j < length (wanted p q amounts c) → Proper (length U) (get_or (wanted p q amounts c) j [])
+  wanted_proper j h = rw (wanted_at j h) (chosen_proper (λ x. mine (slip_at j) (get_or U x 0)) (length U))
 
   -- an input is a part of a group
   pub record OfGroup (k : ℕ) : Type 0 where
@@ -166,7 +166,7 @@ module _ (p q : ℕ) (amounts : List ℕ) (c : ℕ) where
     pub number_fits : k % B < 2 ^ (1 * length (group c (k / B) (inputs p q amounts)))
 
   pub input_part : (x : ℕ) → x < length U → OfGroup (get_or U x 0)
-  input_part x h = found (get_or U x 0) (rw used-is (which_item someone (G * B) x (rw used-is at h)))
+  input_part x h = found (get_or U x 0) (rw used_is (which_item someone (G * B) x (rw used_is at h)))
     where
       found : (k : ℕ) → (k < G * B) × (someone k ≡ true) → OfGroup k
       found k r =
@@ -216,19 +216,19 @@ module _ (p q : ℕ) (amounts : List ℕ) (c : ℕ) where
   module _ (some : 1 ≤ c) where
     groups_amount : (i d : ℕ) → i < q → d < p → sum_to G (λ g. group_exponent g (number i g) d) ≡ amount p amounts i d
     groups_amount i d h k =
-        parts-sum c (inputs p q amounts) (selection p q amounts i) (selection-long p q amounts i) (selection_two p q amounts i) (exponent_in p q amounts) G d
+        parts-sum c (inputs p q amounts) (selection p q amounts i) (selection_long p q amounts i) (selection_two p q amounts i) (exponent_in p q amounts) G d
         ∙ selected p q amounts c some i d h k
 
     -- a payslip that is not nonzero has no amount that is not 0
-    pub zero-amount : (i d : ℕ) → i < q → d < p → is_nonzero p q amounts c i ≡ false → amount p amounts i d ≡ 0
-    zero-amount i d h k e =
+    pub zero_amount : (i d : ℕ) → i < q → d < p → is_nonzero p q amounts c i ≡ false → amount p amounts i d ≡ 0
+    zero_amount i d h k e =
         sym (groups_amount i d h k) ∙ sum-zero G _ (λ g l. ap (λ (t : ℕ). group_exponent g t d) (empty g l) ∙ nothing g d)
       where
         empty : (g : ℕ) → g < G → number i g ≡ 0
         empty g l =
             let sum : ℕ = sum_to G (λ g. sign (number i g)) in
-            let none : sum ≡ 0 = sign-none sum (sym (nonzero-sum i) ∙ ap bit e) in
-            sign-none (number i g) (omega (arith, none, le-sum G (λ g. sign (number i g)) g l))
+            let none : sum ≡ 0 = sign_none sum (sym (nonzero-sum i) ∙ ap bit e) in
+            sign_none (number i g) (omega (arith, none, le_sum G (λ g. sign (number i g)) g l))
 
     -- an output asks for its payslip's amounts
     pub slip_sum : (i d : ℕ) → i < q → d < p → total (λ x. get_or (used_exponents d) x 0) (of_slip i) ≡ amount p amounts i d

@@ -8,13 +8,13 @@ use native.Mathlib.Nat.{mul-one, one-mul}
 use native.Mathlib.Omega.{arith}
 use lib.ListN.{length}
 use Rattle.digits.specs.Range.{sum_to, sign}
-use Rattle.digits.proofs.Range.{sum_same, sum_low, sum-le, sum-swap, sign_le, signs_low}
+use Rattle.digits.proofs.Range.{sum_same, sum_low, sum_le, sum_swap, sign_le, signs_low}
 use Rattle.clumps.proofs.Totals.{bit, total_map, total_which, length_total}
 use Rattle.clumps.proofs.Chosen.{chosen-length}
-use Rattle.clumps.proofs.Ranked.{which-few}
+use Rattle.clumps.proofs.Ranked.{which_few}
 use Rattle.clumps.proofs.Sizes.{size_of}
 use Rattle.clumping.specs.Clumping.{is_nonzero, nonzero, parts_of, sheet_groups, used, uses, wanted}
-use Rattle.clumping.proofs.Parts.{nonzero-sum, number, of_slip, slip_parts, slip_total, someone, someone_sum, used-is, wanted-count, wanted-is}
+use Rattle.clumping.proofs.Parts.{nonzero-sum, number, of_slip, slip_parts, slip_total, someone, someone_sum, used_is, wanted_count, wanted_is}
 
 module _ (p q : ℕ) (amounts : List ℕ) (c : ℕ) where
   abbrev G : ℕ
@@ -31,9 +31,9 @@ module _ (p q : ℕ) (amounts : List ℕ) (c : ℕ) where
       ∙ sum_same G _ _ (λ g l. mul-one (sign (number p q amounts c i g)))
 
   -- the incidences
-  wanted-size : size_of (wanted p q amounts c) ≡ sum_to q filled
-  wanted-size =
-      ap size_of (wanted-is p q amounts c)
+  wanted_size : size_of (wanted p q amounts c) ≡ sum_to q filled
+  wanted_size =
+      ap size_of (wanted_is p q amounts c)
       ∙ total_map length (of_slip p q amounts c) (nonzero p q amounts c q)
       ∙ total_which (λ i. length (of_slip p q amounts c i)) (is_nonzero p q amounts c) q
       ∙ sum_same q _ _ (λ i h. ap (λ (k : ℕ). bit (is_nonzero p q amounts c i) * k) (slip_length i h)
@@ -43,26 +43,26 @@ module _ (p q : ℕ) (amounts : List ℕ) (c : ℕ) where
       own zero = refl
       own (suc x) = one-mul (suc x)
 
-  pub wanted-low : size_of (wanted p q amounts c) ≤ q * G
-  wanted-low = omega (arith, wanted-size, sum_low q filled G (λ i h. signs_low G (number p q amounts c i)))
+  pub wanted_low : size_of (wanted p q amounts c) ≤ q * G
+  wanted_low = omega (arith, wanted_size, sum_low q filled G (λ i h. signs_low G (number p q amounts c i)))
 
-  pub wanted-few : length (wanted p q amounts c) ≤ q
-  wanted-few = omega (arith, wanted-count p q amounts c, which-few (is_nonzero p q amounts c) q)
+  pub wanted_few : length (wanted p q amounts c) ≤ q
+  wanted_few = omega (arith, wanted_count p q amounts c, which_few (is_nonzero p q amounts c) q)
 
-  pub used-few : length (used p q amounts c) ≤ G * 2 ^ c
-  used-few = rw (used-is p q amounts c) (which-few (someone p q amounts c) (G * 2 ^ c))
+  pub used_few : length (used p q amounts c) ≤ G * 2 ^ c
+  used_few = rw (used_is p q amounts c) (which_few (someone p q amounts c) (G * 2 ^ c))
 
   -- each part that is used is used by a payslip
-  pub used-wanted : length (used p q amounts c) ≤ size_of (wanted p q amounts c)
-  used-wanted =
+  pub used_wanted : length (used p q amounts c) ≤ size_of (wanted p q amounts c)
+  used_wanted =
       omega (
         arith,
-        ap length (used-is p q amounts c),
+        ap length (used_is p q amounts c),
         chosen-length (someone p q amounts c) (G * 2 ^ c),
-        sum-le (G * 2 ^ c) (λ k. bit (someone p q amounts c k)) users (λ k h. omega (arith, someone_sum p q amounts c k, sign_le (users k))),
-        sum-swap (G * 2 ^ c) q (λ k i. bit (mine i k)),
+        sum_le (G * 2 ^ c) (λ k. bit (someone p q amounts c k)) users (λ k h. omega (arith, someone_sum p q amounts c k, sign_le (users k))),
+        sum_swap (G * 2 ^ c) q (λ k i. bit (mine i k)),
         sum_same q _ _ (λ i h. parts i),
-        wanted-size,
+        wanted_size,
       )
     where
       mine : ℕ → ℕ → Bool

@@ -13,7 +13,7 @@ use Rattle.chain.specs.declared.Step.{Step}
 use Rattle.chain.proofs.Picked.{length-pick}
 use Rattle.chain.proofs.Rules.{eq_no}
 use Rattle.digits.specs.Range.{sum_to, sign}
-use Rattle.digits.proofs.Range.{sum_same, sum-zero, sum-add, sum-le, sum-swap, sum_single, sign_low, sign_le}
+use Rattle.digits.proofs.Range.{sum_same, sum-zero, sum-add, sum_le, sum_swap, sum_single, sign_low, sign_le}
 use Rattle.products.specs.Product.{Made, made, times, payslips}
 use Rattle.products.proofs.Product.{times_cost}
 use Rattle.clumps.specs.Lists.{has, having}
@@ -21,13 +21,13 @@ use Rattle.clumps.specs.Clumps.{Level, overflow_of, clumps_in}
 use Rattle.clumps.specs.Levels.{product, products, separately, output_cut, output_rest, next_outputs, factors, input_cut, next_inputs}
 use Rattle.clumps.specs.Levels.{clump_outputs, clump_inputs}
 use Rattle.clumps.specs.Inner.{most_out, most_in}
-use Rattle.clumps.proofs.Totals.{bit, bit-low, total_list}
+use Rattle.clumps.proofs.Totals.{bit, bit_low, total_list}
 use Rattle.clumps.proofs.Often.{often, among_often}
 use Rattle.clumps.proofs.Cut.{Proper}
 use Rattle.clumps.proofs.Chosen.{chosen-length}
-use Rattle.clumps.proofs.Outputs.{output_cuts, next-proper}
-use Rattle.clumps.proofs.Inputs.{next-inputs-proper}
-use Rattle.clumps.proofs.Sizes.{size_of, size_at, entered-members, outputs-cut, next_halved, input_clumps-size, next-inputs-low}
+use Rattle.clumps.proofs.Outputs.{output_cuts, next_proper}
+use Rattle.clumps.proofs.Inputs.{next_inputs_proper}
+use Rattle.clumps.proofs.Sizes.{size_of, size_at, entered_members, outputs_cut, next_halved, input_clumps_size, next_inputs_low}
 
 -- b at least 2
 abbrev pub Pairs : List Level → Type 0
@@ -58,16 +58,16 @@ often_low n (x ∷ s) = omega (arith, sum-add n (λ j. bit (j =? x)) (λ j. ofte
     none j ne = ap bit (eq_no j x ne)
 
     one : Dec (x < n) → sum_to n (λ j. bit (j =? x)) ≤ 1
-    one (yes lt) = omega (arith, sum_single n (λ j. bit (j =? x)) x lt (λ j h ne. none j ne), bit-low (x =? x))
+    one (yes lt) = omega (arith, sum_single n (λ j. bit (j =? x)) x lt (λ j h ne. none j ne), bit_low (x =? x))
     one (no ge) = omega (arith, sum-zero n (λ j. bit (j =? x)) (λ j h. none j (λ e. omega arith)))
 
-having-low : (n : ℕ) (lists : List (List ℕ)) → sum_to n (λ j. length (having lists j)) ≤ size_of lists
-having-low n lists =
+having_low : (n : ℕ) (lists : List (List ℕ)) → sum_to n (λ j. length (having lists j)) ≤ size_of lists
+having_low n lists =
     omega (
       arith,
       sum_same n _ _ (λ j h. chosen-length (λ x. has j (get_or lists x [])) (length lists)),
-      sum-swap n (length lists) (λ j x. bit (has j (get_or lists x []))),
-      sum-le (length lists) (λ x. sum_to n (λ j. bit (has j (get_or lists x [])))) (λ x. length (get_or lists x [])) (λ x h. one (get_or lists x [])),
+      sum_swap n (length lists) (λ j x. bit (has j (get_or lists x []))),
+      sum_le (length lists) (λ x. sum_to n (λ j. bit (has j (get_or lists x [])))) (λ x. length (get_or lists x [])) (λ x h. one (get_or lists x [])),
       size_at lists,
     )
   where
@@ -75,20 +75,20 @@ having-low n lists =
     one s =
         omega (
           arith,
-          sum-le n (λ j. bit (has j s)) (λ j. often ◌=?◌ j s) (λ j h. omega (arith, among_often ◌=?◌ j s, sign_le (often ◌=?◌ j s))),
+          sum_le n (λ j. bit (has j s)) (λ j. often ◌=?◌ j s) (λ j h. omega (arith, among_often ◌=?◌ j s, sign_le (often ◌=?◌ j s))),
           often_low n s,
         )
 
 -- an output level's factors are no more than the incidences
 module _ (l : Level) (n : ℕ) (outs : List (List ℕ)) where
-  rest-size : size_of (output_rest l n outs) ≡ sum_to n (λ i. length (overflow_of l (length outs) (having outs i)))
+  rest_size : size_of (output_rest l n outs) ≡ sum_to n (λ i. length (overflow_of l (length outs) (having outs i)))
   unfolding output_rest
-  rest-size = total_list length n _
+  rest_size = total_list length n _
 
-  factors-size : (ins values : List ℕ) → size_of (factors l n outs ins values)
+  factors_size : (ins values : List ℕ) → size_of (factors l n outs ins values)
       ≡ sum_to (length outs) (λ j. length (having (clumps_in (output_cut l n outs)) j)) + sum_to (length outs) (λ j. length (having (output_rest l n outs) j))
   unfolding factors
-  factors-size ins values =
+  factors_size ins values =
       total_list length (length outs) _
       ∙ sum_same (length outs) _ _ (λ j h. length-append (pick values (having clumps j)) (pick ins (having rest j))
       ∙ ap₂ ◌+◌ (length-pick values (having clumps j)) (length-pick ins (having rest j)))
@@ -100,25 +100,25 @@ module _ (l : Level) (n : ℕ) (outs : List (List ℕ)) where
       rest : List (List ℕ)
       rest = output_rest l n outs
 
-  pub factors-low : 1 ≤ l.a → 1 ≤ l.b → ((j : ℕ) → j < length outs → Proper n (get_or outs j []))
+  pub factors_low : 1 ≤ l.a → 1 ≤ l.b → ((j : ℕ) → j < length outs → Proper n (get_or outs j []))
       → (ins values : List ℕ) → size_of (factors l n outs ins values) ≤ size_of outs
-  factors-low somea someb proper ins values =
+  factors_low somea someb proper ins values =
       omega (
         arith,
-        factors-size ins values,
-        having-low (length outs) (clumps_in (output_cut l n outs)),
-        having-low (length outs) (output_rest l n outs),
-        entered-members (output_cuts l n outs somea someb),
-        rest-size,
-        outputs-cut l n outs somea someb proper,
+        factors_size ins values,
+        having_low (length outs) (clumps_in (output_cut l n outs)),
+        having_low (length outs) (output_rest l n outs),
+        entered_members (output_cuts l n outs somea someb),
+        rest_size,
+        outputs_cut l n outs somea someb proper,
       )
 
 -- a product has at most a step for each factor
-pub product-low : (p : ℕ) (m : Made) (vs : List ℕ) → length (product p m vs).steps ≤ length m.steps + length vs
-product-low p m [] = omega arith
-product-low p m (v ∷ vs) =
+pub product_low : (p : ℕ) (m : Made) (vs : List ℕ) → length (product p m vs).steps ≤ length m.steps + length vs
+product_low p m [] = omega arith
+product_low p m (v ∷ vs) =
     let one : sign m.value * sign v ≤ 1 * 1 = mul-le-mul (sign_low m.value) (sign_low v) in
-    omega (arith, product-low p (times p m v) vs, (times_cost p m v).count, one)
+    omega (arith, product_low p (times p m v) vs, (times_cost p m v).count, one)
 
 products_low : (p : ℕ) (lists : List (List ℕ)) (before : List Step) → length (products p lists before).steps ≤ length before + size_of lists
 products_low p lists before = omega (arith, low (length lists), size_at lists)
@@ -128,7 +128,7 @@ products_low p lists before = omega (arith, low (length lists), size_at lists)
 
     low : (n : ℕ) → length (payslips slip before n).steps ≤ length before + sum_to n (λ j. length (get_or lists j []))
     low zero = omega arith
-    low (suc n) = omega (arith, low n, product-low p (made (payslips slip before n).steps 0) (get_or lists n []))
+    low (suc n) = omega (arith, low n, product_low p (made (payslips slip before n).steps 0) (get_or lists n []))
 
 -- what is made separately
 pub separate_low : (p : ℕ) (ins : List ℕ) (outs : List (List ℕ)) (before : List Step) → length (separately p ins outs before).steps ≤ length before + size_of outs
@@ -160,10 +160,10 @@ mutual
       let n : ℕ = length ins in
       let next : List (List ℕ) = next_outputs l n outs in
       let inner : Chain = clump_inputs levels p ins next before in
-      let first = steps_in_lem levels s.2 p ins next before (next-proper l n outs) in
+      let first = steps_in_lem levels s.2 p ins next before (next_proper l n outs) in
       let few = most_in_lem levels (size_of next) (size_of outs / 2) (halved l.b (size_of next) (size_of outs) s.1 (next_halved l n outs s.0 someb proper)) in
       let last = products_low p (factors l n outs ins inner.outputs) inner.steps in
-      omega (arith, first, few, last, factors-low l n outs s.0 someb proper ins inner.outputs)
+      omega (arith, first, few, last, factors_low l n outs s.0 someb proper ins inner.outputs)
 
   pub steps_in_lem : (levels : List Level) → Pairs levels → (p : ℕ) (ins : List ℕ) (outs : List (List ℕ)) (before : List Step)
       → ((j : ℕ) → j < length outs → Proper (length ins) (get_or outs j []))
@@ -177,6 +177,6 @@ mutual
       let next : List (List ℕ) = next_inputs l n outs in
       let long : length (done.outputs ++ ins) ≡ length clumps + n =
       length-append done.outputs ins ∙ ap (λ (k : ℕ). k + n) (payslips-length _ before (length (map (pick ins) clumps)) ∙ length-map clumps (pick ins)) in
-      let rest = steps_out levels s.2 p (done.outputs ++ ins) next done.steps (λ j h. rw long (next-inputs-proper l n outs s.0 someb proper j h)) in
-      let few = most_out_lem levels (size_of next) (size_of outs) (next-inputs-low l n outs s.0 someb proper) in
-      omega (arith, separate_low p ins clumps before, input_clumps-size l n outs s.0 someb proper, rest, few)
+      let rest = steps_out levels s.2 p (done.outputs ++ ins) next done.steps (λ j h. rw long (next_inputs_proper l n outs s.0 someb proper j h)) in
+      let few = most_out_lem levels (size_of next) (size_of outs) (next_inputs_low l n outs s.0 someb proper) in
+      omega (arith, separate_low p ins clumps before, input_clumps_size l n outs s.0 someb proper, rest, few)

@@ -13,7 +13,7 @@ use Rattle.chain.proofs.Rules.{eq_yes, eq_no}
 use Rattle.digits.specs.Range.{sum_to, sign}
 use Rattle.digits.proofs.Range.{sum_same, sum-zero, sum-add, sum_single}
 use Rattle.clumps.specs.Lists.{which, has}
-use Rattle.clumps.proofs.Totals.{bit, bit-low, total, total_which, length_total}
+use Rattle.clumps.proofs.Totals.{bit, bit_low, total, total_which, length_total}
 use Rattle.clumps.proofs.Often.{often, number_tells, often_first, among_often, sign_once}
 use Rattle.clumps.proofs.Cut.{Proper, member_below}
 
@@ -37,21 +37,21 @@ module _ (test : ℕ → Bool) (n : ℕ) where
   often_beyond : (x : ℕ) → n ≤ x → often ◌=?◌ x (which test n) ≡ 0
   often_beyond x h = total_which _ test n ∙ sum-zero n _ (λ i g. other x i (λ e. omega arith))
 
-  pub chosen-proper : Proper n (which test n)
-  chosen-proper = record { once = λ x. low x (dec_lt x n); inside = often_beyond }
+  pub chosen_proper : Proper n (which test n)
+  chosen_proper = record { once = λ x. low x (dec_lt x n); inside = often_beyond }
     where
       low : (x : ℕ) → Dec (x < n) → often ◌=?◌ x (which test n) ≤ 1
-      low x (yes lt) = omega (arith, often_chosen x lt, bit-low (test x))
+      low x (yes lt) = omega (arith, often_chosen x lt, bit_low (test x))
       low x (no ge) = omega (arith, often_beyond x (omega arith))
 
-  pub chosen-below : (x : ℕ) → 0 < often ◌=?◌ x (which test n) → x < n
-  chosen-below = member_below n (which test n) often_beyond
+  pub chosen_below : (x : ℕ) → 0 < often ◌=?◌ x (which test n) → x < n
+  chosen_below = member_below n (which test n) often_beyond
 
   -- a number below n is among them exactly if it passes
   pub has_chosen : (x : ℕ) → x < n → has x (which test n) ≡ test x
   has_chosen x h =
       bit_tells (has x (which test n)) (test x)
-      (among_often ◌=?◌ x (which test n) ∙ ap sign (often_chosen x h) ∙ sign_once (bit (test x)) (bit-low (test x)))
+      (among_often ◌=?◌ x (which test n) ∙ ap sign (often_chosen x h) ∙ sign_once (bit (test x)) (bit_low (test x)))
 
   pub chosen-length : length (which test n) ≡ sum_to n (λ i. bit (test i))
   chosen-length = length_total (which test n) ∙ total_which (λ i. 1) test n ∙ sum_same n _ _ (λ i h. mul-one (bit (test i)))

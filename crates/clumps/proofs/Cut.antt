@@ -34,8 +34,8 @@ member_below n s inside x h = by_place (dec_lt x n)
     by_place (no ge) = absurd (omega (arith, inside x (omega arith)))
 
 -- an index below n lies in one of the parts
-pub part-below : (a n x : ℕ) → 1 ≤ a → x < n → x / a < group_count a n
-part-below a n x some h = by_place (dec_lt (x / a) (group_count a n))
+pub part_below : (a n x : ℕ) → 1 ≤ a → x < n → x / a < group_count a n
+part_below a n x some h = by_place (dec_lt (x / a) (group_count a n))
   where
     by_place : Dec (x / a < group_count a n) → x / a < group_count a n
     by_place (yes lt) = lt
@@ -98,12 +98,12 @@ module _ (l : Level) (n : ℕ) (s : List ℕ) where
       ap₂ ◌+◌ (total_joined (total f) parts (λ k. taken l.b (here k))) (total_joined f parts (λ k. remainder l.b (here k)))
       ∙ sym (sum-add parts _ _)
       ∙ sum_same parts _ _ (λ k h. taken_total f l.b (here k))
-      ∙ parts_total f l.a parts s (λ x h. part-below l.a n x some (member_below n s inside x h))
+      ∙ parts_total f l.a parts s (λ x h. part_below l.a n x some (member_below n s inside x h))
 
   -- what is the same of all lists of b members is the same of the clumps
-  pub clumps-same : (f g : List ℕ → ℕ) → ((u : List ℕ) → length u ≡ l.b → f u ≡ g u) → total f (clumps_of l n s) ≡ total g (clumps_of l n s)
+  pub clumps_same : (f g : List ℕ → ℕ) → ((u : List ℕ) → length u ≡ l.b → f u ≡ g u) → total f (clumps_of l n s) ≡ total g (clumps_of l n s)
   unfolding clumps_of
-  clumps-same f g e =
+  clumps_same f g e =
       total_joined f parts (λ k. taken l.b (here k))
       ∙ sum_same parts _ _ (λ k h. part k)
       ∙ sym (total_joined g parts (λ k. taken l.b (here k)))
@@ -116,9 +116,9 @@ module _ (l : Level) (n : ℕ) (s : List ℕ) where
           ∙ sym (total_list g m (λ i. group l.b i (here k)))
 
   -- no clump is empty
-  pub clumps-some : 1 ≤ l.b → often equal [] (clumps_of l n s) ≡ 0
-  clumps-some some =
-      clumps-same (λ u. bit (equal [] u)) (λ u. 0) not_empty ∙ total_zero (λ (u : List ℕ). 0) (clumps_of l n s) (λ u. refl)
+  pub clumps_some : 1 ≤ l.b → often equal [] (clumps_of l n s) ≡ 0
+  clumps_some some =
+      clumps_same (λ u. bit (equal [] u)) (λ u. 0) not_empty ∙ total_zero (λ (u : List ℕ). 0) (clumps_of l n s) (λ u. refl)
     where
       not_empty : (u : List ℕ) → length u ≡ l.b → bit (equal [] u) ≡ 0
       not_empty [] e = absurd (omega arith)
@@ -134,5 +134,5 @@ module _ (l : Level) (n : ℕ) (s : List ℕ) where
 
   -- no clump comes twice
   pub clumps_once : 1 ≤ l.a → 1 ≤ l.b → Proper n s → (u : List ℕ) → often equal u (clumps_of l n s) ≤ 1
-  clumps_once somea someb proper [] = omega (arith, clumps-some someb)
+  clumps_once somea someb proper [] = omega (arith, clumps_some someb)
   clumps_once somea someb proper (j ∷ u) = omega (arith, clump_part somea proper.inside j u, proper.once j)

@@ -22,8 +22,8 @@ use Rattle.clumps.specs.Levels.{separately, input_cut, next_inputs}
 use Rattle.clumps.proofs.Totals.{bit, total, total_append, total_same, total_zero, total_map, total_at, total_which}
 use Rattle.clumps.proofs.Often.{often, members_tell, often_le}
 use Rattle.clumps.proofs.Cut.{Proper, cut_total}
-use Rattle.clumps.proofs.Chosen.{chosen-proper}
-use Rattle.clumps.proofs.Together.{CutLists, owner, clumps-gather}
+use Rattle.clumps.proofs.Chosen.{chosen_proper}
+use Rattle.clumps.proofs.Together.{CutLists, owner, clumps_gather}
 use Rattle.clumps.proofs.Products.{Given, sum_of, Posed, Solved, picked_solved}
 
 -- numbers raised by K
@@ -55,18 +55,18 @@ module _ (l : Level) (n : ℕ) (outs : List (List ℕ)) where
   abbrev pub by_clumps : ℕ → List ℕ
   by_clumps j = which (λ x. holds (get_or D x []) (get_or cut j [])) K
 
-  pub next-inputs-count : length (next_inputs l n outs) ≡ length outs
+  pub next_inputs_count : length (next_inputs l n outs) ≡ length outs
   unfolding next_inputs
-  next-inputs-count = length-list (length outs) _
+  next_inputs_count = length-list (length outs) _
 
-  pub next-inputs_at : (j : ℕ) → j < length outs → get_or (next_inputs l n outs) j [] ≡ by_clumps j ++ map (λ i. K + i) (R j)
+  pub next_inputs_at : (j : ℕ) → j < length outs → get_or (next_inputs l n outs) j [] ≡ by_clumps j ++ map (λ i. K + i) (R j)
   unfolding next_inputs
-  next-inputs_at j h = get_d_list (length outs) _ [] j h
+  next_inputs_at j h = get_d_list (length outs) _ [] j h
 
   module _ (somea : 1 ≤ l.a) (someb : 1 ≤ l.b) (proper : (j : ℕ) → j < length outs → Proper n (get_or outs j [])) where
     pub input_cuts : CutLists l n (length outs) (λ j. get_or outs j []) cut
     unfolding input_cut
-    input_cuts = record { some-a = somea; some-b = someb; proper = proper; is = refl }
+    input_cuts = record { some_a = somea; some_b = someb; proper = proper; is = refl }
 
     -- a clump has no more than some output
     clump_within : (f : ℕ → ℕ) (x : ℕ) (h : x < K) → total f (get_or D x []) ≤ total f (get_or outs (owner input_cuts x h).place [])
@@ -76,8 +76,8 @@ module _ (l : Level) (n : ℕ) (outs : List (List ℕ)) where
         let part = often_le equal members_tell (total f) (get_or D x []) (clumps_of l n out) o.some in
         omega (arith, part, cut_total l n out somea (proper o.place o.below).inside f)
 
-    clumps-proper : (x : ℕ) → x < K → Proper n (get_or D x [])
-    clumps-proper x h =
+    clumps_proper : (x : ℕ) → x < K → Proper n (get_or D x [])
+    clumps_proper x h =
         let o = owner input_cuts x h in
         let own = proper o.place o.below in
         record {
@@ -85,17 +85,17 @@ module _ (l : Level) (n : ℕ) (outs : List (List ℕ)) where
           inside = λ z g. omega (arith, clump_within (λ i. bit (z =? i)) x h, own.inside z g);
         }
 
-    clumps-low : (f : ℕ → ℕ) (limit : ℕ) → ((j : ℕ) → j < length outs → total f (get_or outs j []) ≤ limit) → (x : ℕ) → x < K → total f (get_or D x []) ≤ limit
-    clumps-low f limit low x h = let o = owner input_cuts x h in omega (arith, clump_within f x h, low o.place o.below)
+    clumps_low : (f : ℕ → ℕ) (limit : ℕ) → ((j : ℕ) → j < length outs → total f (get_or outs j []) ≤ limit) → (x : ℕ) → x < K → total f (get_or D x []) ≤ limit
+    clumps_low f limit low x h = let o = owner input_cuts x h in omega (arith, clump_within f x h, low o.place o.below)
 
-    pub next-inputs-proper : (j : ℕ) → j < length (next_inputs l n outs) → Proper (K + n) (get_or (next_inputs l n outs) j [])
-    next-inputs-proper j g = rw (next-inputs_at j h) (record { once = λ z. once z (dec_lt z K); inside = inside })
+    pub next_inputs_proper : (j : ℕ) → j < length (next_inputs l n outs) → Proper (K + n) (get_or (next_inputs l n outs) j [])
+    next_inputs_proper j g = rw (next_inputs_at j h) (record { once = λ z. once z (dec_lt z K); inside = inside })
       where
         h : j < length outs
-        h = omega (arith, next-inputs-count)
+        h = omega (arith, next_inputs_count)
 
         chosen : Proper K (by_clumps j)
-        chosen = chosen-proper (λ x. holds (get_or D x []) (get_or cut j [])) K
+        chosen = chosen_proper (λ x. holds (get_or D x []) (get_or cut j [])) K
 
         both : (z : ℕ) → often ◌=?◌ z (by_clumps j ++ map (λ i. K + i) (R j)) ≡ often ◌=?◌ z (by_clumps j) + often ◌=?◌ z (map (λ i. K + i) (R j))
         both z = total_append _ (by_clumps j) _
@@ -114,10 +114,10 @@ module _ (l : Level) (n : ℕ) (outs : List (List ℕ)) where
             omega (arith, both z, raised_behind K (R j) z (omega arith), chosen.inside z (omega arith), rest_part (z - K), none)
 
     -- an output's clumps and overflow together, where v has the clumps' sums of f and behind them f
-    next-inputs-sum : (f v : ℕ → ℕ) → ((x : ℕ) → x < K → v x ≡ total f (get_or D x [])) → ((i : ℕ) → v (K + i) ≡ f i) → (j : ℕ) → j < length outs
+    next_inputs-sum : (f v : ℕ → ℕ) → ((x : ℕ) → x < K → v x ≡ total f (get_or D x [])) → ((i : ℕ) → v (K + i) ≡ f i) → (j : ℕ) → j < length outs
         → total v (get_or (next_inputs l n outs) j []) ≡ total f (get_or outs j [])
-    next-inputs-sum f v is behind j h =
-        ap (total v) (next-inputs_at j h)
+    next_inputs-sum f v is behind j h =
+        ap (total v) (next_inputs_at j h)
         ∙ total_append v (by_clumps j) _
         ∙ ap₂ ◌+◌ clumps (total_map v (λ i. K + i) (R j) ∙ total_same _ _ (R j) behind)
         ∙ cut_total l n (get_or outs j []) somea (proper j h).inside f
@@ -127,7 +127,7 @@ module _ (l : Level) (n : ℕ) (outs : List (List ℕ)) where
             total_which v (λ x. holds (get_or D x []) (get_or cut j [])) K
             ∙ sum_same K _ _ (λ x g. ap (λ (w : ℕ). bit (holds (get_or D x []) (get_or cut j [])) * w) (is x g))
             ∙ sym (total_at (λ u. bit (holds u (get_or cut j [])) * total f u) D [])
-            ∙ clumps-gather input_cuts (total f) j h
+            ∙ clumps_gather input_cuts (total f) j h
 
 -- a level of input clumping
 module _ (l : Level) (somea : 1 ≤ l.a) (someb : 1 ≤ l.b) (p limit : ℕ) (before : List Step) (ins : List ℕ) (y : ℕ → List ℕ) (outs : List (List ℕ))
@@ -148,8 +148,8 @@ module _ (l : Level) (somea : 1 ≤ l.a) (someb : 1 ≤ l.b) (p limit : ℕ) (be
         sound = posed.sound;
         given = posed.given;
         sizes = posed.sizes;
-        proper = clumps-proper l n outs somea someb posed.proper;
-        low = λ x d h g. clumps-low l n outs somea someb posed.proper (λ i. get_or (y d) i 0) limit (λ j k. posed.low j d k g) x h;
+        proper = clumps_proper l n outs somea someb posed.proper;
+        low = λ x d h g. clumps_low l n outs somea someb posed.proper (λ i. get_or (y d) i 0) limit (λ j k. posed.low j d k g) x h;
       }
 
   abbrev done : Chain
@@ -165,14 +165,14 @@ module _ (l : Level) (somea : 1 ≤ l.a) (someb : 1 ≤ l.b) (p limit : ℕ) (be
   abbrev next_exponents : ℕ → List ℕ
   next_exponents d = first d ++ y d
 
-  first-long : (d : ℕ) → length (first d) ≡ length clumps
-  first-long d = length-list (length clumps) _
+  first_long : (d : ℕ) → length (first d) ≡ length clumps
+  first_long d = length-list (length clumps) _
 
   first_at : (x d : ℕ) → x < length clumps → get_or (next_exponents d) x 0 ≡ sum_of y (get_or clumps x []) d
-  first_at x d h = get_or-append (first d) (y d) 0 x (omega (arith, first-long d)) ∙ get_d_list (length clumps) _ 0 x h
+  first_at x d h = get_or-append (first d) (y d) 0 x (omega (arith, first_long d)) ∙ get_d_list (length clumps) _ 0 x h
 
   then_at : (i d : ℕ) → get_or (next_exponents d) (length clumps + i) 0 ≡ get_or (y d) i 0
-  then_at i d = ap (λ (k : ℕ). get_or (next_exponents d) (k + i) 0) (sym (first-long d)) ∙ get_or-append-add (first d) (y d) i 0
+  then_at i d = ap (λ (k : ℕ). get_or (next_exponents d) (k + i) 0) (sym (first_long d)) ∙ get_or-append-add (first d) (y d) i 0
 
   next_given : Given p done.steps (done.outputs ++ ins) next_exponents
   next_given = record { makes = λ i h. by_place i h (dec_lt i (length clumps)) }
@@ -193,13 +193,13 @@ module _ (l : Level) (somea : 1 ≤ l.a) (someb : 1 ≤ l.b) (p limit : ℕ) (be
           (makes_like p _ _ _ _ (λ d g. sym (ap (λ (k : ℕ). get_or (next_exponents d) k 0) same ∙ then_at j d))
           (makes_on made.begins (posed.given.makes j here)))
 
-  next-is : (j d : ℕ) → j < length outs → sum_of next_exponents (get_or next j []) d ≡ sum_of y (get_or outs j []) d
-  next-is j d h =
-      next-inputs-sum l n outs somea someb posed.proper (λ i. get_or (y d) i 0) (λ i. get_or (next_exponents d) i 0)
+  next_is : (j d : ℕ) → j < length outs → sum_of next_exponents (get_or next j []) d ≡ sum_of y (get_or outs j []) d
+  next_is j d h =
+      next_inputs-sum l n outs somea someb posed.proper (λ i. get_or (y d) i 0) (λ i. get_or (next_exponents d) i 0)
       (λ x g. first_at x d g) (λ i. then_at i d) j h
 
   size : length next ≡ length outs
-  size = next-inputs-count l n outs
+  size = next_inputs_count l n outs
 
   long : length (done.outputs ++ ins) ≡ length clumps + n
   long = length-append done.outputs ins ∙ omega (arith, made.outputs)
@@ -209,9 +209,9 @@ module _ (l : Level) (somea : 1 ≤ l.a) (someb : 1 ≤ l.b) (p limit : ℕ) (be
       record {
         sound = made.sound;
         given = next_given;
-        sizes = λ d. length-append (first d) (y d) ∙ omega (arith, first-long d, posed.sizes d, long);
-        proper = λ j h. rw long (next-inputs-proper l n outs somea someb posed.proper j h);
-        low = λ j d h g. rw (next-is j d (omega (arith, size))) (posed.low j d (omega (arith, size)) g);
+        sizes = λ d. length-append (first d) (y d) ∙ omega (arith, first_long d, posed.sizes d, long);
+        proper = λ j h. rw long (next_inputs_proper l n outs somea someb posed.proper j h);
+        low = λ j d h g. rw (next_is j d (omega (arith, size))) (posed.low j d (omega (arith, size)) g);
       }
 
   pub inputs_solved : (chain : Chain) → Solved p limit done.steps next_exponents next chain → Solved p limit before y outs chain
@@ -220,5 +220,5 @@ module _ (l : Level) (somea : 1 ≤ l.a) (someb : 1 ≤ l.b) (p limit : ℕ) (be
         sound = r.sound;
         begins = begins_on made.begins r.begins;
         outputs = r.outputs ∙ size;
-        makes = λ j h. makes_like p _ _ _ _ (λ d g. next-is j d h) (r.makes j (omega (arith, size)));
+        makes = λ j h. makes_like p _ _ _ _ (λ d g. next_is j d h) (r.makes j (omega (arith, size)));
       }

@@ -57,13 +57,13 @@ module _ {A : Type 0} where
       ∙ ap (λ l. l ++ f (m + n)) (joined_split m n f)
       ∙ append_assoc (joined m f) (joined n (λ j. f (m + j))) (f (m + n))
 
-  pub joined-none : (n : ℕ) (f : ℕ → List A) → ((j : ℕ) → j < n → f j ≡ []) → joined n f ≡ []
-  joined-none zero f none = refl
-  joined-none (suc n) f none = ap₂ ◌++◌ (joined-none n f (λ j h. none j (omega arith))) (none n (omega arith))
+  pub joined_none : (n : ℕ) (f : ℕ → List A) → ((j : ℕ) → j < n → f j ≡ []) → joined n f ≡ []
+  joined_none zero f none = refl
+  joined_none (suc n) f none = ap₂ ◌++◌ (joined_none n f (λ j h. none j (omega arith))) (none n (omega arith))
 
 -- numbers that pass a test
-pub which-same : (n : ℕ) (s t : ℕ → Bool) → ((x : ℕ) → x < n → s x ≡ t x) → which s n ≡ which t n
-which-same n s t e = joined_same n _ _ (λ i h. ap (λ (b : Bool). cond b (i ∷ []) []) (e i h))
+pub which_same : (n : ℕ) (s t : ℕ → Bool) → ((x : ℕ) → x < n → s x ≡ t x) → which s n ≡ which t n
+which_same n s t e = joined_same n _ _ (λ i h. ap (λ (b : Bool). cond b (i ∷ []) []) (e i h))
 
 module _ (test : ℕ → Bool) (n : ℕ) where
   pub which_yes : test n ≡ true → which test (suc n) ≡ which test n ++ n ∷ []
@@ -80,22 +80,22 @@ module _ (test : ℕ → Bool) (n : ℕ) where
   which_without e = rw add-one (which_no e)
 
   -- how many they are grows by one, or not at all
-  pub which-count : length (which test (n + 1)) ≡ length (which test n) + cond (test n) 1 0
-  which-count = rw add-one (length-append (which test n) (cond (test n) (n ∷ []) []) ∙ ap (λ (k : ℕ). length (which test n) + k) (one (test n)))
+  pub which_count : length (which test (n + 1)) ≡ length (which test n) + cond (test n) 1 0
+  which_count = rw add-one (length-append (which test n) (cond (test n) (n ∷ []) []) ∙ ap (λ (k : ℕ). length (which test n) + k) (one (test n)))
     where
       one : (t : Bool) → length (cond t (n ∷ []) []) ≡ cond t 1 0
       one true = refl
       one false = refl
 
-pub which-more : (test : ℕ → Bool) (n d : ℕ) → length (which test n) ≤ length (which test (n + d))
-which-more test n zero = let e : n + 0 ≡ n = omega arith in rw e (le_refl (length (which test n)))
-which-more test n (suc d) =
+pub which_more : (test : ℕ → Bool) (n d : ℕ) → length (which test n) ≤ length (which test (n + d))
+which_more test n zero = let e : n + 0 ≡ n = omega arith in rw e (le_refl (length (which test n)))
+which_more test n (suc d) =
     let e : n + suc d ≡ n + d + 1 = omega arith in
-    rw e (omega (arith, which-more test n d, which-count test (n + d)))
+    rw e (omega (arith, which_more test n d, which_count test (n + d)))
 
-pub which-none : (test : ℕ → Bool) (n : ℕ) → ((x : ℕ) → x < n → test x ≡ false) → which test n ≡ []
-which-none test zero e = refl
-which-none test (suc n) e = which_no test n (e n (omega arith)) ∙ which-none test n (λ x h. e x (omega arith))
+pub which_none : (test : ℕ → Bool) (n : ℕ) → ((x : ℕ) → x < n → test x ≡ false) → which test n ≡ []
+which_none test zero e = refl
+which_none test (suc n) e = which_no test n (e n (omega arith)) ∙ which_none test n (λ x h. e x (omega arith))
 
 -- those of a list that pass a test
 pub only-append : (test : ℕ → Bool) (u v : List ℕ) → only test (u ++ v) ≡ only test u ++ only test v
@@ -107,11 +107,11 @@ only-append test (x ∷ u) v = by_test (test x) (only-append test u v)
     by_test true ih = ap (λ (l : List ℕ). x ∷ l) ih
     by_test false ih = ih
 
-pub only-all : (test : ℕ → Bool) (u : List ℕ) → ((i : ℕ) → i < length u → test (get_or u i 0) ≡ true) → only test u ≡ u
-only-all test [] all = refl
-only-all test (x ∷ u) all =
+pub only_all : (test : ℕ → Bool) (u : List ℕ) → ((i : ℕ) → i < length u → test (get_or u i 0) ≡ true) → only test u ≡ u
+only_all test [] all = refl
+only_all test (x ∷ u) all =
     ap (λ (t : Bool). cond t (x ∷ only test u) (only test u)) (all 0 (omega arith))
-    ∙ ap (λ (l : List ℕ). x ∷ l) (only-all test u (λ i h. all (suc i) (omega arith)))
+    ∙ ap (λ (l : List ℕ). x ∷ l) (only_all test u (λ i h. all (suc i) (omega arith)))
 
 pub only_none : (test : ℕ → Bool) (u : List ℕ) → ((i : ℕ) → i < length u → test (get_or u i 0) ≡ false) → only test u ≡ []
 only_none test [] none = refl
@@ -126,9 +126,9 @@ has-append x (y ∷ l) r = ap (λ (t : Bool). (x =? y) or t) (has-append x l r) 
 pub has_snoc : (x : ℕ) (l : List ℕ) (y : ℕ) → has x (l ++ y ∷ []) ≡ (has x l or (x =? y))
 has_snoc x l y = has-append x l (y ∷ []) ∙ ap (λ (t : Bool). has x l or t) (or_false (x =? y))
 
-pub has-joined : (x m : ℕ) (f : ℕ → List ℕ) (j : ℕ) → j < m → has x (f j) ≡ true → has x (joined m f) ≡ true
-has-joined x zero f j h e = absurd (omega arith)
-has-joined x (suc m) f j h e = has-append x (joined m f) (f m) ∙ by_place (has-joined x m f j) (ℕ_discrete j m)
+pub has_joined : (x m : ℕ) (f : ℕ → List ℕ) (j : ℕ) → j < m → has x (f j) ≡ true → has x (joined m f) ≡ true
+has_joined x zero f j h e = absurd (omega arith)
+has_joined x (suc m) f j h e = has-append x (joined m f) (f m) ∙ by_place (has_joined x m f j) (ℕ_discrete j m)
   where
     by_place : (j < m → has x (f j) ≡ true → has x (joined m f) ≡ true) → Dec (j ≡ m) → (has x (joined m f) or has x (f m)) ≡ true
     by_place ih (yes q) = or_right (has x (joined m f)) _ (ap (λ (k : ℕ). has x (f k)) (sym q) ∙ e)
@@ -140,16 +140,16 @@ pub record Found (x : ℕ) (l : List ℕ) : Type 0 where
   pub below : place < length l
   pub is : get_or l place 0 ≡ x
 
-pub has-found : (x : ℕ) (l : List ℕ) → has x l ≡ true → Found x l
+pub has_found : (x : ℕ) (l : List ℕ) → has x l ≡ true → Found x l
 unfolding ◌or◌
-has-found x [] e = absurd (true≢false (sym e))
-has-found x (y ∷ l) e = by_first (has-found x l) (x =? y) refl e
+has_found x [] e = absurd (true≢false (sym e))
+has_found x (y ∷ l) e = by_first (has_found x l) (x =? y) refl e
   where
     by_first : (has x l ≡ true → Found x l) → (t : Bool) → x =? y ≡ t → t or has x l ≡ true → Found x (y ∷ l)
     by_first ih true is h = record { place = 0; below = omega arith; is = sym (is_eq x y is) }
     by_first ih false is h = let r = ih h in record { place = suc r.place; below = omega (arith, r.below); is = r.is }
 
-pub found-has : (x : ℕ) (l : List ℕ) (i : ℕ) → i < length l → get_or l i 0 ≡ x → has x l ≡ true
-found-has x [] i h e = absurd (omega arith)
-found-has x (y ∷ l) zero h e = or_left (x =? y) (has x l) (eq_yes x y (sym e))
-found-has x (y ∷ l) (suc i) h e = or_right (x =? y) (has x l) (found-has x l i (omega arith) e)
+pub found_has : (x : ℕ) (l : List ℕ) (i : ℕ) → i < length l → get_or l i 0 ≡ x → has x l ≡ true
+found_has x [] i h e = absurd (omega arith)
+found_has x (y ∷ l) zero h e = or_left (x =? y) (has x l) (eq_yes x y (sym e))
+found_has x (y ∷ l) (suc i) h e = or_right (x =? y) (has x l) (found_has x l i (omega arith) e)

@@ -10,7 +10,7 @@ use lib.ListN.{length, get_or}
 use Rattle.chain.specs.Tests.{◌=?◌, ◌or◌}
 use Rattle.chain.proofs.Rules.{eq_yes, is_eq}
 use Rattle.digits.specs.Range.{sign}
-use Rattle.digits.proofs.Range.{sign-add, sign_low, sign-some, sign_pos, sign-sign}
+use Rattle.digits.proofs.Range.{sign-add, sign_low, sign_some, sign_pos, sign_sign}
 use Rattle.clumps.specs.Lists.{among, equal, holds, precedes, insert, enter, entered}
 use Rattle.clumps.proofs.Totals.{bit, total, total_same, total_zero, total_add, total_mul}
 
@@ -26,20 +26,20 @@ and_both : (s t : Bool) → s && t ≡ true → (s ≡ true) × (t ≡ true)
 and_both true t e = (refl, e)
 and_both false t e = absurd (true≢false (sym e))
 
-equal-own : (u : List ℕ) → equal u u ≡ true
-equal-own [] = refl
-equal-own (x ∷ u) = rw (eq_yes x x refl) (equal-own u)
+equal_own : (u : List ℕ) → equal u u ≡ true
+equal_own [] = refl
+equal_own (x ∷ u) = rw (eq_yes x x refl) (equal_own u)
 
-equal-sound : (u v : List ℕ) → equal u v ≡ true → u ≡ v
-equal-sound [] [] e = refl
-equal-sound [] (y ∷ v) e = absurd (true≢false (sym e))
-equal-sound (x ∷ u) [] e = absurd (true≢false (sym e))
-equal-sound (x ∷ u) (y ∷ v) e =
+equal_sound : (u v : List ℕ) → equal u v ≡ true → u ≡ v
+equal_sound [] [] e = refl
+equal_sound [] (y ∷ v) e = absurd (true≢false (sym e))
+equal_sound (x ∷ u) [] e = absurd (true≢false (sym e))
+equal_sound (x ∷ u) (y ∷ v) e =
     let b = and_both (x =? y) (equal u v) e in
-    ap₂ ◌∷◌ (is_eq x y b.0) (equal-sound u v b.1)
+    ap₂ ◌∷◌ (is_eq x y b.0) (equal_sound u v b.1)
 
 pub members_tell : Tells equal
-members_tell = record { own = equal-own; sound = equal-sound }
+members_tell = record { own = equal_own; sound = equal_sound }
 
 -- how often x stands in a list
 abbrev pub often : {A : Type 0} → (A → A → Bool) → A → List A → ℕ
@@ -47,7 +47,7 @@ often same x l = total (λ y. bit (same x y)) l
 
 pub bit_or : (s t : Bool) → bit (s or t) ≡ sign (bit s + bit t)
 unfolding ◌or◌
-bit_or true t = sym (sign-some (1 + bit t) (omega arith))
+bit_or true t = sym (sign_some (1 + bit t) (omega arith))
 bit_or false true = refl
 bit_or false false = refl
 
@@ -63,7 +63,7 @@ module _ {A : Type 0} (same : A → A → Bool) where
       let b : ℕ = bit (same x y) in
       let r : ℕ = often same x l in
       bit_or (same x y) (among same x l)
-      ∙ omega (arith, sign-add b (bit (among same x l)), sign-add b r, ap sign (among_often x l), sign-sign r)
+      ∙ omega (arith, sign-add b (bit (among same x l)), sign-add b r, ap sign (among_often x l), sign_sign r)
 
   module _ (tells : Tells same) where
     -- in either order
@@ -148,11 +148,11 @@ often_enter u v d once = by_test (holds v d) (among_often equal v d) (equal u v)
 
     by_test : (t : Bool) → bit t ≡ sign (often equal v d) → (s : Bool) → equal u v ≡ s → often equal u (cond t d (insert v d)) ≡ sign (bit s + k)
     by_test true n true f =
-        let mine : sign k ≡ 1 = ap (λ (z : List ℕ). sign (often equal z d)) (equal-sound u v f) ∙ sym n in
-        omega (arith, once u, sign_pos k mine, sign-some (1 + k) (omega arith))
+        let mine : sign k ≡ 1 = ap (λ (z : List ℕ). sign (often equal z d)) (equal_sound u v f) ∙ sym n in
+        omega (arith, once u, sign_pos k mine, sign_some (1 + k) (omega arith))
     by_test false n true f =
-        let mine : sign k ≡ 0 = ap (λ (z : List ℕ). sign (often equal z d)) (equal-sound u v f) ∙ sym n in
-        omega (arith, inserted, ap bit f, sign_once k (once u), sign-some (1 + k) (omega arith))
+        let mine : sign k ≡ 0 = ap (λ (z : List ℕ). sign (often equal z d)) (equal_sound u v f) ∙ sym n in
+        omega (arith, inserted, ap bit f, sign_once k (once u), sign_some (1 + k) (omega arith))
     by_test true n false f = let e : 0 + k ≡ k = omega arith in sym (ap sign e ∙ sign_once k (once u))
     by_test false n false f = let e : 0 + k ≡ k = omega arith in omega (arith, inserted, ap bit f, ap sign e, sign_once k (once u))
 
@@ -165,7 +165,7 @@ often_entered u (v ∷ l) d once =
     let r : ℕ = often equal u l in
     often_entered u l (enter v d) (λ x. rw (often_enter x v d once) (sign_low (bit (equal x v) + often equal x d)))
     ∙ ap (λ (m : ℕ). sign (m + r)) (often_enter u v d once)
-    ∙ omega (arith, sign-add (sign (b + k)) r, sign-sign (b + k), sign-add b k, sign-add k (b + r), sign-add b r)
+    ∙ omega (arith, sign-add (sign (b + k)) r, sign_sign (b + k), sign-add b k, sign-add k (b + r), sign-add b r)
 
 -- entered one after the other, each stands once
 pub often_order : (u : List ℕ) (l : List (List ℕ)) → often equal u (entered [] l) ≡ sign (often equal u l)

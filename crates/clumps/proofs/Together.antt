@@ -6,7 +6,7 @@ use Prim.Native.Nat.{ℕ, ◌*◌, ◌≤◌, ◌<◌}
 use native.Mathlib.Omega.{arith}
 use lib.ListN.{length, get_or}
 use Rattle.digits.specs.Range.{sum_to, list_to, sign}
-use Rattle.digits.proofs.Range.{sum_same, le-sum, sign-some, sign_pos, sign_low}
+use Rattle.digits.proofs.Range.{sum_same, le_sum, sign_some, sign_pos, sign_low}
 use Rattle.digits.proofs.Listed.{length-list, get_d_list}
 use Rattle.clumps.specs.Lists.{joined, equal, holds}
 use Rattle.clumps.specs.Clumps.{Level, clumps_of, clumps_in}
@@ -16,8 +16,8 @@ use Rattle.clumps.proofs.Cut.{Proper, clumps_once}
 
 -- m lists of indices below n, cut
 pub record CutLists (l : Level) (n m : ℕ) (s : ℕ → List ℕ) (cut : List (List (List ℕ))) : Type 0 where
-  pub some-a : 1 ≤ l.a
-  pub some-b : 1 ≤ l.b
+  pub some_a : 1 ≤ l.a
+  pub some_b : 1 ≤ l.b
   pub proper : (i : ℕ) → i < m → Proper n (s i)
   pub is : cut ≡ list_to m (λ i. clumps_of l n (s i))
 
@@ -49,18 +49,18 @@ module _ {l : Level} {n m : ℕ} {s : ℕ → List ℕ} {cut : List (List (List 
       let sum : ℕ = sum_to m (λ i. often equal u (C i)) in
       sum-part m _ (sign_pos sum (omega (arith, once_there u, often_item equal members_tell D [] x h, sign_low sum)))
 
-  pub list-holds : (i : ℕ) → i < m → (u : List ℕ) → bit (holds u (get_or cut i [])) ≡ often equal u (C i)
-  list-holds i h u =
+  pub list_holds : (i : ℕ) → i < m → (u : List ℕ) → bit (holds u (get_or cut i [])) ≡ often equal u (C i)
+  list_holds i h u =
       ap (λ (c : List (List ℕ)). bit (holds u c)) (cut_at i h)
       ∙ among_often equal u (C i)
-      ∙ sign_once (often equal u (C i)) (clumps_once l n (s i) k.some-a k.some-b (k.proper i h) u)
+      ∙ sign_once (often equal u (C i)) (clumps_once l n (s i) k.some_a k.some_b (k.proper i h) u)
 
   -- the sum over one list's clumps, gathered from all
-  pub clumps-gather : (w : List ℕ → ℕ) (i : ℕ) → i < m → total (λ u. bit (holds u (get_or cut i [])) * w u) D ≡ total w (C i)
-  clumps-gather w i h =
-      total_same _ _ D (λ u. ap (λ (b : ℕ). b * w u) (list-holds i h u)) ∙ gather equal members_tell w (C i) D there
+  pub clumps_gather : (w : List ℕ → ℕ) (i : ℕ) → i < m → total (λ u. bit (holds u (get_or cut i [])) * w u) D ≡ total w (C i)
+  clumps_gather w i h =
+      total_same _ _ D (λ u. ap (λ (b : ℕ). b * w u) (list_holds i h u)) ∙ gather equal members_tell w (C i) D there
     where
       there : (u : List ℕ) → 0 < often equal u (C i) → often equal u D ≡ 1
       there u some =
           let sum : ℕ = sum_to m (λ i. often equal u (C i)) in
-          once_there u ∙ sign-some sum (omega (arith, le-sum m (λ i. often equal u (C i)) i h))
+          once_there u ∙ sign_some sum (omega (arith, le_sum m (λ i. often equal u (C i)) i h))

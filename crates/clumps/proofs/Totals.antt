@@ -16,9 +16,9 @@ abbrev pub bit : Bool → ℕ
 bit true = 1
 bit false = 0
 
-pub bit-low : (t : Bool) → bit t ≤ 1
-bit-low true = omega arith
-bit-low false = omega arith
+pub bit_low : (t : Bool) → bit t ≤ 1
+bit_low true = omega arith
+bit_low false = omega arith
 
 -- the sum of f over a list
 abbrev pub total : {A : Type 0} → (A → ℕ) → List A → ℕ

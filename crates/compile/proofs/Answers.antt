@@ -12,9 +12,9 @@ use Rattle.chain.specs.declared.Judgement.TheVariants as judgement
 use Rattle.chain.specs.declared.Counted.{Counted}
 use Rattle.chain.specs.declared.Counted.TheVariants.{Fine, Refused}
 use Rattle.chain.specs.Inner.{counted_by}
-use Rattle.chain.proofs.Rules.{told-fine, told-refused, pass, stop, refuse_yes, refuse_no, lt_yes, lt_no, or_left, or_right, or_none, answer-refused, answer-done, kept, renewed}
-use Rattle.chain.proofs.Told.{verdict_in, told, told-values}
-use Rattle.chain.proofs.Squarings.{counts-are, squarings-few, counted-done, found-refused, found-fine, found_number}
+use Rattle.chain.proofs.Rules.{told_fine, told_refused_lem, pass, stop, refuse_yes, refuse_no, lt_yes, lt_no, or_left, or_right, or_none, answer_refused, answer_done, kept, renewed}
+use Rattle.chain.proofs.Told.{verdict_in, told, told_values_lem}
+use Rattle.chain.proofs.Squarings.{counts_are, squarings_few, counted_done, found_refused, found_fine, found_number}
 use Rattle.products.specs.declared.Progress.{Progress}
 use Rattle.methods.specs.Inner.{ChainStored}
 use Rattle.quote.specs.ByMethod.{chain_of, count, count_rule, ceiling_answer}
@@ -24,9 +24,9 @@ use Rattle.answers.specs.declared.Quoted.{Quoted}
 use Rattle.answers.specs.declared.Quoted.TheVariants as quoted
 
 -- of the steps that were emitted no more are squarings
-pub squarings-within : {steps outputs steps' outputs' : List ℕ} {made : Progress} {c : Chain} → ChainStored steps outputs steps' outputs' made c
+pub squarings_within : {steps outputs steps' outputs' : List ℕ} {made : Progress} {c : Chain} → ChainStored steps outputs steps' outputs' made c
     → made.squarings ≤ made.steps
-squarings-within {c = c} e = omega (arith, e.stored.count, e.stored.squarings, squarings-few c.steps)
+squarings_within {c = c} e = omega (arith, e.stored.count, e.stored.squarings, squarings_few c.steps)
 
 module _ (p q : ℕ) (amounts : List ℕ) (method k : ℕ) where
   abbrev count' : ℕ
@@ -52,7 +52,7 @@ module _ (p q : ℕ) (amounts : List ℕ) (method k : ℕ) where
 
       quote_counted : n ≡ count'
       unfolding ceiling_answer
-      quote_counted = ap (λ (l : List ℕ). get_or l 0 0) (told-values _ _ _ (sym (ap quoted_of is) ∙ told-quote))
+      quote_counted = ap (λ (l : List ℕ). get_or l 0 0) (told_values_lem _ _ _ (sym (ap quoted_of is) ∙ told-quote))
 
       module _ (j : Judgement) (judged : verdict_of j ≡ length_rule most_steps n) where
         length-judged : verdict_of j ≡ accepted
@@ -60,10 +60,10 @@ module _ (p q : ℕ) (amounts : List ℕ) (method k : ℕ) where
         length-judged = pass _ _ _ quote_passed (judged ∙ ap (length_rule most_steps) quote_counted)
 
         pub too_long : (number place : ℕ) → j ≡ judgement.Refused number place → refused number place ≡ accepted
-        too_long number place e = told-refused j _ number place length-judged e
+        too_long number place e = told_refused_lem j _ number place length-judged e
 
-        pub all-accepted : j ≡ judgement.Fine → done (n ∷ []) ≡ counted_by accepted count'
-        all-accepted e = counted-done _ _ n (told-fine j _ length-judged e) quote_counted
+        pub all_accepted : j ≡ judgement.Fine → done (n ∷ []) ≡ counted_by accepted count'
+        all_accepted e = counted_done _ _ n (told_fine j _ length-judged e) quote_counted
 
   module _ (r : Counted) (answered : counted_of r ≡ counted_by accepted count') (steps outputs : List ℕ) where
     -- the answer of compile and what it leaves in the two slices
@@ -76,28 +76,28 @@ module _ (p q : ℕ) (amounts : List ℕ) (method k : ℕ) where
     refusing : (number place : ℕ) → refused number place ≡ compile_rule p q amounts method k (length steps / 2) (length outputs)
         → Leaves (refusal number place) steps outputs
     unfolding compile_answer compile_steps compile_outputs
-    refusing number place e = (answer-refused _ _ number place e, (kept _ _ steps number place e, kept _ _ outputs number place e))
+    refusing number place e = (answer_refused _ _ number place e, (kept _ _ steps number place e, kept _ _ outputs number place e))
 
-    pub compile-refused : (number place : ℕ) → r ≡ Refused number place → Leaves (refusal number place) steps outputs
+    pub compile_refused : (number place : ℕ) → r ≡ Refused number place → Leaves (refusal number place) steps outputs
     unfolding compile_rule
-    compile-refused number place e = refusing number place (stop _ _ number place (found-refused _ _ r answered number place e))
+    compile_refused number place e = refusing number place (stop _ _ number place (found_refused _ _ r answered number place e))
 
     module _ (n : ℕ) (is : r ≡ Fine n) where
       pub was_accepted : fine ≡ accepted
-      was_accepted = found-fine _ _ r answered n is
+      was_accepted = found_fine _ _ r answered n is
 
       pub was_counted : n ≡ count'
       was_counted = found_number _ _ r answered n is
 
-      pub few-pairs : length steps / 2 < n → Leaves (refusal 5 0) steps outputs
+      pub few_pairs : length steps / 2 < n → Leaves (refusal 5 0) steps outputs
       unfolding compile_rule
-      few-pairs h =
+      few_pairs h =
           let e = was_counted in
           refusing 5 0 (pass _ _ _ was_accepted (refuse_yes _ 5 0 (or_left _ _ (lt_yes _ _ (omega arith)))))
 
-      pub few-outputs : length outputs < q → Leaves (refusal 5 0) steps outputs
+      pub few_outputs : length outputs < q → Leaves (refusal 5 0) steps outputs
       unfolding compile_rule
-      few-outputs h = refusing 5 0 (pass _ _ _ was_accepted (refuse_yes _ 5 0 (or_right _ _ (lt_yes _ _ h))))
+      few_outputs h = refusing 5 0 (pass _ _ _ was_accepted (refuse_yes _ 5 0 (or_right _ _ (lt_yes _ _ h))))
 
       pub compiled : n ≤ length steps / 2 → q ≤ length outputs → (steps' outputs' : List ℕ) (made : Progress) (told-counts : List ℕ)
           → ChainStored steps outputs steps' outputs' made (chain_of p q amounts method k)
@@ -106,6 +106,6 @@ module _ (p q : ℕ) (amounts : List ℕ) (method k : ℕ) where
       compiled h g steps' outputs' made told-counts e f =
           let c = was_counted in
           let v = pass accepted _ _ was_accepted (refuse_no _ 5 0 (or_none _ _ (lt_no (length steps / 2) count' (omega arith)) (lt_no (length outputs) q g))) in (
-            ap done (f ∙ counts-are _ _ _ e.stored.count e.stored.squarings) ∙ answer-done _ _ v,
-            (renewed _ _ steps steps' v e.stored.cells_are, renewed _ _ outputs outputs' v e.outputs-are),
+            ap done (f ∙ counts_are _ _ _ e.stored.count e.stored.squarings) ∙ answer_done _ _ v,
+            (renewed _ _ steps steps' v e.stored.cells_are, renewed _ _ outputs outputs' v e.outputs_are),
           )

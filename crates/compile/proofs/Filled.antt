@@ -8,9 +8,9 @@ use Rattle.chain.specs.Verdict.{fine, refused}
 use Rattle.chain.specs.Written.{over}
 use Rattle.chain.specs.Chain.{most_amount, most_steps, pairs, flat}
 use Rattle.chain.specs.Chain as spec
-use Rattle.chain.proofs.Rules.{then_fine, refuse_if-fine, neither, not_lt, renewed}
-use Rattle.chain.proofs.Told.{verdict_in, told, told-values}
-use Rattle.chain.proofs.Pairs.{pairs-flat, length-flat}
+use Rattle.chain.proofs.Rules.{then_fine, refuse_if_fine, neither, not_lt, renewed}
+use Rattle.chain.proofs.Told.{verdict_in, told, told_values_lem}
+use Rattle.chain.proofs.Pairs.{pairs_flat, length-flat}
 use Rattle.chain.proofs.Written.{take-over, over-length}
 use Rattle.quote.specs.ByMethod.{chain_of, count}
 use Rattle.quote.proofs.Right.{compiled_right}
@@ -24,10 +24,10 @@ use Rattle.compile.proofs.Fits.{accepted}
 -- a chain compiled: its n steps and q outputs stand at the front of the two slices
 pub record Filled (p q : ℕ) (amounts : List ℕ) (method k : ℕ) (steps outputs : List ℕ) (n : ℕ) : Type 0 where
   pub few : n ≤ most_steps
-  pub steps-room : 2 * n ≤ length steps
-  pub outputs-room : q ≤ length outputs
+  pub steps_room : 2 * n ≤ length steps
+  pub outputs_room : q ≤ length outputs
   pub steps_front : pairs (take (2 * n) steps) ≡ (chain_of p q amounts method k).steps
-  pub outputs-front : take q outputs ≡ (chain_of p q amounts method k).outputs
+  pub outputs_front : take q outputs ≡ (chain_of p q amounts method k).outputs
 
 module _ (p q : ℕ) (amounts : List ℕ) (method k : ℕ) (steps outputs : List ℕ) (r : Compiled)
     (answered : compiled_of r ≡ compile_answer p q amounts method k (length steps / 2) (length outputs)) where
@@ -35,9 +35,9 @@ module _ (p q : ℕ) (amounts : List ℕ) (method k : ℕ) (steps outputs : List
   unfolding compile_answer
   found = told _ _ _ answered
 
-  pub compile-stops : (number place : ℕ) → r ≡ Refused number place
+  pub compile_stops : (number place : ℕ) → r ≡ Refused number place
       → refused number place ≡ compile_rule p q amounts method k (length steps / 2) (length outputs)
-  compile-stops number place e = sym (ap (λ (x : Compiled). verdict_in (compiled_of x)) e) ∙ found
+  compile_stops number place e = sym (ap (λ (x : Compiled). verdict_in (compiled_of x)) e) ∙ found
 
   module _ (counts : Counts) (is : r ≡ Chain counts) where
     abbrev n : ℕ
@@ -46,15 +46,15 @@ module _ (p q : ℕ) (amounts : List ℕ) (method k : ℕ) (steps outputs : List
     pub compile_passes : fine ≡ compile_rule p q amounts method k (length steps / 2) (length outputs)
     compile_passes = sym (ap (λ (x : Compiled). verdict_in (compiled_of x)) is) ∙ found
 
-    steps-told : n ≡ length (chain_of p q amounts method k).steps
+    steps_told : n ≡ length (chain_of p q amounts method k).steps
     unfolding compile_answer spec.counts
-    steps-told = ap (λ (l : List ℕ). get_or l 0 0) (told-values _ _ _ (sym (ap compiled_of is) ∙ answered))
+    steps_told = ap (λ (l : List ℕ). get_or l 0 0) (told_values_lem _ _ _ (sym (ap compiled_of is) ∙ answered))
 
-    pub compile-counts : ((j : ℕ) → get_or amounts j 0 ≤ most_amount) → n ≡ count p q amounts method k
+    pub compile_counts : ((j : ℕ) → get_or amounts j 0 ≤ most_amount) → n ≡ count p q amounts method k
     unfolding compile_rule
-    compile-counts low =
+    compile_counts low =
         let ok = accepted p q amounts method k (then_fine _ _ (sym compile_passes)).0 in
-        steps-told ∙ (compiled_right p q amounts method k low ok.ranges.fits).counted
+        steps_told ∙ (compiled_right p q amounts method k low ok.ranges.fits).counted
 
     pub filled : ((j : ℕ) → get_or amounts j 0 ≤ most_amount) → (steps' outputs' : List ℕ)
         → steps' ≡ compile_steps p q amounts method k (length outputs) steps → outputs' ≡ compile_outputs p q amounts method k (length steps / 2) outputs
@@ -62,12 +62,12 @@ module _ (p q : ℕ) (amounts : List ℕ) (method k : ℕ) (steps outputs : List
     unfolding compile_steps compile_outputs compile_rule
     filled low steps' outputs' es eo =
         let t = then_fine _ _ (sym compile_passes) in
-        let rooms = neither _ _ (refuse_if-fine _ 5 0 t.1) in
-        let pairs-room = not_lt _ _ rooms.0 in
+        let rooms = neither _ _ (refuse_if_fine _ 5 0 t.1) in
+        let pairs_room = not_lt _ _ rooms.0 in
         let places = not_lt _ _ rooms.1 in
         let ok = accepted p q amounts method k t.0 in
         let right = compiled_right p q amounts method k low ok.ranges.fits in
-        let told-counts = compile-counts low in
+        let told-counts = compile_counts low in
         let c = chain_of p q amounts method k in
         let fs : steps' ≡ over (flat c.steps) steps = es ∙ sym (renewed _ _ steps _ compile_passes refl) in
         let fo : outputs' ≡ over c.outputs outputs = eo ∙ sym (renewed _ _ outputs _ compile_passes refl) in
@@ -75,8 +75,8 @@ module _ (p q : ℕ) (amounts : List ℕ) (method k : ℕ) (steps outputs : List
         let lo : length c.outputs ≡ q = right.outputs in
         record {
           few = omega (arith, ok.short);
-          steps-room = omega (arith, ap length fs, over-length (flat c.steps) steps (omega arith));
-          outputs-room = omega (arith, ap length fo, over-length c.outputs outputs (omega arith));
-          steps_front = ap (λ (l : List ℕ). pairs (take (2 * n) l)) fs ∙ ap pairs (take-over (2 * n) (flat c.steps) steps ls) ∙ pairs-flat c.steps;
-          outputs-front = ap (take q) fo ∙ take-over q c.outputs outputs lo;
+          steps_room = omega (arith, ap length fs, over-length (flat c.steps) steps (omega arith));
+          outputs_room = omega (arith, ap length fo, over-length c.outputs outputs (omega arith));
+          steps_front = ap (λ (l : List ℕ). pairs (take (2 * n) l)) fs ∙ ap pairs (take-over (2 * n) (flat c.steps) steps ls) ∙ pairs_flat c.steps;
+          outputs_front = ap (take q) fo ∙ take-over q c.outputs outputs lo;
         }

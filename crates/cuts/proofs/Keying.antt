@@ -51,22 +51,22 @@ module _ (old : List ℕ) (from to b limit top r : ℕ) where
               let far : count * b ≤ m * b = mul-le-mul_right b (omega arith) in
               absurd (omega (arith, reach, d.at))
 
-      pub keys-inside : i + b ≤ to
-      keys-inside =
+      pub keys_inside : i + b ≤ to
+      keys_inside =
           let more : m + 1 ≤ count = omega (arith, left) in
           omega (arith, mul-le-mul_right b more, reach, next, d.at)
 
-      pub keys-room : e < length s
-      keys-room = omega (arith, left, d.laid.apart.size, d.laid.after, asked.room)
+      pub keys_room : e < length s
+      keys_room = omega (arith, left, d.laid.apart.size, d.laid.after, asked.room)
 
       same : slice i (i + b) s ≡ clump_from old from b m
       same =
-          slice_same i (i + b) s old (omega (arith, keys-inside, d.laid.apart.size, asked.inside)) (omega (arith, keys-inside, asked.inside))
+          slice_same i (i + b) s old (omega (arith, keys_inside, d.laid.apart.size, asked.inside)) (omega (arith, keys_inside, asked.inside))
           (λ c g k. unwritten c g k asked.away)
           ∙ ap (λ (n : ℕ). slice n (n + b) old) d.at
         where
           unwritten : (c : ℕ) → i ≤ c → c < i + b → (to ≤ r) ⊎ (r + count ≤ from) → get_or s c 0 ≡ get_or old c 0
-          unwritten c g k (inl low) = d.laid.apart.before c (omega (arith, keys-inside))
+          unwritten c g k (inl low) = d.laid.apart.before c (omega (arith, keys_inside))
           unwritten c g k (inr high) = d.laid.apart.behind c (omega (arith, d.at, d.within, d.laid.after))
 
       pub key_asked : KeyAsked s i (i + b) limit top
@@ -74,24 +74,24 @@ module _ (old : List ℕ) (from to b limit top r : ℕ) where
           let a = asked.asked m left in
           record {
             rises = omega arith;
-            inside = omega (arith, keys-inside, d.laid.apart.size, asked.inside);
+            inside = omega (arith, keys_inside, d.laid.apart.size, asked.inside);
             climbs = subst (Climbs (limit - most_part) limit) (sym same) a.climbs;
             light = subst (λ (u : List ℕ). weight_of limit u ≤ top) (sym same) a.light;
           }
 
-      pub keys-more : (x : ℕ) → x ≡ top - weight_of limit (slice i (i + b) s) → KeysTo (e + 1) (i + b) (set s e x)
-      keys-more x is =
+      pub keys_more : (x : ℕ) → x ≡ top - weight_of limit (slice i (i + b) s) → KeysTo (e + 1) (i + b) (set s e x)
+      keys_more x is =
           let n : e + 1 - r ≡ m + 1 = omega (arith, d.laid.after) in
           record {
             within = omega (arith, left);
             at = rw n (omega (arith, next, d.at));
             laid =
-                lay_more key_at r old e x s d.laid (omega (arith, keys-room, d.laid.apart.size))
+                lay_more key_at r old e x s d.laid (omega (arith, keys_room, d.laid.apart.size))
                 (is ∙ ap (λ (u : List ℕ). top - weight_of limit u) same);
           }
 
-    pub keys-all : to ≤ i → RunCut from to b limit top r e old s
-    keys-all h =
+    pub keys_all : to ≤ i → RunCut from to b limit top r e old s
+    keys_all h =
         let all : e ≡ r + count = omega (arith, d.within, d.laid.after, whole (dec_lt m count)) in
         let n : e - r ≡ count = omega arith in
         record { apart = d.laid.apart; end = all; are = rw n at d.laid.are }

@@ -49,11 +49,11 @@ module _ (s : List ℕ) (from to part a b keys rest : ℕ) (asked : PartAsked s 
   parted : n * b + (to - from) % b ≡ to - from
   parted = div-add-mod' (to - from) b
 
-  pub left-low : (to - from) % b ≤ to - from
-  left-low = omega (arith, parted)
+  pub left_low : (to - from) % b ≤ to - from
+  left_low = omega (arith, parted)
 
-  pub taken-are : to - from - (to - from) % b ≡ n * b
-  taken-are = omega (arith, parted)
+  pub taken_are : to - from - (to - from) % b ≡ n * b
+  taken_are = omega (arith, parted)
 
   w_is : w ≡ from + n * b
   w_is = omega (arith, parted, room.order)
@@ -71,8 +71,8 @@ module _ (s : List ℕ) (from to part a b keys rest : ℕ) (asked : PartAsked s 
 
   -- b numbers in a row, wherever they begin
   module _ (g : ℕ) (low : from ≤ g) (high : g + b ≤ to) where
-    within-is : slice g (g + b) s ≡ take b (drop (g - from) here)
-    within-is =
+    within_is : slice g (g + b) s ≡ take b (drop (g - from) here)
+    within_is =
         slice_is g (g + b) s (take b (drop (g - from) here)) (omega (arith, room.inside)) (omega (arith, full))
         (λ i h. cell i (omega (arith, full)) ∙ sym (get_or-take b (drop (g - from) here) i 0 (omega (arith, full)) ∙ get_or-drop (g - from) here i 0))
       where
@@ -86,7 +86,7 @@ module _ (s : List ℕ) (from to part a b keys rest : ℕ) (asked : PartAsked s 
 
     climbs : Climbs (part * a) limit (slice g (g + b) s)
     climbs =
-        subst (Climbs (part * a) limit) (sym within-is)
+        subst (Climbs (part * a) limit) (sym within_is)
         (climbs-take (part * a) limit b (drop (g - from) here) (climbs-drop (part * a) limit (g - from) here asked.climbs))
 
     key_asked : KeyAsked s g (g + b) limit top
@@ -114,7 +114,7 @@ module _ (s : List ℕ) (from to part a b keys rest : ℕ) (asked : PartAsked s 
     clump_is : clump_from s from b m ≡ group b m here
     clump_is =
         let q : from + m * b - from ≡ m * b = omega arith in
-        within-is (from + m * b) (omega arith) inside ∙ ap (λ (k : ℕ). take b (drop k here)) q
+        within_is (from + m * b) (omega arith) inside ∙ ap (λ (k : ℕ). take b (drop k here)) q
 
     full : length (group b m here) ≡ b
     full = omega (arith, length-group b m here, long, inside)
@@ -126,14 +126,14 @@ module _ (s : List ℕ) (from to part a b keys rest : ℕ) (asked : PartAsked s 
         (subst (Climbs (part * a) limit) clump_is (climbs (from + m * b) (omega arith) inside)) (omega (arith, full, room.some)))
 
   -- as many clumps as the part has, from any of its cells on
-  pub run-asked : (f t : ℕ) → from ≤ f → t ≤ to → f ≤ t → t - f ≡ n * b → RunAsked s f t b limit top keys
-  run-asked f t low high order size =
+  pub run_asked : (f t : ℕ) → from ≤ f → t ≤ to → f ≤ t → t - f ≡ n * b → RunAsked s f t b limit top keys
+  run_asked f t low high order size =
       record {
         some = omega (arith, room.some);
         order = order;
         even = rw many (sym size);
         inside = omega (arith, room.inside);
-        room = rw many (omega (arith, room.keys-room, room.rest-room));
+        room = rw many (omega (arith, room.keys_room, room.rest_room));
         away = by_side room.away;
         asked = λ m h. key_asked (f + m * b) (omega arith) (omega (arith, end m (rw many at h), size));
       }
@@ -145,15 +145,15 @@ module _ (s : List ℕ) (from to part a b keys rest : ℕ) (asked : PartAsked s 
 
       by_side : (to ≤ keys) ⊎ (rest + (to - from) ≤ from) → (t ≤ keys) ⊎ (keys + (t - f) / b ≤ f)
       by_side (inl low) = inl (omega arith)
-      by_side (inr high) = inr (omega (arith, many, room.keys-room))
+      by_side (inr high) = inr (omega (arith, many, room.keys_room))
 
   -- any of its cells copied
   pub copy_asked : (f t : ℕ) (mid : List ℕ) → from ≤ f → t ≤ to → f ≤ t → length mid ≡ length s → CopyAsked mid f t rest
   copy_asked f t mid low high order size =
-      record { order = order; inside = omega (arith, room.inside); room = omega (arith, room.rest-room); away = by_side room.away }
+      record { order = order; inside = omega (arith, room.inside); room = omega (arith, room.rest_room); away = by_side room.away }
     where
       by_side : (to ≤ keys) ⊎ (rest + (to - from) ≤ from) → (t ≤ rest) ⊎ (rest ≤ f)
-      by_side (inl low) = inl (omega (arith, room.keys-room))
+      by_side (inl low) = inl (omega (arith, room.keys_room))
       by_side (inr high) = inr (omega arith)
 
   module _ (k : ℕ) (mid : List ℕ) (run : RunCut from w b limit top keys k s mid) where
@@ -166,11 +166,11 @@ module _ (s : List ℕ) (from to part a b keys rest : ℕ) (asked : PartAsked s 
           cut =
               record {
                 size = copied.apart.size ∙ run.apart.size;
-                before = λ c h. copied.apart.before c (omega (arith, room.keys-room)) ∙ run.apart.before c h;
+                before = λ c h. copied.apart.before c (omega (arith, room.keys_room)) ∙ run.apart.before c h;
                 between = λ c h g. copied.apart.before c g ∙ run.apart.behind c h;
-                behind = λ c h. copied.apart.behind c h ∙ run.apart.behind c (omega (arith, k_is, room.keys-room, copied.end));
+                behind = λ c h. copied.apart.behind c h ∙ run.apart.behind c (omega (arith, k_is, room.keys_room, copied.end));
                 keys_rise = omega (arith, k_is);
-                keys-low = omega (arith, k_is, room.keys-room);
+                keys_low = omega (arith, k_is, room.keys_room);
                 rest_rise = omega (arith, copied.end);
                 whole =
                     let taken_is : k - keys ≡ n = omega (arith, k_is) in
@@ -178,25 +178,25 @@ module _ (s : List ℕ) (from to part a b keys rest : ℕ) (asked : PartAsked s 
               };
           clumps =
               slice_same keys k new mid (omega (arith, k_is, inside, copied.apart.size)) (omega (arith, k_is, inside))
-              (λ c h g. copied.apart.before c (omega (arith, k_is, room.keys-room)))
+              (λ c h g. copied.apart.before c (omega (arith, k_is, room.keys_room)))
               ∙ run.are
               ∙ ap (λ (m : ℕ). list_to m (λ i. top - weight_of limit (clump_from s from b i))) count
               ∙ list_same n _ _ key_is
               ∙ sym (map-list (key_in a) n (λ m. group b m here))
               ∙ ap (λ (m : ℕ). map (key_in a) (list_to (m / b) (λ i. group b i here))) (sym long);
-          overflow = copied.are ∙ unwritten ∙ rest-is;
+          overflow = copied.are ∙ unwritten ∙ rest_is;
         }
       where
         inside : keys + n ≤ length mid
-        inside = omega (arith, room.keys-room, room.rest-room, run.apart.size)
+        inside = omega (arith, room.keys_room, room.rest_room, run.apart.size)
 
         unwritten : slice w to mid ≡ slice w to s
         unwritten = slice_same w to mid s (omega (arith, run.apart.size, room.inside)) room.inside (λ c h g. by_side c h g room.away)
           where
             by_side : (c : ℕ) → w ≤ c → c < to → (to ≤ keys) ⊎ (rest + (to - from) ≤ from) → get_or mid c 0 ≡ get_or s c 0
             by_side c h g (inl low) = run.apart.before c (omega arith)
-            by_side c h g (inr high) = run.apart.behind c (omega (arith, k_is, w_is, room.keys-room))
+            by_side c h g (inr high) = run.apart.behind c (omega (arith, k_is, w_is, room.keys_room))
 
-        rest-is : slice w to s ≡ remainder b here
-        rest-is =
+        rest_is : slice w to s ≡ remainder b here
+        rest_is =
             ap (λ (k : ℕ). slice k to s) w_is ∙ sym (drop-drop (n * b) from (take to s)) ∙ ap (λ (m : ℕ). drop (m / b * b) here) (sym long)

@@ -12,27 +12,27 @@ use lib.Seq.{slice, slice_empty, length-slice}
 use Rattle.digits.proofs.Blocks.{block_div}
 use Rattle.groups.specs.Groups.{group_count}
 use Rattle.clumps.specs.Clumps.{level, taken, remainder, clumps_of, overflow_of}
-use Rattle.clumps.proofs.Cut.{part-below}
+use Rattle.clumps.proofs.Cut.{part_below}
 use Rattle.rows.specs.Inner.{Rising}
 use Rattle.rows.proofs.Lists.{slice_cell, slice_same, slice_split}
 use Rattle.rows.proofs.Rows.{rising_less, rising_part}
 use Rattle.keys.specs.Inner.{Climbs, key_in}
 use Rattle.cuts.specs.Inner.{RunEnds, CutRoom, CutTo, PartAsked, PartCut, RowAsked, RowCut}
-use Rattle.cuts.proofs.Runs.{clumps-none, overflow-none, clumps-first, overflow-first}
+use Rattle.cuts.proofs.Runs.{clumps_none, overflow_none, clumps_first, overflow_first}
 
 -- rising numbers from .. to climb
-climbs-rising : (from to : ℕ) (u : List ℕ) → Rising to u → (0 < length u → from ≤ get_or u 0 0) → Climbs from to u
-climbs-rising from to [] r h = tt
-climbs-rising from to (x ∷ u) r h = (
+climbs_rising : (from to : ℕ) (u : List ℕ) → Rising to u → (0 < length u → from ≤ get_or u 0 0) → Climbs from to u
+climbs_rising from to [] r h = tt
+climbs_rising from to (x ∷ u) r h = (
   h (omega arith),
   r.below 0 (omega arith),
-  climbs-rising (x + 1) to u
-      (record { rises = rest-rises; below = λ i k. r.below (suc i) (omega arith) })
+  climbs_rising (x + 1) to u
+      (record { rises = rest_rises; below = λ i k. r.below (suc i) (omega arith) })
       (λ k. omega (arith, r.rises 0 (omega arith))),
 )
   where
-    rest-rises : (i : ℕ) → i + 1 < length u → get_or u i 0 < get_or u (i + 1) 0
-    rest-rises i k =
+    rest_rises : (i : ℕ) → i + 1 < length u → get_or u i 0 < get_or u (i + 1) 0
+    rest_rises i k =
         let q : suc i + 1 ≡ suc (i + 1) = omega arith in
         rw q at (r.rises (suc i) (omega arith))
 
@@ -88,7 +88,7 @@ module _ (old : List ℕ) (from to a b keys rest : ℕ) where
                 between = λ c h g. refl;
                 behind = λ c h. refl;
                 keys_rise = omega arith;
-                keys-low = omega (arith, asked.room.keys-room);
+                keys_low = omega (arith, asked.room.keys_room);
                 rest_rise = omega arith;
                 whole = rw none (omega (arith, mul-zero b));
               };
@@ -105,11 +105,11 @@ module _ (old : List ℕ) (from to a b keys rest : ℕ) where
           clumps = λ n g.
               sym (append-nil (slice keys k s))
               ∙ ap (λ (l : List ℕ). slice keys k s ++ l)
-              (sym (ap (λ (u : List ℕ). map (key_in a) (clumps_of (level a b) n u)) none ∙ ap (map (key_in a)) (clumps-none a b n)))
+              (sym (ap (λ (u : List ℕ). map (key_in a) (clumps_of (level a b) n u)) none ∙ ap (map (key_in a)) (clumps_none a b n)))
               ∙ sym (d.clumps n g);
           overflow = λ n g.
               sym (append-nil (slice rest r s))
-              ∙ ap (λ (l : List ℕ). slice rest r s ++ l) (sym (ap (overflow_of (level a b) n) none ∙ overflow-none a b n))
+              ∙ ap (λ (l : List ℕ). slice rest r s ++ l) (sym (ap (overflow_of (level a b) n) none ∙ overflow_none a b n))
               ∙ sym (d.overflow n g);
         }
 
@@ -163,8 +163,8 @@ module _ (old : List ℕ) (from to a b keys rest : ℕ) where
           omega (arith, part_low a x some, x_low)
 
       module _ (e : ℕ) (run : RunEnds s i to limit e) where
-        pub run-some : i < e
-        run-some = by_place (dec_lt i e)
+        pub run_some : i < e
+        run_some = by_place (dec_lt i e)
           where
             by_place : Dec (i < e) → i < e
             by_place (yes lt) = lt
@@ -175,8 +175,8 @@ module _ (old : List ℕ) (from to a b keys rest : ℕ) where
         long_here : length (slice i e s) ≡ e - i
         long_here = length-slice i e s (omega (arith, run.within, room.inside))
 
-        pub part-asked : PartAsked s i e part a b k r
-        part-asked =
+        pub part_asked : PartAsked s i e part a b k r
+        part_asked =
             record {
               room =
                   record {
@@ -185,12 +185,12 @@ module _ (old : List ℕ) (from to a b keys rest : ℕ) where
                     some = room.some;
                     within = room.within;
                     few = room.few;
-                    keys-room = omega (arith, room.keys-room, fewer);
-                    rest-room = omega (arith, room.rest-room, run.within);
+                    keys_room = omega (arith, room.keys_room, fewer);
+                    rest_room = omega (arith, room.rest_room, run.within);
                     away = by_side room.away;
                   };
               low = part_small;
-              climbs = climbs-rising (part * a) limit (slice i e s) rises (λ h. omega (arith, part_low a x some, first));
+              climbs = climbs_rising (part * a) limit (slice i e s) rises (λ h. omega (arith, part_low a x some, first));
             }
           where
             fewer : (e - i) / b ≤ (to - i) / b
@@ -203,7 +203,7 @@ module _ (old : List ℕ) (from to a b keys rest : ℕ) where
             first : get_or (slice i e s) 0 0 ≡ x
             first =
                 let q : i + 0 ≡ i = omega arith in
-                slice_cell i e s 0 (omega (arith, run-some)) ∙ ap (λ (c : ℕ). get_or s c 0) q
+                slice_cell i e s 0 (omega (arith, run_some)) ∙ ap (λ (c : ℕ). get_or s c 0) q
 
             rises : Rising limit (slice i e s)
             rises =
@@ -239,7 +239,7 @@ module _ (old : List ℕ) (from to a b keys rest : ℕ) where
             let q : from + (i - from) ≡ i = omega (arith, d.after) in
             let there : get_or (slice from to old) (i - from) 0 ≡ x =
             slice_cell from to old (i - from) (omega (arith, d.after)) ∙ ap (λ (c : ℕ). get_or old c 0) q ∙ sym (d.same i (omega arith) less) in
-            part-below a n x some (omega (arith, h.below (i - from) (omega (arith, d.after)), there))
+            part_below a n x some (omega (arith, h.below (i - from) (omega (arith, d.after)), there))
 
         module _ (k' r' : ℕ) (new : List ℕ) (done : PartCut i e a b k r k' r' s new) where
           abbrev cut : CutTo i e b k r k' r' s new
@@ -262,14 +262,14 @@ module _ (old : List ℕ) (from to a b keys rest : ℕ) where
               cuts-add b keys k k' rest r r' from i e d.cut.keys_rise cut.keys_rise d.cut.rest_rise cut.rest_rise d.after run.after
               d.cut.whole cut.whole
 
-          keys-low : k' ≤ rest
-          keys-low =
+          keys_low : k' ≤ rest
+          keys_low =
               let few : (k' - keys) + 0 / b ≤ (to - from) / b =
               div-more b (k' - keys) 0 (to - from) (omega (arith, room.some)) (omega (arith, whole, run.within)) in
-              omega (arith, few, asked.room.keys-room, cut.keys_rise, d.cut.keys_rise)
+              omega (arith, few, asked.room.keys_room, cut.keys_rise, d.cut.keys_rise)
 
-          next-asked : RowAsked new e to a b k' r'
-          next-asked =
+          next_asked : RowAsked new e to a b k' r'
+          next_asked =
               record {
                 room =
                     record {
@@ -278,15 +278,15 @@ module _ (old : List ℕ) (from to a b keys rest : ℕ) where
                       some = room.some;
                       within = room.within;
                       few = room.few;
-                      keys-room =
+                      keys_room =
                           omega (
                             arith,
                             div-more b (k' - k) (to - e) (to - i) (omega (arith, room.some)) (omega (arith, cut.whole, run.within, run.after)),
-                            room.keys-room,
+                            room.keys_room,
                             cut.keys_rise,
                             cut.rest_rise,
                           );
-                      rest-room = omega (arith, cut.size, room.rest-room, cut.whole, run.within, run.after);
+                      rest_room = omega (arith, cut.size, room.rest_room, cut.whole, run.within, run.after);
                       away = by_side room.away;
                     };
                 rising = subst (Rising (2 ^ 24)) (sym left_is) (rising_part (2 ^ 24) i to e to s room.inside run.after (omega arith) d.asked.rising);
@@ -300,7 +300,7 @@ module _ (old : List ℕ) (from to a b keys rest : ℕ) where
           row_more =
               record {
                 after = omega (arith, d.after, run.after);
-                asked = next-asked;
+                asked = next_asked;
                 same = λ c h g. unwritten c (omega (arith, run.after)) g ∙ d.same c (omega (arith, run.after)) g;
                 cut =
                     record {
@@ -309,7 +309,7 @@ module _ (old : List ℕ) (from to a b keys rest : ℕ) where
                       between = λ c h g. cut.between c h (omega (arith, d.cut.rest_rise)) ∙ d.cut.between c (omega (arith, cut.keys_rise)) g;
                       behind = λ c h. cut.behind c h ∙ d.cut.behind c (omega (arith, cut.rest_rise));
                       keys_rise = omega (arith, cut.keys_rise, d.cut.keys_rise);
-                      keys-low = keys-low;
+                      keys_low = keys_low;
                       rest_rise = omega (arith, cut.rest_rise, d.cut.rest_rise);
                       whole = whole;
                     };
@@ -317,33 +317,33 @@ module _ (old : List ℕ) (from to a b keys rest : ℕ) where
                     d.clumps n h
                     ∙ ap (λ (l : List ℕ). slice keys k s ++ l)
                     (ap (λ (u : List ℕ). map (key_in a) (clumps_of (level a b) n u)) halves
-                    ∙ ap (map (key_in a)) (clumps-first a b n part (slice i e s) (slice e to s) own above (reached n h))
+                    ∙ ap (map (key_in a)) (clumps_first a b n part (slice i e s) (slice e to s) own above (reached n h))
                     ∙ map-append (key_in a) (taken b (slice i e s)) (clumps_of (level a b) n (slice e to s)))
                     ∙ sym (append_assoc (slice keys k s) (map (key_in a) (taken b (slice i e s))) (map (key_in a) (clumps_of (level a b) n (slice e to s))))
-                    ∙ ap₂ (λ (u v : List ℕ). u ++ map (key_in a) (clumps_of (level a b) n v)) (sym keys-are) (sym left_is);
+                    ∙ ap₂ (λ (u v : List ℕ). u ++ map (key_in a) (clumps_of (level a b) n v)) (sym keys_are) (sym left_is);
                 overflow = λ n h.
                     d.overflow n h
                     ∙ ap (λ (l : List ℕ). slice rest r s ++ l)
-                    (ap (overflow_of (level a b) n) halves ∙ overflow-first a b n part (slice i e s) (slice e to s) own above (reached n h))
+                    (ap (overflow_of (level a b) n) halves ∙ overflow_first a b n part (slice i e s) (slice e to s) own above (reached n h))
                     ∙ sym (append_assoc (slice rest r s) (remainder b (slice i e s)) (overflow_of (level a b) n (slice e to s)))
-                    ∙ ap₂ (λ (u v : List ℕ). u ++ overflow_of (level a b) n v) (sym rest-is) (sym left_is);
+                    ∙ ap₂ (λ (u v : List ℕ). u ++ overflow_of (level a b) n v) (sym rest_is) (sym left_is);
               }
             where
               r_inside : r' ≤ length new
-              r_inside = omega (arith, cut.size, room.rest-room, cut.whole, run.within)
+              r_inside = omega (arith, cut.size, room.rest_room, cut.whole, run.within)
 
-              keys-are : slice keys k' new ≡ slice keys k s ++ map (key_in a) (taken b (slice i e s))
-              keys-are =
-                  slice_split keys k k' new d.cut.keys_rise cut.keys_rise (omega (arith, keys-low, r_inside, d.cut.rest_rise, cut.rest_rise))
+              keys_are : slice keys k' new ≡ slice keys k s ++ map (key_in a) (taken b (slice i e s))
+              keys_are =
+                  slice_split keys k k' new d.cut.keys_rise cut.keys_rise (omega (arith, keys_low, r_inside, d.cut.rest_rise, cut.rest_rise))
                   ∙ ap₂ ◌++◌
-                  (slice_same keys k new s (omega (arith, cut.keys_rise, keys-low, r_inside, d.cut.rest_rise, cut.rest_rise))
-                  (omega (arith, cut.keys_rise, keys-low, r_inside, d.cut.rest_rise, cut.rest_rise, cut.size)) (λ c h g. cut.before c g))
+                  (slice_same keys k new s (omega (arith, cut.keys_rise, keys_low, r_inside, d.cut.rest_rise, cut.rest_rise))
+                  (omega (arith, cut.keys_rise, keys_low, r_inside, d.cut.rest_rise, cut.rest_rise, cut.size)) (λ c h g. cut.before c g))
                   done.clumps
 
-              rest-is : slice rest r' new ≡ slice rest r s ++ remainder b (slice i e s)
-              rest-is =
+              rest_is : slice rest r' new ≡ slice rest r s ++ remainder b (slice i e s)
+              rest_is =
                   slice_split rest r r' new d.cut.rest_rise cut.rest_rise r_inside
                   ∙ ap₂ ◌++◌
                   (slice_same rest r new s (omega (arith, r_inside, cut.rest_rise)) (omega (arith, r_inside, cut.rest_rise, cut.size))
-                  (λ c h g. cut.between c (omega (arith, keys-low)) g))
+                  (λ c h g. cut.between c (omega (arith, keys_low)) g))
                   done.overflow

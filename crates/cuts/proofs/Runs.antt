@@ -13,9 +13,9 @@ use Rattle.clumps.specs.Lists.{joined}
 use Rattle.digits.specs.Range.{list_to}
 use Rattle.groups.specs.Groups.{group, group_count}
 use Rattle.clumps.specs.Clumps.{level, in_part, taken, remainder, clumps_of, overflow_of}
-use Rattle.clumps.proofs.Cut.{part-below}
+use Rattle.clumps.proofs.Cut.{part_below}
 use Rattle.rows.specs.Inner.{Rising}
-use Rattle.clumps.proofs.Lists.{only-append, only-all, only_none, joined-none}
+use Rattle.clumps.proofs.Lists.{only-append, only_all, only_none, joined_none}
 
 -- f is made of each part, and nothing of none
 module _ {A : Type 0} (f : List ℕ → List A) (empty : f [] ≡ []) (a : ℕ) where
@@ -23,7 +23,7 @@ module _ {A : Type 0} (f : List ℕ → List A) (empty : f [] ≡ []) (a : ℕ) 
   made n u = joined n (λ j. f (in_part a j u))
 
   made_none : (n : ℕ) → made n [] ≡ []
-  made_none n = joined-none n _ (λ j h. empty)
+  made_none n = joined_none n _ (λ j h. empty)
 
   -- parts past the last number's are empty
   made_more : (n d : ℕ) (u : List ℕ) → ((i : ℕ) → i < length u → get_or u i 0 / a < n) → made (n + d) u ≡ made n u
@@ -35,9 +35,9 @@ module _ {A : Type 0} (f : List ℕ → List A) (empty : f [] ≡ []) (a : ℕ) 
       (ap f (only_none _ u (λ i h. eq_no (get_or u i 0 / a) (n + d) (λ e. omega (arith, low i h)))) ∙ empty)
       ∙ append-nil (made n u)
 
-  made-same : (n k : ℕ) (u : List ℕ) → ((i : ℕ) → i < length u → get_or u i 0 / a < n) → ((i : ℕ) → i < length u → get_or u i 0 / a < k)
+  made_same : (n k : ℕ) (u : List ℕ) → ((i : ℕ) → i < length u → get_or u i 0 / a < n) → ((i : ℕ) → i < length u → get_or u i 0 / a < k)
       → made n u ≡ made k u
-  made-same n k u low less = by_order (dec_lt n k)
+  made_same n k u low less = by_order (dec_lt n k)
     where
       by_order : Dec (n < k) → made n u ≡ made k u
       by_order (yes lt) = let q : n + (k - n) ≡ k = omega arith in sym (made_more n (k - n) u low) ∙ ap (λ (m : ℕ). made m u) q
@@ -56,12 +56,12 @@ module _ {A : Type 0} (f : List ℕ → List A) (empty : f [] ≡ []) (a : ℕ) 
     itself : in_part a k (here ++ after) ≡ here
     itself =
         only-append _ here after
-        ∙ ap₂ ◌++◌ (only-all _ here (λ i g. eq_yes (get_or here i 0 / a) k (own i g))) (low k (omega arith))
+        ∙ ap₂ ◌++◌ (only_all _ here (λ i g. eq_yes (get_or here i 0 / a) k (own i g))) (low k (omega arith))
         ∙ append-nil here
 
-    made-first : (n : ℕ) → k < n → made n (here ++ after) ≡ f here ++ made n after
-    made-first zero h = absurd (omega arith)
-    made-first (suc n) h = by_place (made-first n) (dec_lt k n)
+    made_first : (n : ℕ) → k < n → made n (here ++ after) ≡ f here ++ made n after
+    made_first zero h = absurd (omega arith)
+    made_first (suc n) h = by_place (made_first n) (dec_lt k n)
       where
         by_place : (k < n → made n (here ++ after) ≡ f here ++ made n after) → Dec (k < n)
             → made n (here ++ after) ++ f (in_part a n (here ++ after)) ≡ f here ++ (made n after ++ f (in_part a n after))
@@ -70,48 +70,48 @@ module _ {A : Type 0} (f : List ℕ → List A) (empty : f [] ≡ []) (a : ℕ) 
         by_place ih (no ge) =
             let last : k ≡ n = omega arith in
             ap₂ ◌++◌
-            (joined-none n _ (λ j g. ap f (other j (λ e. omega arith) ∙ low j (omega arith)) ∙ empty))
+            (joined_none n _ (λ j g. ap f (other j (λ e. omega arith) ∙ low j (omega arith)) ∙ empty))
             (ap (λ (j : ℕ). f (in_part a j (here ++ after))) (sym last) ∙ ap f itself)
             ∙ sym (append-nil (f here))
             ∙ ap (λ (l : List A). f here ++ l)
-            (sym (ap₂ ◌++◌ (joined-none n _ (λ j g. ap f (low j (omega arith)) ∙ empty)) (ap f (low n (omega arith)) ∙ empty)))
+            (sym (ap₂ ◌++◌ (joined_none n _ (λ j g. ap f (low j (omega arith)) ∙ empty)) (ap f (low n (omega arith)) ∙ empty)))
 
 taken_none : (b : ℕ) → taken b [] ≡ []
 taken_none b = ap (λ (m : ℕ). list_to m (λ i. group b i [])) (zero-div b)
 
-remainder-none : (b : ℕ) → remainder b [] ≡ []
-remainder-none b = drop-nil (length {A = ℕ} [] / b * b)
+remainder_none : (b : ℕ) → remainder b [] ≡ []
+remainder_none b = drop-nil (length {A = ℕ} [] / b * b)
 
 -- of clumps and of overflow
 module _ (a b : ℕ) where
-  pub clumps-none : (n : ℕ) → clumps_of (level a b) n [] ≡ []
+  pub clumps_none : (n : ℕ) → clumps_of (level a b) n [] ≡ []
   unfolding clumps_of
-  clumps-none n = made_none (taken b) (taken_none b) a (group_count a n)
+  clumps_none n = made_none (taken b) (taken_none b) a (group_count a n)
 
-  pub overflow-none : (n : ℕ) → overflow_of (level a b) n [] ≡ []
+  pub overflow_none : (n : ℕ) → overflow_of (level a b) n [] ≡ []
   unfolding overflow_of
-  overflow-none n = made_none (remainder b) (remainder-none b) a (group_count a n)
+  overflow_none n = made_none (remainder b) (remainder_none b) a (group_count a n)
 
   module _ (n k : ℕ) (here after : List ℕ) (own : (i : ℕ) → i < length here → get_or here i 0 / a ≡ k)
       (above : (i : ℕ) → i < length after → k < get_or after i 0 / a) (low : k < group_count a n) where
-    pub clumps-first : clumps_of (level a b) n (here ++ after) ≡ taken b here ++ clumps_of (level a b) n after
+    pub clumps_first : clumps_of (level a b) n (here ++ after) ≡ taken b here ++ clumps_of (level a b) n after
     unfolding clumps_of
-    clumps-first = made-first (taken b) (taken_none b) a k here after own above (group_count a n) low
+    clumps_first = made_first (taken b) (taken_none b) a k here after own above (group_count a n) low
 
-    pub overflow-first : overflow_of (level a b) n (here ++ after) ≡ remainder b here ++ overflow_of (level a b) n after
+    pub overflow_first : overflow_of (level a b) n (here ++ after) ≡ remainder b here ++ overflow_of (level a b) n after
     unfolding overflow_of
-    overflow-first = made-first (remainder b) (remainder-none b) a k here after own above (group_count a n) low
+    overflow_first = made_first (remainder b) (remainder_none b) a k here after own above (group_count a n) low
 
   -- how many indices there are does not matter, if all numbers are among them
   module _ (some : 1 ≤ a) (n m : ℕ) (u : List ℕ) (low : Rising n u) (less : Rising m u) where
     pub clumps_any : clumps_of (level a b) n u ≡ clumps_of (level a b) m u
     unfolding clumps_of
     clumps_any =
-        made-same (taken b) (taken_none b) a (group_count a n) (group_count a m) u (λ i h. part-below a n (get_or u i 0) some (low.below i h))
-        (λ i h. part-below a m (get_or u i 0) some (less.below i h))
+        made_same (taken b) (taken_none b) a (group_count a n) (group_count a m) u (λ i h. part_below a n (get_or u i 0) some (low.below i h))
+        (λ i h. part_below a m (get_or u i 0) some (less.below i h))
 
     pub overflow_any : overflow_of (level a b) n u ≡ overflow_of (level a b) m u
     unfolding overflow_of
     overflow_any =
-        made-same (remainder b) (remainder-none b) a (group_count a n) (group_count a m) u (λ i h. part-below a n (get_or u i 0) some (low.below i h))
-        (λ i h. part-below a m (get_or u i 0) some (less.below i h))
+        made_same (remainder b) (remainder_none b) a (group_count a n) (group_count a m) u (λ i h. part_below a n (get_or u i 0) some (low.below i h))
+        (λ i h. part_below a m (get_or u i 0) some (less.below i h))

@@ -15,18 +15,18 @@ pub record CutAsked (s : List ℕ) (at m : ℕ) (l : Pair) (keys rest : ℕ) : T
   pub some : 2 ≤ l.b
   pub within : l.b ≤ l.a
   pub few : l.a ≤ most_part
-  pub keys-room : keys + m + 1 + members_at s at m / l.b ≤ rest
-  pub rest-room : rest + m + 1 + members_at s at m ≤ length s
+  pub keys_room : keys + m + 1 + members_at s at m / l.b ≤ rest
+  pub rest_room : rest + m + 1 + members_at s at m ≤ length s
   pub away : (get_or s (at + m) 0 ≤ keys) ⊎ (rest + m + 1 + members_at s at m ≤ at)
   pub fits : length s < 2 ^ 32
 
 -- the rows are cut: of each the keys of its clumps stand in a row at `keys`, and its overflow in a row at `rest`
 pub record RowsCut (at m : ℕ) (l : Pair) (keys rest : ℕ) (e : Ends) (old new : List ℕ) : Type 0 where
   pub apart : Apart keys e.rest old new
-  pub keys-formed : Formed new keys m e.keys
-  pub rest-formed : Formed new rest m e.rest
+  pub keys_formed : Formed new keys m e.keys
+  pub rest_formed : Formed new rest m e.rest
   pub whole : l.b * (e.keys - (keys + m + 1)) + (e.rest - (rest + m + 1)) ≡ members_at old at m
-  pub keys-low : e.keys ≤ rest
+  pub keys_low : e.keys ≤ rest
   pub clumps : (n j : ℕ) → j < m → Rising n (row_at old at j) → row_at new keys j ≡ map (key_in l.a) (clumps_of (level l.a l.b) n (row_at old at j))
   pub overflow : (n j : ℕ) → j < m → Rising n (row_at old at j) → row_at new rest j ≡ overflow_of (level l.a l.b) n (row_at old at j)
 
@@ -75,8 +75,8 @@ pub record CutRoom (s : List ℕ) (from to a b keys rest : ℕ) : Type 0 where
   pub some : 2 ≤ b
   pub within : b ≤ a
   pub few : a ≤ most_part
-  pub keys-room : keys + (to - from) / b ≤ rest
-  pub rest-room : rest + (to - from) ≤ length s
+  pub keys_room : keys + (to - from) / b ≤ rest
+  pub rest_room : rest + (to - from) ≤ length s
   pub away : (to ≤ keys) ⊎ (rest + (to - from) ≤ from)
 
 -- they are cut: keys stand up to cell k, and what is left over up to cell r, and no other cell changed
@@ -86,7 +86,7 @@ pub record CutTo (from to b keys rest k r : ℕ) (old new : List ℕ) : Type 0 w
   pub between : (c : ℕ) → k ≤ c → c < rest → get_or new c 0 ≡ get_or old c 0
   pub behind : (c : ℕ) → r ≤ c → get_or new c 0 ≡ get_or old c 0
   pub keys_rise : keys ≤ k
-  pub keys-low : k ≤ rest
+  pub keys_low : k ≤ rest
   pub rest_rise : rest ≤ r
   pub whole : b * (k - keys) + (r - rest) ≡ to - from
 
@@ -114,5 +114,5 @@ pub record RowCut (from to a b keys rest k r : ℕ) (old new : List ℕ) : Type 
 -- rows to be cut, the first places of what they are cut into being set
 pub record Placed (s : List ℕ) (at m : ℕ) (l : Pair) (keys rest : ℕ) : Type 0 where
   pub asked : CutAsked s at m l keys rest
-  pub keys-first : get_or s keys 0 ≡ keys + m + 1
-  pub rest-first : get_or s rest 0 ≡ rest + m + 1
+  pub keys_first_lem : get_or s keys 0 ≡ keys + m + 1
+  pub rest_first_lem : get_or s rest 0 ≡ rest + m + 1

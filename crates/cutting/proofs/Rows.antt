@@ -11,7 +11,7 @@ use native.Mathlib.Omega.{arith}
 use lib.ListN.{length, get_or, set, get_or-eq_default}
 use lib.Pow.{pow-add, pow_pos, pow_mono, high, low, shl_lt, shl_exact, shr_shr}
 use Rattle.chain.specs.Written.{over, laid}
-use Rattle.chain.proofs.Written.{laid_nil, laid-laid, over-laid}
+use Rattle.chain.proofs.Written.{laid_nil, laid_laid, over_laid}
 use Rattle.digits.specs.Digits.{digit}
 use Rattle.digits.specs.Range.{sum_to, list_to}
 use Rattle.digits.proofs.Range.{sum_same, sum_split, sum-mul, sum_more}
@@ -27,13 +27,13 @@ use Rattle.groups.specs.Inner.{numbers_of}
 use Rattle.cutting.specs.Inner.{Cut, CutUp, Entered, number_at}
 use Rattle.groups.proofs.Groups.{get_d_group, length-group, weigh_vector}
 use Rattle.groups.proofs.Inputs.{get_d_over, place}
-use Rattle.groups.proofs.Members.{amount-fits, selection-count, selection_two}
+use Rattle.groups.proofs.Members.{amount_fits, selection_count, selection_two}
 use Rattle.groups.proofs.Numbering.{filled_on}
 
 -- the row is a word of 64 bits
 module _ (x held : ℕ) (fits : x < 2 ^ 32) (short : held < most_members) where
-  pub behind-low : x * 2 ^ held ≤ 2 ^ (32 + most_members)
-  behind-low =
+  pub behind_low : x * 2 ^ held ≤ 2 ^ (32 + most_members)
+  behind_low =
       let top : 2 ^ (32 + held) ≤ 2 ^ (32 + most_members) = pow_mono {i = 32 + held} {j = 32 + most_members} (omega arith) in
       let below : x * 2 ^ held < 2 ^ (32 + held) = shl_lt 32 held fits in
       omega arith
@@ -60,8 +60,8 @@ number_more l s n m =
         rw (at, weight, pow-add 2 (1 * j) n) (sym (mul_assoc (get_or l (s + n + j) 0) (2 ^ (1 * j)) (2 ^ n)))
 
 -- the number of a part is that of its group's bits
-part-is : (l : List ℕ) (c g : ℕ) → weigh (group c g l) ≡ number_at l (g * c) (group_size c (length l) g)
-part-is l c g =
+part_is : (l : List ℕ) (c g : ℕ) → weigh (group c g l) ≡ number_at l (g * c) (group_size c (length l) g)
+part_is l c g =
     weigh_vector (group c g l)
     ∙ sum_same (length (group c g l)) _ _ (λ j h. ap (λ (x : ℕ). x * 2 ^ (1 * j)) (get_d_group c g l j h))
     ∙ ap (number_at l (g * c)) (length-group c g l)
@@ -84,23 +84,23 @@ module _ (l : List ℕ) (two : (j : ℕ) → get_or l j 0 < 2 ^ 1) where
     number_rest = ap (λ (x : ℕ). x / 2 ^ c) number_split ∙ high _ c (number_low s c)
 
   -- a part of the row is a part of the list
-  cut-part : (c g n j : ℕ) → suc j * c ≤ n → g * c + n ≤ length l → digit c (number_at l (g * c) n) j ≡ weigh (group c (g + j) l)
-  cut-part c g n j h within =
+  cut_part_lem : (c g n j : ℕ) → suc j * c ≤ n → g * c + n ≤ length l → digit c (number_at l (g * c) n) j ≡ weigh (group c (g + j) l)
+  cut_part_lem c g n j h within =
       let wide : c * j + c ≤ n = omega (arith, suc-mul j c, mul_comm c j) in
       let at : g * c + c * j ≡ (g + j) * c = omega (arith, add-mul g j c, mul_comm c j) in
       let full : c ≡ group_size c (length l) (g + j) = omega arith in
       ap (λ (x : ℕ). x % 2 ^ c) (number_rest (g * c) (c * j) n (omega arith))
       ∙ number_first (g * c + c * j) c (n - c * j) (omega arith)
       ∙ ap₂ (number_at l) at full
-      ∙ sym (part-is l c (g + j))
+      ∙ sym (part_is l c (g + j))
 
 -- how many groups w inputs make
 groups_are : (c w n : ℕ) → 0 < c → n * c ≤ w + c - 1 → w + c - 1 < suc n * c → group_count c w ≡ n
 groups_are c w n some low high = le_antisymm (omega (arith, (div-lt_iff_lt-mul some).1 high)) ((le-div_iff_mul-le some).1 low)
 
 -- cutting part after part
-pub cut-none : (c : ℕ) (row : Row) (cells : List ℕ) → Cut c row row cells cells
-cut-none c row cells =
+pub cut_none : (c : ℕ) (row : Row) (cells : List ℕ) → Cut c row row cells cells
+cut_none c row cells =
     let none : row.g - row.g ≡ 0 = omega arith in
     record {
       onward = omega arith;
@@ -153,15 +153,15 @@ module _ (s : Grouping) (amounts : List ℕ) (i : ℕ) where
       let n : ℕ = width col in
       let bit : ℕ → ℕ → ℕ = λ col j. digit 1 (amount s.p amounts i col) j in
       sum_same n _ _ (λ j k. ap (λ (x : ℕ). x * 2 ^ (1 * j)) (get_d_over width bit s.p col j less k))
-      ∙ vector_own 1 (amount s.p amounts i col) n (rw (one-mul n) (amount-fits s.p s.q amounts i col h))
+      ∙ vector_own 1 (amount s.p amounts i col) n (rw (one-mul n) (amount_fits s.p s.q amounts i col h))
 
-  pub entered-none : (row : Row) (cells : List ℕ) → row.bits ≡ 0 → row.held ≡ 0 → row.g ≡ 0 → 1 ≤ s.c → Entered s amounts i 0 row cells cells
-  entered-none row cells bits held g some =
+  pub entered_none : (row : Row) (cells : List ℕ) → row.bits ≡ 0 → row.held ≡ 0 → row.g ≡ 0 → 1 ≤ s.c → Entered s amounts i 0 row cells cells
+  entered_none row cells bits held g some =
       record { place = rw (held, g) (omega arith); short = omega arith; waiting = rw held bits; parts_are = rw g (over_none cells) }
 
   module _ (n : ℕ) (row : Row) (old cells : List ℕ) (e : Entered s amounts i n row old cells) where
-    pub entered-end : n ≤ s.p → s.p ≤ n → Entered s amounts i s.p row old cells
-    entered-end h k = let last : n ≡ s.p = omega arith in subst (λ (m : ℕ). Entered s amounts i m row old cells) last e
+    pub entered_end : n ≤ s.p → s.p ≤ n → Entered s amounts i s.p row old cells
+    entered_end h k = let last : n ≡ s.p = omega arith in subst (λ (m : ℕ). Entered s amounts i m row old cells) last e
 
     pub row_low : s.c ≤ most_members → row.bits < 2 ^ most_members
     row_low few =
@@ -187,7 +187,7 @@ module _ (s : Grouping) (amounts : List ℕ) (i : ℕ) where
           ∙ sym (number_more own (row.g * s.c) row.held b)
 
       within : row.held + b + row.g * s.c ≤ length own
-      within = omega (arith, e.place, bits, selection-count s.p s.q amounts i, sum_more width (suc n) s.p less)
+      within = omega (arith, e.place, bits, selection_count s.p s.q amounts i, sum_more width (suc n) s.p less)
 
       module _ (wide left : Row) (cells' : List ℕ) (all-bits : wide.bits ≡ row.bits + x) (all_held : wide.held ≡ row.held + b) (same-g : wide.g ≡ row.g)
           (k : CutUp s.c wide left cells cells') where
@@ -208,21 +208,21 @@ module _ (s : Grouping) (amounts : List ℕ) (i : ℕ) where
             let long : suc j * s.c ≤ m * s.c = mul-le-mul_right s.c less' in
             let there : wide.held + wide.g * s.c ≤ length own = rw (all_held, same-g) within in
             ap (λ (z : ℕ). digit s.c z j) wide_is
-            ∙ cut-part own two s.c wide.g wide.held j (omega (arith, k.cut.held_less)) (omega arith)
+            ∙ cut_part_lem own two s.c wide.g wide.held j (omega (arith, k.cut.held_less)) (omega arith)
 
-        entered-cells : cells' ≡ over (numbers_of s.c left.g own) old
-        entered-cells =
+        entered_cells : cells' ≡ over (numbers_of s.c left.g own) old
+        entered_cells =
             let onward = k.cut.onward in
             let all : wide.g + m ≡ left.g = omega arith in
             let number : ℕ → ℕ = λ g. weigh (group s.c g own) in
             let first : List ℕ = list_to wide.g number in
             let more : List ℕ = list_to m (λ j. number (wide.g + j)) in
-            let over-is : cells ≡ laid 0 first old = e.parts_are ∙ over-laid _ old ∙ ap (λ (z : ℕ). laid 0 (list_to z number) old) (sym same-g) in
+            let over_is : cells ≡ laid 0 first old = e.parts_are ∙ over_laid _ old ∙ ap (λ (z : ℕ). laid 0 (list_to z number) old) (sym same-g) in
             k.cut.parts_are
-            ∙ ap₂ (laid wide.g) (list_same m _ _ each) over-is
-            ∙ laid-laid 0 wide.g first more old (omega (arith, length-list wide.g number)) (omega arith)
+            ∙ ap₂ (laid wide.g) (list_same m _ _ each) over_is
+            ∙ laid_laid 0 wide.g first more old (omega (arith, length-list wide.g number)) (omega arith)
             ∙ ap (λ (l : List ℕ). laid 0 l old) (sym (list_split wide.g m number) ∙ ap (λ (z : ℕ). list_to z number) all)
-            ∙ sym (over-laid (list_to left.g number) old)
+            ∙ sym (over_laid (list_to left.g number) old)
 
         pub entered_on : Entered s amounts i (n + 1) left old cells'
         entered_on =
@@ -241,7 +241,7 @@ module _ (s : Grouping) (amounts : List ℕ) (i : ℕ) where
                   ∙ ap (λ (z : ℕ). z / 2 ^ (s.c * m)) wide_is
                   ∙ number_rest own two (wide.g * s.c) (s.c * m) wide.held (omega arith)
                   ∙ ap₂ (number_at own) cut_at left_is;
-              parts_are = entered-cells;
+              parts_are = entered_cells;
             }
 
   -- all columns are entered: what is left is the last part, if anything is
@@ -260,8 +260,8 @@ module _ (s : Grouping) (amounts : List ℕ) (i : ℕ) where
           let wide : row.g * 1 ≤ row.g * s.c = mul-le-mul_left row.g (omega arith) in
           omega (arith, e.place, mul-one row.g)
 
-      pub part-last : most_inputs ≤ length old → set cells row.g row.bits ≡ over (numbers_of s.c s.groups own) old
-      part-last room =
+      pub part_last : most_inputs ≤ length old → set cells row.g row.bits ≡ over (numbers_of s.c s.groups own) old
+      part_last room =
           let short = e.short in
           let place = e.place in
           let g : ℕ = row.g in
@@ -269,6 +269,6 @@ module _ (s : Grouping) (amounts : List ℕ) (i : ℕ) where
           let inside = part_cell in
           let next : (g + 1) * s.c ≡ g * s.c + s.c = omega (arith, add-mul g 1 s.c, one-mul s.c) in
           let all : group_count s.c w ≡ g + 1 = groups_are s.c w (g + 1) (omega arith) (omega arith) (omega (arith, suc-mul (g + 1) s.c)) in
-          let size : row.held ≡ group_size s.c (length own) g = omega (arith, selection-count s.p s.q amounts i) in
-          let is : row.bits ≡ number g = e.waiting ∙ ap (number_at own (g * s.c)) size ∙ sym (part-is own s.c g) in
+          let size : row.held ≡ group_size s.c (length own) g = omega (arith, selection_count s.p s.q amounts i) in
+          let is : row.bits ≡ number g = e.waiting ∙ ap (number_at own (g * s.c)) size ∙ sym (part_is own s.c g) in
           rw (G, all) (fill_on number old most_inputs g row.bits cells inside room is e.parts_are)

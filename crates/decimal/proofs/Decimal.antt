@@ -33,10 +33,10 @@ onto_enough (suc f) zero x t h k =
 onto_enough (suc f) (suc g) zero t h k = refl
 onto_enough (suc f) (suc g) (suc x) t h k = onto_enough f g (suc x / 10) _ (omega arith) (omega arith)
 
-decimal-some : (x : ℕ) → 0 < x → decimal x ≡ decimal_onto x x []
+decimal_some : (x : ℕ) → 0 < x → decimal x ≡ decimal_onto x x []
 unfolding decimal
-decimal-some zero h = absurd (omega arith)
-decimal-some (suc x) h = refl
+decimal_some zero h = absurd (omega arith)
+decimal_some (suc x) h = refl
 
 -- one digit
 pub decimal_digit : (x : ℕ) → x < 10 → decimal x ≡ (48 + x) ∷ []
@@ -48,28 +48,28 @@ decimal_digit (suc x) h =
     rw (e, e') (onto_zero x _)
 
 -- several: all but the last, and the last
-pub decimal-more : (x : ℕ) → 10 ≤ x → decimal x ≡ decimal (x / 10) ++ (48 + x % 10) ∷ []
-decimal-more zero h = absurd (omega arith)
-decimal-more (suc x) h =
-    decimal-some (suc x) (omega arith)
+pub decimal_more : (x : ℕ) → 10 ≤ x → decimal x ≡ decimal (x / 10) ++ (48 + x % 10) ∷ []
+decimal_more zero h = absurd (omega arith)
+decimal_more (suc x) h =
+    decimal_some (suc x) (omega arith)
     ∙ onto_append x (suc x / 10) ((48 + suc x % 10) ∷ [])
     ∙ ap (λ (l : List ℕ). l ++ (48 + suc x % 10) ∷ [])
-    (onto_enough x (suc x / 10) (suc x / 10) [] (omega arith) (omega arith) ∙ sym (decimal-some (suc x / 10) (omega arith)))
+    (onto_enough x (suc x / 10) (suc x / 10) [] (omega arith) (omega arith) ∙ sym (decimal_some (suc x / 10) (omega arith)))
 
 -- at most k + 1 digits below 10 ^ (k + 1)
-pub decimal-short : (k x : ℕ) → x < 10 ^ suc k → length (decimal x) ≤ suc k
-decimal-short zero x h = rw (decimal_digit x (omega arith)) (omega arith)
-decimal-short (suc k) x h = by_size (dec_lt x 10) (λ g. decimal-short k (x / 10) g)
+pub decimal_short : (k x : ℕ) → x < 10 ^ suc k → length (decimal x) ≤ suc k
+decimal_short zero x h = rw (decimal_digit x (omega arith)) (omega arith)
+decimal_short (suc k) x h = by_size (dec_lt x 10) (λ g. decimal_short k (x / 10) g)
   where
     by_size : Dec (x < 10) → (x / 10 < 10 ^ suc k → length (decimal (x / 10)) ≤ suc k) → length (decimal x) ≤ suc (suc k)
     by_size (yes low) ih = rw (decimal_digit x low) (omega arith)
     by_size (no more) ih =
         let g : length (decimal (x / 10)) ≤ suc k = ih (omega (arith, pow-succ' 10 (suc k))) in
-        rw (decimal-more x (omega arith), length-append) (omega arith)
+        rw (decimal_more x (omega arith), length-append) (omega arith)
 
 -- how many digits there are
 pub digit-length : (x : ℕ) → x < 10 → length (decimal x) ≡ 1
 digit-length x h = rw (decimal_digit x h)
 
 pub more-length : (x : ℕ) → 10 ≤ x → length (decimal x) ≡ length (decimal (x / 10)) + 1
-more-length x h = rw (decimal-more x h, length-append)
+more-length x h = rw (decimal_more x h, length-append)

@@ -7,23 +7,23 @@ use native.Mathlib.Omega.{arith}
 use lib.ListN.{length, get_or, take, set, length-append}
 use lib.Seq.{length-take-le, take_all, take-suc}
 use Rattle.chain.specs.Written.{laid}
-use Rattle.chain.proofs.Written.{laid_nil, laid-length, laid_one, laid-laid}
+use Rattle.chain.proofs.Written.{laid_nil, laid-length, laid_one, laid_laid}
 use Rattle.decimal.specs.Decimal.{decimal}
 use Rattle.decimal.specs.Inner.{Put}
-use Rattle.decimal.proofs.Decimal.{decimal_digit, decimal-more, digit-length, more-length}
+use Rattle.decimal.proofs.Decimal.{decimal_digit, decimal_more, digit-length, more-length}
 
 -- nothing yet
-pub put-none : (at : ℕ) (l : List ℕ) → Put at [] l at l
-put-none at l = record { place = omega arith; text = sym (laid_nil at l) }
+pub put_none : (at : ℕ) (l : List ℕ) → Put at [] l at l
+put_none at l = record { place = omega arith; text = sym (laid_nil at l) }
 
 -- `l` was the text, `l'` is it after the part s
 module _ (at : ℕ) (s l : List ℕ) (m : ℕ) (l' : List ℕ) (w : Put at s l m l') where
   -- a part more
-  pub put-more : (t : List ℕ) (e : ℕ) (l'' : List ℕ) → at ≤ length l → Put m t l' e l'' → Put at (s ++ t) l e l''
-  put-more t e l'' h v =
+  pub put_more : (t : List ℕ) (e : ℕ) (l'' : List ℕ) → at ≤ length l → Put m t l' e l'' → Put at (s ++ t) l e l''
+  put_more t e l'' h v =
       record {
         place = omega (arith, w.place, v.place, length-append s t);
-        text = v.text ∙ ap (laid m t) w.text ∙ laid-laid at m s t l w.place h;
+        text = v.text ∙ ap (laid m t) w.text ∙ laid_laid at m s t l w.place h;
       }
 
   -- a byte more
@@ -36,21 +36,21 @@ module _ (at : ℕ) (s l : List ℕ) (m : ℕ) (l' : List ℕ) (w : Put at s l m
             ap (λ (t : List ℕ). set t m x) w.text
             ∙ sym (laid_nil (m + 1) (set (laid at s l) m x))
             ∙ laid_one m x [] (laid at s l) room
-            ∙ laid-laid at m s (x ∷ []) l w.place (omega arith);
+            ∙ laid_laid at m s (x ∷ []) l w.place (omega arith);
       }
 
 -- a number of one digit
-pub put-digit : (at x : ℕ) (l : List ℕ) → x < 10 → at + length (decimal x) ≤ length l → Put at (decimal x) l (at + 1) (set l at (48 + x))
-put-digit at x l h room =
+pub put_digit : (at x : ℕ) (l : List ℕ) → x < 10 → at + length (decimal x) ≤ length l → Put at (decimal x) l (at + 1) (set l at (48 + x))
+put_digit at x l h room =
     let one = digit-length x h in
-    rw (decimal_digit x h) (put_one at [] l at l (put-none at l) (48 + x) (omega arith))
+    rw (decimal_digit x h) (put_one at [] l at l (put_none at l) (48 + x) (omega arith))
 
 -- a number of several: all but the last were written before
 pub put_digits : (at x : ℕ) (l : List ℕ) (m : ℕ) (l' : List ℕ) → 10 ≤ x → at + length (decimal x) ≤ length l → Put at (decimal (x / 10)) l m l'
     → Put at (decimal x) l (m + 1) (set l' m (48 + x % 10))
 put_digits at x l m l' h room w =
     let more = more-length x h in
-    rw (decimal-more x h) (put_one at (decimal (x / 10)) l m l' w (48 + x % 10) (omega arith))
+    rw (decimal_more x h) (put_one at (decimal (x / 10)) l m l' w (48 + x % 10) (omega arith))
 
 -- a list byte by byte: `l` was the text, `l'` is it after i bytes
 module _ (at i : ℕ) (word l l' : List ℕ) (w : Put at (take i word) l (at + i) l') where
@@ -60,5 +60,5 @@ module _ (at i : ℕ) (word l l' : List ℕ) (w : Put at (take i word) l (at + i
       let e' : at + (i + 1) ≡ at + i + 1 = omega arith in
       rw (e, e') (put_one at (take i word) l (at + i) l' w (get_or word i 0) (omega (arith, length-take-le i word (omega arith))))
 
-  pub put-bytes : length word ≤ i → Put at word l (at + i) l'
-  put-bytes h = rw (take_all i word h) at w
+  pub put_bytes : length word ≤ i → Put at word l (at + i) l'
+  put_bytes h = rw (take_all i word h) at w

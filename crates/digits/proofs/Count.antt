@@ -37,12 +37,12 @@ module _ (k : ℕ) (some : 0 < k) where
   low_count x c h = low_in x x c (le_refl x) h
 
   -- a number is below its own bound
-  pub count-own : (x : ℕ) → x < 2 ^ (k * digit_count k x)
-  count-own x = count_low x (digit_count k x) (le_refl (digit_count k x))
+  pub count_own : (x : ℕ) → x < 2 ^ (k * digit_count k x)
+  count_own x = count_low x (digit_count k x) (le_refl (digit_count k x))
 
   -- a smaller number has no more digits
   pub count_mono : (x y : ℕ) → x ≤ y → digit_count k x ≤ digit_count k y
-  count_mono x y h = low_count x (digit_count k y) (omega (arith, count-own y))
+  count_mono x y h = low_count x (digit_count k y) (omega (arith, count_own y))
 
   pub weights_rise : (c d : ℕ) → c < d → 2 ^ (k * c) < 2 ^ (k * d)
   weights_rise c d h = pow-lt (mul-lt-mul_of_pos_left h some)
@@ -61,7 +61,7 @@ module _ (k : ℕ) (some : 0 < k) where
     where
       by_size : Dec (digit_count k x < c) → digit_count k x ≡ c
       by_size (no ge) = omega (arith, low_count x c (omega arith))
-      by_size (yes lt) = absurd (omega (arith, count-own x, weights_rise (digit_count k x) c lt))
+      by_size (yes lt) = absurd (omega (arith, count_own x, weights_rise (digit_count k x) c lt))
 
   -- the top digit is not 0
   pub top_digit : (x d : ℕ) → digit_count k x ≡ suc d → 0 < digit k x d
@@ -72,13 +72,13 @@ module _ (k : ℕ) (some : 0 < k) where
       rw (mod-eq_of_lt quotient) one
 
 -- 0 has no digit, any other number has one
-pub count-zero : (k : ℕ) → digit_count k 0 ≡ 0
+pub count_zero : (k : ℕ) → digit_count k 0 ≡ 0
 unfolding digit_count
-count-zero k = refl
+count_zero k = refl
 
-pub count-some : (k x : ℕ) → 0 < digit_count k (suc x)
+pub count_some : (k x : ℕ) → 0 < digit_count k (suc x)
 unfolding digit_count
-count-some k x = suc-le-suc zero-le
+count_some k x = suc-le-suc zero-le
 
 -- a number has no more digits than units
 in_few : (f k x : ℕ) → digits_in f k x ≤ f
@@ -86,18 +86,18 @@ in_few zero k x = zero-le
 in_few (suc f) k zero = zero-le
 in_few (suc f) k (suc x) = suc-le-suc (in_few f k (suc x / 2 ^ k))
 
-pub count-few : (k x : ℕ) → digit_count k x ≤ x
+pub count_few : (k x : ℕ) → digit_count k x ≤ x
 unfolding digit_count
-count-few k x = in_few x k x
+count_few k x = in_few x k x
 
-pub none-counted : (k x : ℕ) → digit_count k x ≡ 0 → x ≡ 0
-none-counted k zero e = refl
-none-counted k (suc x) e = absurd (omega (arith, count-some k x))
+pub none_counted : (k x : ℕ) → digit_count k x ≡ 0 → x ≡ 0
+none_counted k zero e = refl
+none_counted k (suc x) e = absurd (omega (arith, count_some k x))
 
 -- bit lengths
-pub bits-low : (x n : ℕ) → bit_length x ≤ n → x < 2 ^ n
+pub bits_low : (x n : ℕ) → bit_length x ≤ n → x < 2 ^ n
 unfolding bit_length
-bits-low x n h = rw one-mul at (count_low 1 (le_refl 1) x n h)
+bits_low x n h = rw one-mul at (count_low 1 (le_refl 1) x n h)
 
 pub low_bits : (x n : ℕ) → x < 2 ^ n → bit_length x ≤ n
 unfolding bit_length
@@ -108,12 +108,12 @@ pub bit-length-is : (w x : ℕ) → 0 < w → 2 ^ (w - 1) ≤ x → x < 2 ^ w �
 bit-length-is w x pos lo hi = by_size (dec_le (bit_length x) (w - 1))
   where
     by_size : Dec (bit_length x ≤ w - 1) → w ≡ bit_length x
-    by_size (yes few) = absurd (omega (arith, bits-low x (w - 1) few))
+    by_size (yes few) = absurd (omega (arith, bits_low x (w - 1) few))
     by_size (no many) = omega (arith, low_bits x w hi)
 
-pub bits-some : (x : ℕ) → 1 ≤ x → 1 ≤ bit_length x
-bits-some x h = by_size (dec_le (bit_length x) 0)
+pub bits_some : (x : ℕ) → 1 ≤ x → 1 ≤ bit_length x
+bits_some x h = by_size (dec_le (bit_length x) 0)
   where
     by_size : Dec (bit_length x ≤ 0) → 1 ≤ bit_length x
-    by_size (yes none) = absurd (omega (arith, bits-low x 0 none))
+    by_size (yes none) = absurd (omega (arith, bits_low x 0 none))
     by_size (no some) = omega arith

@@ -9,8 +9,8 @@ use lib.Pow.{pow_pos}
 use Rattle.digits.specs.Digits.{digit_count, digit}
 use Rattle.digits.specs.Range.{sum_to, max_to, or_to, sign}
 use Rattle.digits.proofs.Range.{sign_mono, sign-add}
-use Rattle.digits.proofs.Count.{count-own, low_count}
-use Rattle.digits.proofs.Vector.{digit-zero}
+use Rattle.digits.proofs.Count.{count_own, low_count}
+use Rattle.digits.proofs.Vector.{digit_zero}
 
 -- two numbers
 or_first : (a b : ℕ) → a ≤ bit_or a b
@@ -35,7 +35,7 @@ or_on f n s x is e = rw (add-one n) (ap₂ bit_or e is)
 
 -- a digit is 0 exactly where the sum of that digit of each is
 pub or_digits : (k j n : ℕ) (f : ℕ → ℕ) → sign (digit k (or_to n f) j) ≡ sign (sum_to n (λ i. digit k (f i) j))
-or_digits k j zero f = ap sign (digit-zero k j)
+or_digits k j zero f = ap sign (digit_zero k j)
 or_digits k j (suc n) f =
     let a : ℕ = digit k (or_to n f) j in
     let b : ℕ = digit k (f n) j in
@@ -53,5 +53,5 @@ max_or (suc n) f = omega (arith, max_or n f, or_first (or_to n f) (f n), or_seco
 
 pub or_count : (k n : ℕ) (f : ℕ → ℕ) → 0 < k → digit_count k (or_to n f) ≡ digit_count k (max_to n f)
 or_count k n f some =
-    le_antisymm (low_count k some (or_to n f) (digit_count k (max_to n f)) (or_low (k * digit_count k (max_to n f)) n f (count-own k some (max_to n f))))
-    (low_count k some (max_to n f) (digit_count k (or_to n f)) (lt_of_le_of_lt (max_or n f) (count-own k some (or_to n f))))
+    le_antisymm (low_count k some (or_to n f) (digit_count k (max_to n f)) (or_low (k * digit_count k (max_to n f)) n f (count_own k some (max_to n f))))
+    (low_count k some (max_to n f) (digit_count k (or_to n f)) (lt_of_le_of_lt (max_or n f) (count_own k some (or_to n f))))

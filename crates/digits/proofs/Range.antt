@@ -25,23 +25,23 @@ pub sum-mul : (n : ℕ) (f : ℕ → ℕ) (a : ℕ) → sum_to n (λ i. f i * a)
 sum-mul zero f a = omega (arith, zero-mul a)
 sum-mul (suc n) f a = omega (arith, sum-mul n f a, add-mul (sum_to n f) (f n) a)
 
-pub sum-le : (n : ℕ) (f g : ℕ → ℕ) → ((i : ℕ) → i < n → f i ≤ g i) → sum_to n f ≤ sum_to n g
-sum-le zero f g h = le_refl 0
-sum-le (suc n) f g h = omega (arith, sum-le n f g (λ i g. h i (omega arith)), h n (omega arith))
+pub sum_le : (n : ℕ) (f g : ℕ → ℕ) → ((i : ℕ) → i < n → f i ≤ g i) → sum_to n f ≤ sum_to n g
+sum_le zero f g h = le_refl 0
+sum_le (suc n) f g h = omega (arith, sum_le n f g (λ i g. h i (omega arith)), h n (omega arith))
 
 pub sum_low : (n : ℕ) (f : ℕ → ℕ) (a : ℕ) → ((i : ℕ) → i < n → f i ≤ a) → sum_to n f ≤ n * a
 sum_low zero f a h = zero-le
 sum_low (suc n) f a h = omega (arith, sum_low n f a (λ i g. h i (omega arith)), h n (omega arith), suc-mul n a)
 
 -- the order of two sums does not matter
-pub sum-swap : (m n : ℕ) (f : ℕ → ℕ → ℕ) → sum_to m (λ i. sum_to n (λ j. f i j)) ≡ sum_to n (λ j. sum_to m (λ i. f i j))
-sum-swap zero n f = sym (sum-zero n _ (λ j h. refl))
-sum-swap (suc m) n f = ap (λ (s : ℕ). s + sum_to n (f m)) (sum-swap m n f) ∙ sym (sum-add n _ (f m))
+pub sum_swap : (m n : ℕ) (f : ℕ → ℕ → ℕ) → sum_to m (λ i. sum_to n (λ j. f i j)) ≡ sum_to n (λ j. sum_to m (λ i. f i j))
+sum_swap zero n f = sym (sum-zero n _ (λ j h. refl))
+sum_swap (suc m) n f = ap (λ (s : ℕ). s + sum_to n (f m)) (sum_swap m n f) ∙ sym (sum-add n _ (f m))
 
 -- each part of a sum is at most the sum
-pub le-sum : (n : ℕ) (f : ℕ → ℕ) (i : ℕ) → i < n → f i ≤ sum_to n f
-le-sum zero f i h = absurd (omega arith)
-le-sum (suc n) f i h = by_place (le-sum n f i) (dec_lt i n)
+pub le_sum : (n : ℕ) (f : ℕ → ℕ) (i : ℕ) → i < n → f i ≤ sum_to n f
+le_sum zero f i h = absurd (omega arith)
+le_sum (suc n) f i h = by_place (le_sum n f i) (dec_lt i n)
   where
     by_place : (i < n → f i ≤ sum_to n f) → Dec (i < n) → f i ≤ sum_to n f + f n
     by_place ih (yes lt) = omega (arith, ih lt)
@@ -51,7 +51,7 @@ le-sum (suc n) f i h = by_place (le-sum n f i) (dec_lt i n)
 
 -- a sum is 0 exactly if each part is
 pub sum-none : (n : ℕ) (f : ℕ → ℕ) → sum_to n f ≡ 0 ↔ ((i : ℕ) → i < n → f i ≡ 0)
-sum-none n f = (λ e i h. omega (arith, le-sum n f i h), sum-zero n f)
+sum-none n f = (λ e i h. omega (arith, le_sum n f i h), sum-zero n f)
 
 -- a sum of which only one part is not 0
 pub sum_single : (n : ℕ) (f : ℕ → ℕ) (j : ℕ) → j < n → ((i : ℕ) → i < n → (i ≡ j → ⊥) → f i ≡ 0) → sum_to n f ≡ f j
@@ -80,9 +80,9 @@ sum_more f m n h =
     rw e (omega (arith, sum_split m (n - m) f))
 
 -- maxima
-pub le-max : (n : ℕ) (f : ℕ → ℕ) (i : ℕ) → i < n → f i ≤ max_to n f
-le-max zero f i h = absurd (omega arith)
-le-max (suc n) f i h = by_place (le-max n f i) (dec_lt i n)
+pub le_max : (n : ℕ) (f : ℕ → ℕ) (i : ℕ) → i < n → f i ≤ max_to n f
+le_max zero f i h = absurd (omega arith)
+le_max (suc n) f i h = by_place (le_max n f i) (dec_lt i n)
   where
     by_place : (i < n → f i ≤ max_to n f) → Dec (i < n) → f i ≤ max (max_to n f) (f n)
     by_place ih (yes lt) = omega (arith, ih lt)
@@ -90,13 +90,13 @@ le-max (suc n) f i h = by_place (le-max n f i) (dec_lt i n)
         let last : i ≡ n = omega arith in
         rw last (omega arith)
 
-pub max-low : (n : ℕ) (f : ℕ → ℕ) (limit : ℕ) → ((i : ℕ) → i < n → f i ≤ limit) → max_to n f ≤ limit
-max-low zero f limit h = zero-le
-max-low (suc n) f limit h = omega (arith, max-low n f limit (λ i g. h i (omega arith)), h n (omega arith))
+pub max_low : (n : ℕ) (f : ℕ → ℕ) (limit : ℕ) → ((i : ℕ) → i < n → f i ≤ limit) → max_to n f ≤ limit
+max_low zero f limit h = zero-le
+max_low (suc n) f limit h = omega (arith, max_low n f limit (λ i g. h i (omega arith)), h n (omega arith))
 
 -- a maximum is 0 exactly if each number is
 pub max_none : (n : ℕ) (f : ℕ → ℕ) → max_to n f ≡ 0 ↔ ((i : ℕ) → i < n → f i ≡ 0)
-max_none n f = (λ e i h. omega (arith, le-max n f i h), λ none. omega (arith, max-low n f 0 (λ i h. omega (arith, none i h))))
+max_none n f = (λ e i h. omega (arith, le_max n f i h), λ none. omega (arith, max_low n f 0 (λ i h. omega (arith, none i h))))
 
 -- a maximum that is not 0 is one of the numbers
 pub record Attained (n : ℕ) (f : ℕ → ℕ) : Type 0 where
@@ -131,8 +131,8 @@ module _ (f : ℕ → ℕ) (b n s : ℕ) (e : s ≡ b + sum_to n f) where
   pub sum-after : (x : ℕ) → x ≡ f n → s + x ≡ b + sum_to (n + 1) f
   sum-after x is = omega (arith, sum_on f n (sum_to n f) x is refl)
 
-  pub sum-after-end : (bound : ℕ) → n ≤ bound → bound ≤ n → s ≡ b + sum_to bound f
-  sum-after-end bound h g = let last : bound ≡ n = omega arith in rw last e
+  pub sum-after_end : (bound : ℕ) → n ≤ bound → bound ≤ n → s ≡ b + sum_to bound f
+  sum-after_end bound h g = let last : bound ≡ n = omega arith in rw last e
 
 -- signs
 pub sign_low : (x : ℕ) → sign x ≤ 1
@@ -143,24 +143,24 @@ pub sign_le : (x : ℕ) → sign x ≤ x
 sign_le zero = zero-le
 sign_le (suc x) = omega arith
 
-pub sign-some : (x : ℕ) → 0 < x → sign x ≡ 1
-sign-some zero h = absurd (omega arith)
-sign-some (suc x) h = refl
+pub sign_some : (x : ℕ) → 0 < x → sign x ≡ 1
+sign_some zero h = absurd (omega arith)
+sign_some (suc x) h = refl
 
-pub sign-one : (x : ℕ) → (x ≡ 0 → ⊥) → 1 ≡ sign x
-sign-one x h = sym (sign-some x (omega arith))
+pub sign_one : (x : ℕ) → (x ≡ 0 → ⊥) → 1 ≡ sign x
+sign_one x h = sym (sign_some x (omega arith))
 
 pub sign_pos : (x : ℕ) → sign x ≡ 1 → 0 < x
 sign_pos zero e = absurd (omega arith)
 sign_pos (suc x) e = omega arith
 
-pub sign-sign : (x : ℕ) → sign (sign x) ≡ sign x
-sign-sign zero = refl
-sign-sign (suc x) = refl
+pub sign_sign : (x : ℕ) → sign (sign x) ≡ sign x
+sign_sign zero = refl
+sign_sign (suc x) = refl
 
 pub sign_mono : (x y : ℕ) → x ≤ y → sign x ≤ sign y
 sign_mono zero y h = zero-le
-sign_mono (suc x) y h = omega (arith, sign-some y (omega arith))
+sign_mono (suc x) y h = omega (arith, sign_some y (omega arith))
 
 -- at most as many are not 0 as there are
 pub signs_low : (n : ℕ) (f : ℕ → ℕ) → sum_to n (λ i. sign (f i)) ≤ n
@@ -169,16 +169,16 @@ signs_low n f = omega (arith, sum_low n (λ i. sign (f i)) 1 (λ i h. sign_low (
 -- a sum, as a maximum, is 0 only where both its parts are
 pub sign-add : (x y : ℕ) → sign (x + y) ≡ max (sign x) (sign y)
 sign-add zero y = let e : 0 + y ≡ y = omega arith in rw e (omega arith)
-sign-add (suc x) y = sign-some (suc x + y) (omega arith) ∙ omega (arith, sign_low y)
+sign-add (suc x) y = sign_some (suc x + y) (omega arith) ∙ omega (arith, sign_low y)
 
-pub sign-max : (x y : ℕ) → sign (max x y) ≡ max (sign x) (sign y)
-sign-max zero y = let e : max 0 y ≡ y = omega arith in rw e (omega arith)
-sign-max (suc x) y = sign-some (max (suc x) y) (omega arith) ∙ omega (arith, sign_low y)
+pub sign_max : (x y : ℕ) → sign (max x y) ≡ max (sign x) (sign y)
+sign_max zero y = let e : max 0 y ≡ y = omega arith in rw e (omega arith)
+sign_max (suc x) y = sign_some (max (suc x) y) (omega arith) ∙ omega (arith, sign_low y)
 
 -- a product is 0 only where one of its parts is: here a part that is not
 pub sign-mul : (x y : ℕ) → 0 < y → sign (x * y) ≡ sign x
 sign-mul zero y h = ap sign (zero-mul y)
-sign-mul (suc x) y h = sign-some (suc x * y) (omega (arith, suc-mul x y))
+sign-mul (suc x) y h = sign_some (suc x * y) (omega (arith, suc-mul x y))
 
 -- which parts are 0 decides whether their sum is, and their maximum
 pub sum-sign : (n : ℕ) (f g : ℕ → ℕ) → ((i : ℕ) → i < n → sign (f i) ≡ sign (g i)) → sign (sum_to n f) ≡ sign (sum_to n g)
@@ -186,6 +186,6 @@ sum-sign zero f g e = refl
 sum-sign (suc n) f g e =
     omega (arith, sum-sign n f g (λ i h. e i (omega arith)), e n (omega arith), sign-add (sum_to n f) (f n), sign-add (sum_to n g) (g n))
 
-pub max-sign : (n : ℕ) (f : ℕ → ℕ) → sign (max_to n f) ≡ sign (sum_to n f)
-max-sign zero f = refl
-max-sign (suc n) f = omega (arith, max-sign n f, sign-max (max_to n f) (f n), sign-add (sum_to n f) (f n))
+pub max_sign : (n : ℕ) (f : ℕ → ℕ) → sign (max_to n f) ≡ sign (sum_to n f)
+max_sign zero f = refl
+max_sign (suc n) f = omega (arith, max_sign n f, sign_max (max_to n f) (f n), sign-add (sum_to n f) (f n))

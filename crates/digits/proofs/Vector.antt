@@ -17,12 +17,12 @@ use Rattle.digits.proofs.Range.{sum_same, sum-zero, sum-add, sum_single}
 pub digit_low : (k x j : ℕ) → digit k x j < 2 ^ k
 digit_low k x j = mod-lt (x / 2 ^ (k * j)) (pow_pos k)
 
-pub digit-zero : (k j : ℕ) → digit k 0 j ≡ 0
-digit-zero k j = ap (λ (n : ℕ). n % 2 ^ k) (zero-div (2 ^ (k * j))) ∙ zero-mod (2 ^ k)
+pub digit_zero : (k j : ℕ) → digit k 0 j ≡ 0
+digit_zero k j = ap (λ (n : ℕ). n % 2 ^ k) (zero-div (2 ^ (k * j))) ∙ zero-mod (2 ^ k)
 
 -- there is no digit above a number's bound
-pub digit-above : (k x j : ℕ) → x < 2 ^ (k * j) → digit k x j ≡ 0
-digit-above k x j h = ap (λ (n : ℕ). n % 2 ^ k) (div-eq_of_lt h) ∙ zero-mod (2 ^ k)
+pub digit_above : (k x j : ℕ) → x < 2 ^ (k * j) → digit k x j ≡ 0
+digit_above k x j h = ap (λ (n : ℕ). n % 2 ^ k) (div-eq_of_lt h) ∙ zero-mod (2 ^ k)
 
 -- Horner's rule: a number's digits from j on, by those above j and digit j
 pub digits_from : (k x j : ℕ) → x / 2 ^ (k * suc j) * 2 ^ k + digit k x j ≡ x / 2 ^ (k * j)

@@ -7,7 +7,7 @@ use native.Mathlib.Omega.{arith}
 use lib.Count.{count_leading_zeros, leading_length}
 use lib.Pow.{pow_mono, shl_exact}
 use Rattle.digits.specs.Digits.{digit_count}
-use Rattle.digits.proofs.Count.{count-own, low_count, count_high}
+use Rattle.digits.proofs.Count.{count_own, low_count, count_high}
 
 pub power_word : (e : ℕ) → e < 32 → 1 * 2 ^ e % 2 ^ 32 ≡ 2 ^ e
 power_word e h = shl_exact 1 e 32 (omega arith) (omega arith) ∙ one-mul (2 ^ e)
@@ -40,7 +40,7 @@ count_bits k x m some low high = le_antisymm (by_count (dec_lt (digit_count k x)
         apart : (m : ℕ) → x < 2 ^ m → 2 ^ m ≤ 2 * x + 1 → k * digit_count k x < m → ⊥
         apart zero low high h = omega arith
         apart (suc m) low high h =
-            let own = count-own k some x in
+            let own = count_own k some x in
             let most : 2 ^ (k * digit_count k x) ≤ 2 ^ m = pow_mono (omega arith) in
             omega (arith, pow-suc 2 m)
 
@@ -55,8 +55,8 @@ pub count_ones : (k x : ℕ) → k ≡ 1 → x < 2 ^ 32 → 32 - count_leading_z
 count_ones k x one h = rw one (omega (arith, count_word 1 x (omega arith) h))
 
 -- a digit of a word is within it
-pub digit-place : (k x j : ℕ) → 0 < k → x < 2 ^ 32 → j < digit_count k x → k * j < 32
-digit-place k x j some h g = by_size (dec_lt (k * j) 32)
+pub digit_place : (k x j : ℕ) → 0 < k → x < 2 ^ 32 → j < digit_count k x → k * j < 32
+digit_place k x j some h g = by_size (dec_lt (k * j) 32)
   where
     by_size : Dec (k * j < 32) → k * j < 32
     by_size (yes lt) = lt

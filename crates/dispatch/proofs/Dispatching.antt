@@ -5,18 +5,18 @@ use Prim.Native.Nat.{ℕ, ◌/◌}
 use lib.ListN.{length, take}
 use Rattle.chain.specs.Verdict.{Verdict, fine, ◌then◌, Answer, refusal, answer}
 use Rattle.chain.specs.declared.Step.{Step}
-use Rattle.chain.proofs.Rules.{stop, pass, answer-refused, kept, renewed}
+use Rattle.chain.proofs.Rules.{stop, pass, answer_refused, kept, renewed}
 use Rattle.layout.specs.Layout.{edition1}
 use Rattle.layout.specs.File.{file_of, write_answer, write_bytes, read_answer, read_steps, read_outputs}
 use Rattle.answers.specs.Answers.{written_of}
 use Rattle.answers.specs.declared.Written.{Written}
 use Rattle.answers.specs.declared.Written.TheVariants.{Bytes, Refused}
-use Rattle.writing.proofs.Told.{write-stops, write_passes, write-front}
+use Rattle.writing.proofs.Told.{write_stops, write_passes, write_front}
 use Rattle.dispatch.specs.Inner.{dispatch_answer, dispatch_steps, dispatch_outputs, Dispatched}
 
 -- the answer of a call after one that found nothing
-pub after-answer : (a b : Verdict) (vs : List ℕ) → fine ≡ a → answer b vs ≡ answer (a then b) vs
-after-answer a b vs e = ap (λ (v : Verdict). answer v vs) (pass a b b e refl)
+pub after_answer : (a b : Verdict) (vs : List ℕ) → fine ≡ a → answer b vs ≡ answer (a then b) vs
+after_answer a b vs e = ap (λ (v : Verdict). answer v vs) (pass a b b e refl)
 
 module _ (p : ℕ) (steps : List Step) (outputs bytes received results : List ℕ) (w : Written)
     (answered : written_of w ≡ write_answer edition1 p steps outputs (length bytes)) (bytes' : List ℕ)
@@ -24,12 +24,12 @@ module _ (p : ℕ) (steps : List Step) (outputs bytes received results : List �
   pub not_written : (k s : ℕ) → w ≡ Refused k s → Dispatched p steps outputs bytes received results (refusal k s) bytes' received results
   unfolding dispatch_answer dispatch_steps dispatch_outputs
   not_written k s e =
-      let v = write-stops edition1 p steps outputs bytes w answered k s e in
+      let v = write_stops edition1 p steps outputs bytes w answered k s e in
       record {
-        answered = answer-refused _ _ k s (stop _ _ k s v);
+        answered = answer_refused _ _ k s (stop _ _ k s v);
         bytes_left = wrote;
-        steps-left = kept _ _ received k s v;
-        outputs-left = kept _ _ results k s v;
+        steps_left_lem = kept _ _ received k s v;
+        outputs_left = kept _ _ results k s v;
       }
 
   pub then_read : (n : ℕ) → w ≡ Bytes n → (a : Answer) (received' results' : List ℕ)
@@ -40,10 +40,10 @@ module _ (p : ℕ) (steps : List Step) (outputs bytes received results : List �
   unfolding dispatch_answer dispatch_steps dispatch_outputs read_answer
   then_read n e a received' results' read es eo =
       let v = write_passes edition1 p steps outputs bytes w answered n e in
-      let f : take n bytes' ≡ file_of edition1 p steps outputs = write-front edition1 p steps outputs bytes w answered n e bytes' wrote in
+      let f : take n bytes' ≡ file_of edition1 p steps outputs = write_front edition1 p steps outputs bytes w answered n e bytes' wrote in
       record {
-        answered = (read ∙ ap (λ (b : List ℕ). read_answer edition1 b (length received / 2) (length results)) f) ∙ after-answer _ _ _ v;
+        answered = (read ∙ ap (λ (b : List ℕ). read_answer edition1 b (length received / 2) (length results)) f) ∙ after_answer _ _ _ v;
         bytes_left = wrote;
-        steps-left = renewed _ _ received received' v (es ∙ ap (λ (b : List ℕ). read_steps edition1 b (length results) received) f);
-        outputs-left = renewed _ _ results results' v (eo ∙ ap (λ (b : List ℕ). read_outputs edition1 b (length received / 2) results) f);
+        steps_left_lem = renewed _ _ received received' v (es ∙ ap (λ (b : List ℕ). read_steps edition1 b (length results) received) f);
+        outputs_left = renewed _ _ results results' v (eo ∙ ap (λ (b : List ℕ). read_outputs edition1 b (length received / 2) results) f);
       }

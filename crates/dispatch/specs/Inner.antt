@@ -26,5 +26,5 @@ module _ (p : ℕ) (steps : List Step) (outputs : List ℕ) (bytesLent : ℕ) wh
 pub record Dispatched (p : ℕ) (steps : List Step) (outputs bytes received results : List ℕ) (a : Answer) (bytes' received' results' : List ℕ) : Type 0 where
   pub answered : a ≡ dispatch_answer p steps outputs (length bytes) (length received / 2) (length results)
   pub bytes_left : bytes' ≡ write_bytes edition1 p steps outputs bytes
-  pub steps-left : received' ≡ dispatch_steps p steps outputs (length bytes) (length results) received
-  pub outputs-left : results' ≡ dispatch_outputs p steps outputs (length bytes) (length received / 2) results
+  pub steps_left_lem : received' ≡ dispatch_steps p steps outputs (length bytes) (length results) received
+  pub outputs_left : results' ≡ dispatch_outputs p steps outputs (length bytes) (length received / 2) results

@@ -14,7 +14,7 @@ use Rattle.bits.specs.Bits.{bits, fields, bytes_bits}
 use Rattle.bits.specs.Inner.{filed, FieldFill, FieldStored}
 use Rattle.bits.proofs.Values.{bits_two}
 use Rattle.bits.proofs.Fields.{length_fields, length-bytes_bits, fields-append}
-use Rattle.bits.proofs.Filed.{filed-more}
+use Rattle.bits.proofs.Filed.{filed_more}
 use Rattle.fields.specs.Inner.{FieldsFill}
 
 -- what the buffer will be, from what it is at position at with the numbers l to come
@@ -37,10 +37,10 @@ module _ (buf : List ℕ) (at w : ℕ) (l : List ℕ) (k : ℕ) (hk : k ≤ leng
       ∙ omega (arith, a, length_fields w (take k l) ∙ ap (λ (n : ℕ). n * w) (length-take-le k l hk), s.moved)
 
   more : (b : List Bool) → filed (take next (bytes_bits new) ++ b) new ≡ filed ((take at (bytes_bits buf) ++ fields w (take k l)) ++ b) buf
-  more b = rw s.is (filed-more (take at (bytes_bits buf) ++ fields w (take k l)) b buf next begun)
+  more b = rw s.is (filed_more (take at (bytes_bits buf) ++ fields w (take k l)) b buf next begun)
 
-  fill-rest : length new ≡ length buf → FieldsFill new next w (drop k l)
-  fill-rest same =
+  fill_rest : length new ≡ length buf → FieldsFill new next w (drop k l)
+  fill_rest same =
       record {
         narrow = ok.narrow;
         some = ok.some;
@@ -52,9 +52,9 @@ module _ (buf : List ℕ) (at w : ℕ) (l : List ℕ) (k : ℕ) (hk : k ≤ leng
             ∙ ap (λ (b : List Bool). filed b buf) (append-nil (take at (bytes_bits buf) ++ fields w (take k l))) ∙ sym s.is;
       }
 
-  filed-rest : filed_from buf at w l ≡ filed_from new next w (drop k l)
+  filed_rest : filed_from buf at w l ≡ filed_from new next w (drop k l)
   unfolding filed_from
-  filed-rest =
+  filed_rest =
       let a : List Bool = take at (bytes_bits buf) in
       let cut : fields w l ≡ fields w (take k l) ++ fields w (drop k l) =
       ap (fields w) (sym (take-append-drop k l)) ∙ fields-append w (take k l) (drop k l) in
@@ -83,10 +83,10 @@ module _ (w : ℕ) (l : List ℕ) (n : ℕ) (old : List ℕ) (at : ℕ) where
       let e : n - 0 ≡ n = omega arith in
       record { some_left = omega arith; place = ap (λ (k : ℕ). at + k * w) e; room = ok; is = refl }
 
-  pub put-end : (buf : List ℕ) (c j : ℕ) → Putting (filed_from old at w (take n l)) (at + n * w) w l n buf c j → n ≤ j
+  pub put_end : (buf : List ℕ) (c j : ℕ) → Putting (filed_from old at w (take n l)) (at + n * w) w l n buf c j → n ≤ j
       → FieldStored old at (n * w) (fields w (take n l)) buf c
   unfolding filed_from fields
-  put-end buf c j inv h =
+  put_end buf c j inv h =
       let none : to_come l n j ≡ [] = drop_of_length-le (take n l) {i = j} (omega (arith, length-take n l)) in
       let left : n - j ≡ 0 = omega arith in
       record {
@@ -103,8 +103,8 @@ module _ (whole : List ℕ) (goal w : ℕ) (l : List ℕ) (n : ℕ) (buf : List 
   length_come = length-drop j (take n l) ∙ ap (λ (k : ℕ). k - j) (length-take-le n l hn)
 
   -- k numbers have room
-  room-some : (k : ℕ) → j + k ≤ n → (c + k * w ≤ 8 * length buf) × (c + k * w < 2 ^ 64)
-  room-some k h =
+  room_some : (k : ℕ) → j + k ≤ n → (c + k * w ≤ 8 * length buf) × (c + k * w < 2 ^ 64)
+  room_some k h =
       let left : length (to_come l n j) ≡ k + (n - (j + k)) = omega (arith, length_come) in
       let more = ap (λ (m : ℕ). m * w) left ∙ add-mul k (n - (j + k)) w in
       (omega (arith, inv.room.within, more), omega (arith, inv.room.fits, more))
@@ -119,8 +119,8 @@ module _ (whole : List ℕ) (goal w : ℕ) (l : List ℕ) (n : ℕ) (buf : List 
       record {
         some_left = h;
         place = omega (arith, inv.place, s.moved, ap (λ (m : ℕ). m * w) left, add-mul k (n - (j + k)) w);
-        room = rw rest at (fill-rest buf c w (to_come l n j) k hk inv.room new next s same);
-        is = inv.is ∙ filed-rest buf c w (to_come l n j) k hk inv.room new next s ∙ ap (filed_from new next w) rest;
+        room = rw rest at (fill_rest buf c w (to_come l n j) k hk inv.room new next s same);
+        is = inv.is ∙ filed_rest buf c w (to_come l n j) k hk inv.room new next s ∙ ap (filed_from new next w) rest;
       }
 
   -- of one number
@@ -131,9 +131,9 @@ module _ (whole : List ℕ) (goal w : ℕ) (l : List ℕ) (n : ℕ) (buf : List 
     small_one : v < 2 ^ w
     small_one = rw come_one at inv.room.small 0
 
-    pub one-room : FieldFill buf c w v
-    one-room =
-        let r = room-some 1 (omega arith) in
+    pub one_room : FieldFill buf c w v
+    one_room =
+        let r = room_some 1 (omega arith) in
         record {
           narrow = omega (arith, inv.room.narrow);
           within = omega (arith, r.0, one-mul w);
@@ -155,30 +155,30 @@ module _ (whole : List ℕ) (goal w : ℕ) (l : List ℕ) (n : ℕ) (buf : List 
         come_one v (omega arith) ev
         ∙ ap (λ (r : List ℕ). v ∷ r) (come_next l n (j + 1) hn (omega arith) ∙ ap (λ (a : ℕ). a ∷ to_come l n (j + 1 + 1)) (sym eu))
 
-    small-first : v < 2 ^ w
-    small-first = rw come_two at inv.room.small 0
+    small_first : v < 2 ^ w
+    small_first = rw come_two at inv.room.small 0
 
-    small-second : u < 2 ^ w
-    small-second = rw come_two at inv.room.small 1
+    small_second : u < 2 ^ w
+    small_second = rw come_two at inv.room.small 1
 
     -- as the code has them
     abbrev both : ℕ
     both = v * 2 ^ w % 2 ^ 64 + u
 
     both_is : both ≡ v * 2 ^ w + u
-    both_is = ap (λ (x : ℕ). x + u) (shl_exact w w 64 small-first (omega (arith, inv.room.narrow)))
+    both_is = ap (λ (x : ℕ). x + u) (shl_exact w w 64 small_first (omega (arith, inv.room.narrow)))
 
     both_small : both < 2 ^ (2 * w)
     both_small =
         let e : w + w ≡ 2 * w = omega arith in
-        rw (both_is, ← e, pow-add 2 w w) (digits_lt small-first small-second)
+        rw (both_is, ← e, pow-add 2 w w) (digits_lt small_first small_second)
 
     pub both_fits : both < 2 ^ 64
     both_fits = lt_of_lt_of_le both_small (pow_mono {j = 64} (omega (arith, inv.room.narrow)))
 
     pub two_room : FieldFill buf c (2 * w) both
     two_room =
-        let r = room-some 2 (omega arith) in
+        let r = room_some 2 (omega arith) in
         record {
           narrow = omega (arith, inv.room.narrow);
           within = r.0;
@@ -192,6 +192,6 @@ module _ (whole : List ℕ) (goal w : ℕ) (l : List ℕ) (n : ℕ) (buf : List 
     unfolding fields
     two_on new next s same =
         let e : bits (2 * w) both ≡ fields w (take 2 (to_come l n j)) =
-        ap (bits (2 * w)) both_is ∙ bits_two w v u small-second ∙ ap (λ (r : List Bool). bits w v ++ r) (sym (append-nil (bits w u)))
+        ap (bits (2 * w)) both_is ∙ bits_two w v u small_second ∙ ap (λ (r : List Bool). bits w v ++ r) (sym (append-nil (bits w u)))
         ∙ sym (ap (λ (r : List ℕ). fields w (take 2 r)) come_two) in
         put_some 2 (omega arith) new next (rw (← e) s) same

@@ -7,10 +7,10 @@ use native.Mathlib.Omega.{arith}
 use lib.ListN.{length, set, length-set}
 use lib.Pow.{pow_mono}
 use Rattle.chain.specs.Written.{over, laid}
-use Rattle.chain.proofs.Written.{over-laid, laid_nil, laid_one}
+use Rattle.chain.proofs.Written.{over_laid, laid_nil, laid_one}
 use Rattle.bits.specs.Bits.{fields_at}
 use Rattle.bits.specs.Inner.{widest_field, FieldRoom, FieldTaken, TwoRoom, TwoTaken}
-use Rattle.bits.proofs.Lengthened.{long-length, fields-long}
+use Rattle.bits.proofs.Lengthened.{long-length, fields_long}
 use Rattle.fields.specs.Inner.{widest_number, FieldsRoom, LongRoom, FieldsTaken}
 
 -- what out will be, from what it is with n fields to come, the first at position c for cell j
@@ -33,7 +33,7 @@ module _ (file : List ℕ) (at w n : ℕ) (old : List ℕ) where
         some_left = omega arith;
         place = ap (λ (k : ℕ). at + k * w) e;
         room = ok.room;
-        is = over-laid (fields_at file at w n) old ∙ ap (λ (k : ℕ). laid 0 (fields_at file at w k) old) (sym e);
+        is = over_laid (fields_at file at w n) old ∙ ap (λ (k : ℕ). laid 0 (fields_at file at w k) old) (sym e);
       }
 
   pub take-end : (out : List ℕ) (c j : ℕ) → n ≤ j → Taking file (over (fields_at file at w n) old) (at + n * w) w n out c j → FieldsTaken file at w n old out c
@@ -54,19 +54,19 @@ module _ (file whole : List ℕ) (at w n : ℕ) (old : List ℕ) (ok : FieldsRoo
         let e : n - j ≡ k + (n - (j + k)) = omega arith in
         ap (λ (m : ℕ). m * w) e ∙ add-mul k (n - (j + k)) w
 
-    room-some : (k : ℕ) → j + k ≤ n → k * w ≤ widest_field → FieldRoom file c (k * w)
-    room-some k h narrow =
+    room_some : (k : ℕ) → j + k ≤ n → k * w ≤ widest_field → FieldRoom file c (k * w)
+    room_some k h narrow =
         record {
           narrow = narrow;
           within = omega (arith, ok.within, inv.place, parts k h);
           fits = omega (arith, ok.fits, inv.place, parts k h);
         }
 
-    pub one-room : j < n → FieldRoom file c w
-    one-room h = rw (one-mul w) at (room-some 1 (omega arith) (omega (arith, ok.narrow)))
+    pub one_room : j < n → FieldRoom file c w
+    one_room h = rw (one-mul w) at (room_some 1 (omega arith) (omega (arith, ok.narrow)))
 
     pub two_room : 8 ≤ length file → 2 ≤ n - j → TwoRoom file c w
-    two_room long h = record { long = long; some = ok.some; room = room-some 2 (omega arith) (omega (arith, ok.narrow)) }
+    two_room long h = record { long = long; some = ok.some; room = room_some 2 (omega arith) (omega (arith, ok.narrow)) }
 
     pub one_on : j < n → (v next : ℕ) → FieldTaken file c w v next → Taking file whole (at + n * w) w n (set out j v) next (j + 1)
     unfolding taken_from fields_at
@@ -91,17 +91,17 @@ module _ (file whole : List ℕ) (at w n : ℕ) (old : List ℕ) (ok : FieldsRoo
 
 -- a short file is read from a list that begins with it
 module _ (file old long : List ℕ) (is : long ≡ over file old) (at w n : ℕ) (out : List ℕ) (ok : FieldsRoom file at w n out) where
-  pub long-room : length file ≤ length old → 8 ≤ length old → LongRoom long at w n out
-  long-room fits eight =
+  pub long_room : length file ≤ length old → 8 ≤ length old → LongRoom long at w n out
+  long_room fits eight =
       let same = long-length file old long is fits in
       record {
         long = omega (arith, same);
         room = record { narrow = ok.narrow; some = ok.some; within = omega (arith, ok.within, same); fits = ok.fits; room = ok.room };
       }
 
-  pub long-taken : (new : List ℕ) (next : ℕ) → FieldsTaken long at w n out new next → FieldsTaken file at w n out new next
-  long-taken new next t =
-      record { is = t.is ∙ ap (λ (l : List ℕ). over l out) (fields-long file old long is at w n ok.within); moved = t.moved }
+  pub long_taken : (new : List ℕ) (next : ℕ) → FieldsTaken long at w n out new next → FieldsTaken file at w n out new next
+  long_taken new next t =
+      record { is = t.is ∙ ap (λ (l : List ℕ). over l out) (fields_long file old long is at w n ok.within); moved = t.moved }
 
 -- a number of a list fits a value number
 pub number_fits : (w v : ℕ) → w ≤ widest_number → v < 2 ^ w → v < 2 ^ 32

@@ -11,7 +11,7 @@ use Rattle.digits.specs.Range.{sum_to}
 use Rattle.digits.proofs.Range.{sum_on, sum_low}
 use Rattle.groups.specs.Groups.{group_count, group_size, most_inputs, most_members, table_steps, tables_count}
 use Rattle.groups.specs.Inner.{bits_less}
-use Rattle.groups.proofs.Groups.{inputs-below}
+use Rattle.groups.proofs.Groups.{inputs_below}
 
 -- the bits of the first n columns of a slice, less some each
 abbrev pub less_to : List ℕ → ℕ → ℕ → ℕ
@@ -32,8 +32,8 @@ pub groups_few : (c w : ℕ) → 1 ≤ c → w ≤ most_inputs → group_count c
 groups_few c w some few = omega (arith, groups_low c w some)
 
 -- each one's first input is one
-pub group-inside : (c w g G : ℕ) → 1 ≤ c → G ≡ group_count c w → g < G → g * c ≤ w
-group-inside c w g G some e h =
+pub group_inside : (c w g G : ℕ) → 1 ≤ c → G ≡ group_count c w → g < G → g * c ≤ w
+group_inside c w g G some e h =
     let d = div-add-mod' (w + c - 1) c in
     let le : suc g ≤ group_count c w = omega arith in
     let wide : suc g * c ≤ group_count c w * c = mul-le-mul_right c le in
@@ -41,14 +41,14 @@ group-inside c w g G some e h =
 
 -- the steps of a table, x being 2^n
 module _ (n x : ℕ) (e : x ≡ 2 ^ n) where
-  pub table-some : n + 1 ≤ x
-  table-some = omega (arith, inputs-below n)
+  pub table_some : n + 1 ≤ x
+  table_some = omega (arith, inputs_below n)
 
-  pub table-told : x - n - 1 ≡ table_steps n
-  table-told = ap (λ (m : ℕ). m - n - 1) e
+  pub table_told : x - n - 1 ≡ table_steps n
+  table_told = ap (λ (m : ℕ). m - n - 1) e
 
-  pub table-few : n ≤ most_members → x - n - 1 ≤ 2 ^ most_members
-  table-few h = let most : 2 ^ n ≤ 2 ^ most_members = pow_mono {j = most_members} h in omega arith
+  pub table_few : n ≤ most_members → x - n - 1 ≤ 2 ^ most_members
+  table_few h = let most : 2 ^ n ≤ 2 ^ most_members = pow_mono {j = most_members} h in omega arith
 
 pub size_few : (c w g r : ℕ) → c ≤ most_members → r ≡ group_size c w g → r ≤ most_members
 size_few c w g r few e = omega arith
@@ -63,7 +63,7 @@ table_more g zero h = let e : g ≡ 0 = omega arith in rw e (le_refl _)
 table_more g (suc c) h = by_size (table_more g c) (dec_le g c)
   where
     by_size : (g ≤ c → table_steps g ≤ table_steps c) → Dec (g ≤ c) → table_steps g ≤ table_steps (suc c)
-    by_size ih (yes le) = rw (pow-suc 2 c) (omega (arith, ih le, inputs-below c))
+    by_size ih (yes le) = rw (pow-suc 2 c) (omega (arith, ih le, inputs_below c))
     by_size ih (no gt) = let e : g ≡ suc c = omega arith in rw e (le_refl _)
 
 -- no group has a longer table than a full one

@@ -20,13 +20,13 @@ get_d_group c g l j h =
     get_or-take c (drop (g * c) l) j 0 (omega (arith, length-group c g l)) ∙ get_or-drop (g * c) l j 0
 
 -- a member of a group is an input
-pub group-within : (c g w j : ℕ) → j < group_size c w g → g * c + j < w
-group-within c g w j h = omega arith
+pub group_within : (c g w j : ℕ) → j < group_size c w g → g * c + j < w
+group_within c g w j h = omega arith
 
 -- a table has an entry for each unit, and one for zero
-pub inputs-below : (n : ℕ) → n + 1 ≤ 2 ^ n
-inputs-below zero = omega arith
-inputs-below (suc n) = rw (pow-suc 2 n) (omega (arith, inputs-below n))
+pub inputs_below : (n : ℕ) → n + 1 ≤ 2 ^ n
+inputs_below zero = omega arith
+inputs_below (suc n) = rw (pow-suc 2 n) (omega (arith, inputs_below n))
 
 -- how many inputs the first g groups hold
 abbrev pub reached : ℕ → ℕ → ℕ → ℕ
@@ -60,8 +60,8 @@ weigh_vector (b ∷ l) =
         rw (e, one-mul (suc j), one-mul j, pow-suc 2 j) (sym (mul_assoc (get_or l j 0) (2 ^ j) 2))
 
 module _ (l : List ℕ) (bits : (j : ℕ) → j < length l → get_or l j 0 < 2 ^ 1) where
-  pub weigh-low : weigh l < 2 ^ (1 * length l)
-  weigh-low = rw (weigh_vector l) (vector_low 1 (λ j. get_or l j 0) (length l) bits)
+  pub weigh_low : weigh l < 2 ^ (1 * length l)
+  weigh_low = rw (weigh_vector l) (vector_low 1 (λ j. get_or l j 0) (length l) bits)
 
-  pub digit-weigh : (j : ℕ) → j < length l → digit 1 (weigh l) j ≡ get_or l j 0
-  digit-weigh j h = rw (weigh_vector l) (digit_vector_lem 1 (λ i. get_or l i 0) (length l) bits j h)
+  pub digit_weigh : (j : ℕ) → j < length l → digit 1 (weigh l) j ≡ get_or l j 0
+  digit_weigh j h = rw (weigh_vector l) (digit_vector_lem 1 (λ i. get_or l i 0) (length l) bits j h)

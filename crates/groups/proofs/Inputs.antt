@@ -12,11 +12,11 @@ use Rattle.digits.proofs.Listed.{get_d_list, length-list, list_same}
 use Rattle.groups.specs.Groups.{over_inputs}
 
 -- lists over inputs that agree in every column
-pub over-same : (bits bits' : ℕ → ℕ) (f g : ℕ → ℕ → ℕ) (n : ℕ) → ((col : ℕ) → col < n → bits col ≡ bits' col)
+pub over_same : (bits bits' : ℕ → ℕ) (f g : ℕ → ℕ → ℕ) (n : ℕ) → ((col : ℕ) → col < n → bits col ≡ bits' col)
     → ((col j : ℕ) → col < n → f col j ≡ g col j) → over_inputs bits f n ≡ over_inputs bits' g n
-over-same bits bits' f g zero e h = refl
-over-same bits bits' f g (suc n) e h =
-    ap₂ ◌++◌ (over-same bits bits' f g n (λ col k. e col (omega arith)) (λ col j k. h col j (omega arith)))
+over_same bits bits' f g zero e h = refl
+over_same bits bits' f g (suc n) e h =
+    ap₂ ◌++◌ (over_same bits bits' f g n (λ col k. e col (omega arith)) (λ col j k. h col j (omega arith)))
     (ap (λ (m : ℕ). list_to m (f n)) (e n (omega arith)) ∙ list_same (bits' n) (f n) (g n) (λ j k. h n j (omega arith)))
 
 module _ (bits : ℕ → ℕ) where
@@ -28,13 +28,13 @@ module _ (bits : ℕ → ℕ) where
   -- power i of column col, of n columns, stands after the inputs of the columns before
   pub get_d_over : (f : ℕ → ℕ → ℕ) (n col i : ℕ) → col < n → i < bits col → get_or (over_inputs bits f n) (sum_to col bits + i) 0 ≡ f col i
   get_d_over f zero col i h g = absurd (omega arith)
-  get_d_over f (suc n) col i h g = by-column (get_d_over f n col i) (dec_lt col n)
+  get_d_over f (suc n) col i h g = by_column (get_d_over f n col i) (dec_lt col n)
     where
-      by-column : (col < n → i < bits col → get_or (over_inputs bits f n) (sum_to col bits + i) 0 ≡ f col i) → Dec (col < n)
+      by_column : (col < n → i < bits col → get_or (over_inputs bits f n) (sum_to col bits + i) 0 ≡ f col i) → Dec (col < n)
           → get_or (over_inputs bits f n ++ list_to (bits n) (f n)) (sum_to col bits + i) 0 ≡ f col i
-      by-column ih (yes lt) =
+      by_column ih (yes lt) =
           get_or-append (over_inputs bits f n) _ 0 _ (omega (arith, length_over f n, sum_more bits (suc col) n lt)) ∙ ih lt g
-      by-column ih (no ge) =
+      by_column ih (no ge) =
           let last : col ≡ n = omega arith in
           let at : sum_to n bits + i ≡ length (over_inputs bits f n) + i = omega (arith, length_over f n) in
           rw (last, at) (get_or-append-add (over_inputs bits f n) _ i 0 ∙ get_d_list (bits n) (f n) 0 i (rw last at g))
@@ -43,7 +43,7 @@ module _ (bits : ℕ → ℕ) where
   pub record Place (n j : ℕ) : Type 0 where
     pub column : ℕ
     pub power : ℕ
-    pub column-low : column < n
+    pub column_low : column < n
     pub power_low : power < bits column
     pub here : j ≡ sum_to column bits + power
 
@@ -54,9 +54,9 @@ module _ (bits : ℕ → ℕ) where
       by_place : (j < sum_to n bits → Place n j) → Dec (j < sum_to n bits) → Place (suc n) j
       by_place ih (yes lt) =
           let r = ih lt in
-          record { column = r.column; power = r.power; column-low = omega (arith, r.column-low); power_low = r.power-low; here = r.here }
+          record { column = r.column; power = r.power; column_low = omega (arith, r.column_low); power_low = r.power-low; here = r.here }
       by_place ih (no ge) =
-          record { column = n; power = j - sum_to n bits; column-low = omega arith; power_low = omega arith; here = omega arith }
+          record { column = n; power = j - sum_to n bits; column_low = omega arith; power_low = omega arith; here = omega arith }
 
   -- a sum over all inputs, column by column
   pub sum_over : (F : ℕ → ℕ) (h : ℕ → ℕ → ℕ) (n : ℕ)

@@ -6,9 +6,9 @@ use native.Mathlib.Numerals.{add-one}
 use native.Mathlib.Omega.{arith}
 use lib.ListN.{length, get_or, set}
 use Rattle.chain.specs.Written.{over, laid}
-use Rattle.chain.proofs.Written.{laid_nil, laid_one, laid-laid, laid-length, over-laid}
+use Rattle.chain.proofs.Written.{laid_nil, laid_one, laid_laid, laid-length, over_laid}
 use Rattle.digits.specs.Range.{sum_to, list_to}
-use Rattle.digits.proofs.Range.{sum_more, sum-le}
+use Rattle.digits.proofs.Range.{sum_more, sum_le}
 use Rattle.methods.specs.Powers.{counts_of, power_at, power_of}
 use Rattle.chain.specs.Chain.{most_columns}
 use Rattle.digits.proofs.Listed.{length-list}
@@ -20,7 +20,7 @@ use Rattle.groups.proofs.Inputs.{length_over}
 laid_next : (s : ℕ) (l old : List ℕ) (m x : ℕ) → m ≡ s + length l → m < length old → set (laid s l old) m x ≡ laid s (l ++ x ∷ []) old
 laid_next s l old m x is h =
     let long : length (laid s l old) ≡ length old = laid-length s l old (omega arith) in
-    sym (sym (laid-laid s m l (x ∷ []) old is (omega arith)) ∙ sym (laid_one m x [] (laid s l old) (omega arith)) ∙ laid_nil (m + 1) _)
+    sym (sym (laid_laid s m l (x ∷ []) old is (omega arith)) ∙ sym (laid_one m x [] (laid s l old) (omega arith)) ∙ laid_nil (m + 1) _)
 
 pub fill_start : (s : ℕ) (old : List ℕ) → old ≡ laid s [] old
 fill_start s old = sym (laid_nil s old)
@@ -32,8 +32,8 @@ module _ (f : ℕ → ℕ) where
   filled_on s n j x old cells is h g e =
       rw (add-one j, e, is) (laid_next s (list_to j f) old (s + j) (f j) (omega (arith, length-list j f)) (omega arith))
 
-  pub filled-end : (s n j : ℕ) (old cells : List ℕ) → cells ≡ laid s (list_to j f) old → j ≤ n → n ≤ j → cells ≡ laid s (list_to n f) old
-  filled-end s n j old cells e h g = let last : n ≡ j = omega arith in rw last e
+  pub filled_end : (s n j : ℕ) (old cells : List ℕ) → cells ≡ laid s (list_to j f) old → j ≤ n → n ≤ j → cells ≡ laid s (list_to n f) old
+  filled_end s n j old cells e h g = let last : n ≡ j = omega arith in rw last e
 
 -- a column's numbers after those of the columns before
 columns_on : (bits : ℕ → ℕ) (f : ℕ → ℕ → ℕ) (col at : ℕ) (old cells cells' : List ℕ) → at ≡ sum_to col bits
@@ -41,9 +41,9 @@ columns_on : (bits : ℕ → ℕ) (f : ℕ → ℕ → ℕ) (col at : ℕ) (old 
 columns_on bits f col at old cells cells' is e g =
     rw (add-one col)
     (g
-    ∙ ap (laid at (list_to (bits col) (f col))) (e ∙ over-laid (over_inputs bits f col) old)
-    ∙ laid-laid 0 at (over_inputs bits f col) (list_to (bits col) (f col)) old (omega (arith, length_over bits f col)) (omega arith)
-    ∙ sym (over-laid _ old))
+    ∙ ap (laid at (list_to (bits col) (f col))) (e ∙ over_laid (over_inputs bits f col) old)
+    ∙ laid_laid 0 at (over_inputs bits f col) (list_to (bits col) (f col)) old (omega (arith, length_over bits f col)) (omega arith)
+    ∙ sym (over_laid _ old))
 
 -- the inputs of columns of these bits; the numbers of the first columns fill the cells before at, and their squarings end with value first
 module _ {bits old : List ℕ} (room : InputsRoom bits old) (col : ℕ) {at first : ℕ} (is : at ≡ sum_to col (counts_of bits))
@@ -51,23 +51,23 @@ module _ {bits old : List ℕ} (room : InputsRoom bits old) (col : ℕ) {at firs
   abbrev less : ℕ → ℕ
   less = bits_less bits 1
 
-  pub column-few : at + get_or bits col 0 ≤ most_inputs
-  column-few = let few = room.few in omega (arith, sum_more (counts_of bits) (suc col) (length bits) inside)
+  pub column_few : at + get_or bits col 0 ≤ most_inputs
+  column_few = let few = room.few in omega (arith, sum_more (counts_of bits) (suc col) (length bits) inside)
 
-  pub column-room : (cells : List ℕ) → length cells ≡ length old → at + get_or bits col 0 ≤ length cells
-  column-room cells e = let r = room.room in omega (arith, column-few)
+  pub column_room : (cells : List ℕ) → length cells ≡ length old → at + get_or bits col 0 ≤ length cells
+  column_room cells e = let r = room.room in omega (arith, column_few)
 
   -- their numbers are small
-  pub first-few : first + get_or bits col 0 ≤ most_columns + most_inputs
-  first-few =
+  pub first_few : first + get_or bits col 0 ≤ most_columns + most_inputs
+  first_few =
       let columns = room.columns in
-      omega (arith, column-few, sum-le col less (counts_of bits) (λ k h. omega arith))
+      omega (arith, column_few, sum_le col less (counts_of bits) (λ k h. omega arith))
 
   pub first_number : first + less col ≤ most_columns + most_inputs
-  first_number = omega (arith, first-few)
+  first_number = omega (arith, first_few)
 
   pub number_room : first + get_or bits col 0 < 2 ^ 32
-  number_room = omega (arith, first-few)
+  number_room = omega (arith, first_few)
 
   pub column_on : at + get_or bits col 0 ≡ sum_to (col + 1) (counts_of bits)
   column_on = rw (add-one col) (ap (λ (n : ℕ). n + get_or bits col 0) is)

@@ -10,7 +10,7 @@ use Rattle.digits.specs.Range.{sum_to}
 use Rattle.digits.proofs.Range.{sum_same, sum_split, sum_more}
 use Rattle.tables.proofs.Entries.{combined}
 use Rattle.groups.specs.Groups.{group, group_size, weigh}
-use Rattle.groups.proofs.Groups.{digit-weigh, get_d_group, group-within, length-group, reached, reached_next, weigh-low}
+use Rattle.groups.proofs.Groups.{digit_weigh, get_d_group, group_within, length-group, reached, reached_next, weigh_low}
 
 -- the sum over a group's members, after those of the groups before
 sum-group : (c w g : ℕ) (F : ℕ → ℕ) → sum_to (reached c w g) F + sum_to (group_size c w g) (λ j. F (g * c + j)) ≡ sum_to (reached c w (suc g)) F
@@ -29,10 +29,10 @@ module _ (c : ℕ) (members bits : List ℕ) (same : length bits ≡ length memb
   same_size g = length-group c g bits ∙ ap (λ (w : ℕ). group_size c w g) same ∙ sym (length-group c g members)
 
   own_two : (g j : ℕ) → j < length (group c g bits) → get_or (group c g bits) j 0 < 2 ^ 1
-  own_two g j h = rw (get_d_group c g bits j h) (two (g * c + j) (group-within c g (length bits) j (omega (arith, length-group c g bits))))
+  own_two g j h = rw (get_d_group c g bits j h) (two (g * c + j) (group_within c g (length bits) j (omega (arith, length-group c g bits))))
 
   pub part_number : (g : ℕ) → weigh (group c g bits) < 2 ^ (1 * length (group c g members))
-  part_number g = rw (← same_size g) (weigh-low (group c g bits) (own_two g))
+  part_number g = rw (← same_size g) (weigh_low (group c g bits) (own_two g))
 
   -- its exponents, x j d being those of input j in column d
   module _ (x : ℕ → ℕ → ℕ) where
@@ -51,10 +51,10 @@ module _ (c : ℕ) (members bits : List ℕ) (same : length bits ≡ length memb
         here j h = omega (arith, same_size g)
 
         bit : (j : ℕ) → j < length (group c g bits) → digit 1 (weigh (group c g bits)) j ≡ get_or bits (g * c + j) 0
-        bit j h = digit-weigh (group c g bits) (own_two g) j h ∙ get_d_group c g bits j h
+        bit j h = digit_weigh (group c g bits) (own_two g) j h ∙ get_d_group c g bits j h
 
-    pub uses-none : (d : ℕ) → 0 ≡ uses 0 d
-    uses-none d =
+    pub uses_none : (d : ℕ) → 0 ≡ uses 0 d
+    uses_none d =
         let e : reached c (length members) 0 ≡ 0 = omega arith in
         sym (ap (λ (n : ℕ). sum_to n (λ j. get_or bits j 0 * x j d)) e)
 
@@ -63,9 +63,9 @@ module _ (c : ℕ) (members bits : List ℕ) (same : length bits ≡ length memb
 
     -- the parts of the first groups together
     pub parts-sum : (g d : ℕ) → sum_to g (λ e. combined 1 (length (group c e members)) (λ j. x (e * c + j)) (weigh (group c e bits)) d) ≡ uses g d
-    parts-sum zero d = uses-none d
+    parts-sum zero d = uses_none d
     parts-sum (suc g) d =
         ap (λ (s : ℕ). s + combined 1 (length (group c g members)) (λ j. x (g * c + j)) (weigh (group c g bits)) d) (parts-sum g d) ∙ uses_on g d
 
-    pub uses-low : (g d limit : ℕ) → sum_to (length members) (λ j. get_or bits j 0 * x j d) ≤ limit → uses g d ≤ limit
-    uses-low g d limit low = le_trans (sum_more (λ j. get_or bits j 0 * x j d) (reached c (length members) g) (length members) (omega arith)) low
+    pub uses_low : (g d limit : ℕ) → sum_to (length members) (λ j. get_or bits j 0 * x j d) ≤ limit → uses g d ≤ limit
+    uses_low g d limit low = le_trans (sum_more (λ j. get_or bits j 0 * x j d) (reached c (length members) g) (length members) (omega arith)) low

@@ -10,14 +10,14 @@ use Rattle.chain.specs.declared.Step.{Step}
 use Rattle.chain.proofs.Exponents.{Makes}
 use Rattle.digits.specs.Digits.{digit}
 use Rattle.digits.specs.Range.{sum_to}
-use Rattle.digits.proofs.Range.{sum-le, sum_split, sum_more}
+use Rattle.digits.proofs.Range.{sum_le, sum_split, sum_more}
 use Rattle.digits.proofs.Vector.{digit_low}
 use Rattle.tables.specs.Table.{entry, table}
 use Rattle.products.proofs.Sound.{Begins, begins_own, begins_more, begins_on, makes_on, Sound}
-use Rattle.tables.proofs.Table.{table-count}
+use Rattle.tables.proofs.Table.{table_count_lem}
 use Rattle.tables.proofs.Entries.{combined, Inputs, Entries, table_makes}
 use Rattle.groups.specs.Groups.{group, group_size, group_tables, table_steps}
-use Rattle.groups.proofs.Groups.{get_d_group, group-within, length-group}
+use Rattle.groups.proofs.Groups.{get_d_group, group_within, length-group}
 
 -- the value number of part t of group e
 abbrev pub part_of : ℕ → ℕ → List ℕ → List Step → ℕ → ℕ → ℕ
@@ -33,7 +33,7 @@ tables_count_lem p c members start (suc g) =
     let own = group c g members in
     let size : length (table 1 own (p + length r + 1) (2 ^ length own)) ≡ table_steps (group_size c (length members) g) =
     ap (λ (n : ℕ). length (table 1 own (p + length r + 1) (2 ^ n))) (sym (one-mul (length own)))
-    ∙ table-count 1 (omega arith) own (p + length r + 1) (length own)
+    ∙ table_count_lem 1 (omega arith) own (p + length r + 1) (length own)
     ∙ ap (λ (n : ℕ). 2 ^ n - length own - 1) (one-mul (length own))
     ∙ ap table_steps (length-group c g members) in
     length-append r _ ∙ omega (arith, size, tables_count_lem p c members start g)
@@ -48,22 +48,22 @@ pub record Tabled (p limit c : ℕ) (members : List ℕ) (start : List Step) (x 
 module _ (p limit c : ℕ) (members : List ℕ) (start : List Step) (x : ℕ → ℕ → ℕ) (given : Inputs p start members x)
     (low : (d : ℕ) → d < p → sum_to (length members) (λ j. x j d) ≤ limit) where
   -- a group's members are inputs
-  own-inputs : (g : ℕ) (r : List Step) → Begins start r → Inputs p r (group c g members) (λ j. x (g * c + j))
-  own-inputs g r b =
+  own_inputs : (g : ℕ) (r : List Step) → Begins start r → Inputs p r (group c g members) (λ j. x (g * c + j))
+  own_inputs g r b =
       record {
         nonempty = λ j h. rw (get_d_group c g members j h) (given.nonempty (g * c + j) (inside j h));
         makes = λ j h. rw (get_d_group c g members j h) (makes_on b (given.makes (g * c + j) (inside j h)));
       }
     where
       inside : (j : ℕ) → j < length (group c g members) → g * c + j < length members
-      inside j h = group-within c g (length members) j (omega (arith, length-group c g members))
+      inside j h = group_within c g (length members) j (omega (arith, length-group c g members))
 
   -- a part of a group has no more than all inputs together
   part_low : (g t d : ℕ) → d < p → combined 1 (length (group c g members)) (λ j. x (g * c + j)) t d ≤ limit
   part_low g t d h =
       let n : ℕ = length (group c g members) in
       let each : combined 1 n (λ j. x (g * c + j)) t d ≤ sum_to n (λ j. x (g * c + j) d) =
-      sum-le n _ _ (λ j k. le_trans (mul-le-mul_right (x (g * c + j) d) (bit t j)) (omega (arith, one-mul (x (g * c + j) d)))) in
+      sum_le n _ _ (λ j k. le_trans (mul-le-mul_right (x (g * c + j) d) (bit t j)) (omega (arith, one-mul (x (g * c + j) d)))) in
       by_size n (length-group c g members) each
     where
       bit : (t j : ℕ) → digit 1 t j ≤ 1
@@ -89,16 +89,16 @@ module _ (p limit c : ℕ) (members : List ℕ) (start : List Step) (x : ℕ →
 
       more : Tabled p limit c members start x g → Tabled p limit c members start x (suc g)
       more q =
-          record { sound = done.sound; begins = begins_on q.begins (begins_more r _); makes = λ e t h. by-group e t h (dec_lt e g) }
+          record { sound = done.sound; begins = begins_on q.begins (begins_more r _); makes = λ e t h. by_group e t h (dec_lt e g) }
         where
           done : Entries p limit 1 r own (p + length r + 1) (λ j. x (g * c + j)) (2 ^ length own)
           done =
-              table_makes p limit 1 (omega arith) r own (p + length r + 1) (λ j. x (g * c + j)) refl (own-inputs g r q.begins)
+              table_makes p limit 1 (omega arith) r own (p + length r + 1) (λ j. x (g * c + j)) refl (own_inputs g r q.begins)
               (λ t d h k. part_low g t d k) q.sound (2 ^ length own) (rw (one-mul (length own)) (le_refl _))
 
-          by-group : (e t : ℕ) → e < suc g → Dec (e < g) → t < 2 ^ (1 * length (group c e members))
+          by_group : (e t : ℕ) → e < suc g → Dec (e < g) → t < 2 ^ (1 * length (group c e members))
               → Makes p (group_tables p c members start (suc g)) (part_of p c members start e t) (combined 1 (length (group c e members)) (λ j. x (e * c + j)) t)
-          by-group e t h (yes lt) k = makes_on (begins_more r _) (q.makes e t lt k)
-          by-group e t h (no ge) k =
+          by_group e t h (yes lt) k = makes_on (begins_more r _) (q.makes e t lt k)
+          by_group e t h (no ge) k =
               let last : e ≡ g = omega arith in
               rw last (done.makes t (rw (last, one-mul (length own)) at k))

@@ -33,7 +33,7 @@ pub record GroupingAsked (p c : ℕ) (largest cells : List ℕ) : Type 0 where
   pub columns : p ≤ most_columns
   pub some : 1 ≤ c
   pub few : c ≤ most_members
-  pub largest-there : p ≤ length largest
+  pub largest_there : p ≤ length largest
   pub room : p ≤ length cells
 
 -- the numbers of a grouping go together
@@ -42,17 +42,17 @@ pub record Cuts (s : Grouping) : Type 0 where
   pub some : 1 ≤ s.c
   pub few : s.c ≤ most_members
   pub groups_are : s.groups ≡ group_count s.c s.inputs
-  pub inputs-few : s.inputs ≤ most_inputs
+  pub inputs_few : s.inputs ≤ most_inputs
   pub groups_few : s.groups ≤ most_inputs
-  pub squarings-few : s.squarings ≤ most_inputs
+  pub squarings_few : s.squarings ≤ most_inputs
 
 -- they are those of columns with these largest amounts and bits
 pub record GroupedBy (p q c : ℕ) (largest bits : List ℕ) (s : Grouping) : Type 0 where
   pub cuts : Cuts s
   pub bits_are : bits ≡ list_to p (digits_at 1 largest)
   pub inputs_are : s.inputs ≡ sum_to (length bits) (bits_less bits 0)
-  pub squarings-are : s.squarings ≡ sum_to (length bits) (bits_less bits 1)
-  pub same-p : s.p ≡ p
+  pub squarings_are : s.squarings ≡ sum_to (length bits) (bits_less bits 1)
+  pub same_p : s.p ≡ p
   pub same_q : s.q ≡ q
   pub same_c : s.c ≡ c
 
@@ -62,12 +62,12 @@ pub record Grouped (s : Grouping) (amounts bits : List ℕ) : Type 0 where
   pub sheet : SheetSized s.p s.q amounts
   pub bits_are : bits ≡ list_to s.p (column_bits s.p s.q amounts)
   pub inputs_are : s.inputs ≡ input_count s.p s.q amounts
-  pub squarings-are : s.squarings ≡ squaring_count s.p s.q amounts
+  pub squarings_are : s.squarings ≡ squaring_count s.p s.q amounts
 
 -- the grouping of a sheet with this parameter
 pub record GroupedFor (p q : ℕ) (amounts : List ℕ) (c : ℕ) (bits : List ℕ) (s : Grouping) : Type 0 where
   pub grouped : Grouped s amounts bits
-  pub same-p : s.p ≡ p
+  pub same_p : s.p ≡ p
   pub same_q : s.q ≡ q
   pub same_c : s.c ≡ c
 
@@ -109,15 +109,15 @@ bit_tables s bits = tables_after s (bit_inputs bits (length bits)) (bit_squaring
 -- room for them, and a cell for each input
 pub record GroupsRoom (s : Grouping) (bits members steps : List ℕ) : Type 0 where
   pub cuts : Cuts s
-  pub bits-long : length bits ≡ s.p
-  pub bits-sum : sum_to (length bits) (counts_of bits) ≡ s.inputs
-  pub members-room : most_inputs ≤ length members
+  pub bits_long : length bits ≡ s.p
+  pub bits_sum : sum_to (length bits) (counts_of bits) ≡ s.inputs
+  pub members_room : most_inputs ≤ length members
   pub few : length (bit_tables s bits) ≤ most_steps
-  pub steps-room : StepsRoom s.p steps begun (bit_tables s bits)
+  pub steps_room : StepsRoom s.p steps begun (bit_tables s bits)
 
 -- the inputs' value numbers and those steps are stored
 pub record GroupsMade (s : Grouping) (bits members₀ steps₀ members steps : List ℕ) (r : Progress) : Type 0 where
-  pub members-are : members ≡ over (bit_inputs bits (length bits)) members₀
+  pub members_are : members ≡ over (bit_inputs bits (length bits)) members₀
   pub stored : StepsStored steps₀ steps r (bit_tables s bits)
 
 -- the value number of the first step of group g's table: the groups before it are full

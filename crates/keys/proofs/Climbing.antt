@@ -46,18 +46,18 @@ from_first : (f : ℕ → ℕ) (n : ℕ) → ((i : ℕ) → i < n → f i < f (s
 from_first f zero up = omega arith
 from_first f (suc n) up = omega (arith, from_first f n (λ i g. up i (omega arith)), up n (omega arith))
 
-climbs-list : (lo : ℕ) (f : ℕ → ℕ) (n : ℕ) → lo ≤ f 0 → ((i : ℕ) → i < n → f i < f (suc i)) → Climbs lo (f n + 1) (list_to (suc n) f)
-climbs-list lo f zero h up = (h, omega arith, tt)
-climbs-list lo f (suc n) h up =
-    climbs-append lo (f n + 1) (f (suc n) + 1) (list_to (suc n) f) (f (suc n) ∷ []) (omega (arith, from_first f n (λ i g. up i (omega arith)))) (omega (arith, up n (omega arith))) (climbs-list lo f n h (λ i g. up i (omega arith)))
+climbs_list : (lo : ℕ) (f : ℕ → ℕ) (n : ℕ) → lo ≤ f 0 → ((i : ℕ) → i < n → f i < f (suc i)) → Climbs lo (f n + 1) (list_to (suc n) f)
+climbs_list lo f zero h up = (h, omega arith, tt)
+climbs_list lo f (suc n) h up =
+    climbs-append lo (f n + 1) (f (suc n) + 1) (list_to (suc n) f) (f (suc n) ∷ []) (omega (arith, from_first f n (λ i g. up i (omega arith)))) (omega (arith, up n (omega arith))) (climbs_list lo f n h (λ i g. up i (omega arith)))
     (omega (arith, up n (omega arith)), omega arith, tt)
 
 -- those of a list that lie in part k climb in it
-pub only-climbs : (a k : ℕ) → 1 ≤ a → (lo hi from : ℕ) (s : List ℕ) → Climbs lo hi s → ((x : ℕ) → lo ≤ x → k * a ≤ x → from ≤ x)
+pub only_climbs : (a k : ℕ) → 1 ≤ a → (lo hi from : ℕ) (s : List ℕ) → Climbs lo hi s → ((x : ℕ) → lo ≤ x → k * a ≤ x → from ≤ x)
     → Climbs from ((k + 1) * a) (in_part a k s)
-only-climbs a k some lo hi from [] c h = tt
-only-climbs a k some lo hi from (x ∷ s) c h =
-    by_test (only-climbs a k some (x + 1) hi (x + 1) s c.2 (λ y g i. g)) (only-climbs a k some (x + 1) hi from s c.2 (λ y g i. h y (omega (arith, c.0)) i))
+only_climbs a k some lo hi from [] c h = tt
+only_climbs a k some lo hi from (x ∷ s) c h =
+    by_test (only_climbs a k some (x + 1) hi (x + 1) s c.2 (λ y g i. g)) (only_climbs a k some (x + 1) hi from s c.2 (λ y g i. h y (omega (arith, c.0)) i))
     (x / a =? k) refl
   where
     by_test : Climbs (x + 1) ((k + 1) * a) (in_part a k s) → Climbs from ((k + 1) * a) (in_part a k s) → (t : Bool) → (x / a =? k) ≡ t
@@ -129,8 +129,8 @@ module _ (a b : ℕ) (somea : 1 ≤ a) (someb : 1 ≤ b) where
         (subst (λ (l : List ℕ). weight_of ((k + 1) * a) (take b l) < weight_of ((k + 1) * a) (clump m)) next
         (next_lighter (k * a) ((k + 1) * a) b (drop (m * b) here) someb (full m (omega arith)).0 (climbs-drop (k * a) ((k + 1) * a) (m * b) here c)))
 
-    part-climbs : Climbs (k * 2 ^ a) ((k + 1) * 2 ^ a) (map (key_in a) (taken b here))
-    part-climbs = subst (Climbs (k * 2 ^ a) ((k + 1) * 2 ^ a)) (sym keys) (by_count (length here / b) (λ m h. h))
+    part_climbs : Climbs (k * 2 ^ a) ((k + 1) * 2 ^ a) (map (key_in a) (taken b here))
+    part_climbs = subst (Climbs (k * 2 ^ a) ((k + 1) * 2 ^ a)) (sym keys) (by_count (length here / b) (λ m h. h))
       where
         keys : map (key_in a) (taken b here) ≡ list_to (length here / b) (λ m. key_of a k (clump m))
         keys =
@@ -142,7 +142,7 @@ module _ (a b : ℕ) (somea : 1 ≤ a) (someb : 1 ≤ b) where
         by_count (suc n) h =
             climbs_higher (k * 2 ^ a) (key_of a k (clump n) + 1) ((k + 1) * 2 ^ a) (list_to (suc n) (λ m. key_of a k (clump m)))
             (omega (arith, key_low a k (k + 1) (clump n) (clump_in_lem n) (omega arith)))
-            (climbs-list (k * 2 ^ a) (λ m. key_of a k (clump m)) n (key_high a k (clump 0) (clump_in_lem 0)) (λ m g. up m (h (suc m) (omega arith))))
+            (climbs_list (k * 2 ^ a) (λ m. key_of a k (clump m)) n (key_high a k (clump 0) (clump_in_lem 0)) (λ m g. up m (h (suc m) (omega arith))))
 
     part_back : map (clump_of a) (map (key_in a) (taken b here)) ≡ taken b here
     part_back =
@@ -153,8 +153,8 @@ module _ (a b : ℕ) (somea : 1 ≤ a) (someb : 1 ≤ b) where
         own : (m : ℕ) → m < length here / b → key_in a (clump m) ≡ key_of a k (clump m)
         own m h = key_in_lem a k (clump m) somea (clump_in_lem m) (omega (arith, (full m h).1))
 
-    part-good : Every (Good a b) (map (key_in a) (taken b here))
-    part-good =
+    part_good : Every (Good a b) (map (key_in a) (taken b here))
+    part_good =
         subst (Every (Good a b)) (sym (map-list (key_in a) (length here / b) (λ m. group b m here)))
         (every_list (Good a b) (length here / b) _ (λ m h. record { part = k; clump = clump m; inside = clump_in_lem m; long = (full m h).1; is = key_in_lem a k (clump m) somea (clump_in_lem m) (omega (arith, (full m h).1)) }))
 
@@ -177,11 +177,11 @@ row_climbs l n s somea someb c =
         let more : P * 2 ^ a ≤ suc P * 2 ^ a = mul-le-mul_right (2 ^ a) (omega arith) in
         climbs-append 0 (P * 2 ^ a) (suc P * 2 ^ a) (joined P part) (part P) (omega arith) more (parts P)
         (subst (λ (m : ℕ). Climbs (P * 2 ^ a) m (part P)) e
-        (part-climbs a l.b somea someb P (in_part a P s) (only-climbs a P somea 0 n (P * a) s c (λ x g h. h))))
+        (part_climbs a l.b somea someb P (in_part a P s) (only_climbs a P somea 0 n (P * a) s c (λ x g h. h))))
 
 module _ (l : Level) (n : ℕ) (s : List ℕ) (somea : 1 ≤ l.a) (someb : 1 ≤ l.b) (c : Climbs 0 n s) where
   inside : (k : ℕ) → InPart l.a k (in_part l.a k s)
-  inside k = only-climbs l.a k somea 0 n (k * l.a) s c (λ x g h. h)
+  inside k = only_climbs l.a k somea 0 n (k * l.a) s c (λ x g h. h)
 
   -- the keys give the row's clumps back
   pub row_back : map (clump_of l.a) (map (key_in l.a) (clumps_of l n s)) ≡ clumps_of l n s
@@ -195,4 +195,4 @@ module _ (l : Level) (n : ℕ) (s : List ℕ) (somea : 1 ≤ l.a) (someb : 1 ≤
   unfolding clumps_of
   row_good =
       subst (Every (Good l.a l.b)) (sym (map-joined (key_in l.a) (group_count l.a n) _))
-      (every_joined (Good l.a l.b) (group_count l.a n) _ (λ k h. part-good l.a l.b somea someb k (in_part l.a k s) (inside k)))
+      (every_joined (Good l.a l.b) (group_count l.a n) _ (λ k h. part_good l.a l.b somea someb k (in_part l.a k s) (inside k)))

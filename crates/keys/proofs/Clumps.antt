@@ -9,7 +9,7 @@ use Rattle.chain.specs.Written.{laid as laidAt}
 use Rattle.digits.proofs.Range.{sum_more, sum_same}
 use Rattle.digits.proofs.Listed.{list_same}
 use Rattle.rows.specs.Inner.{RowsLaid, RowsOver}
-use Rattle.rows.proofs.Laying.{over-more, over-all}
+use Rattle.rows.proofs.Laying.{over_more, over_all}
 use Rattle.keys.specs.Inner.{clump_of, clump_in, ClumpAsked, NumbersLaid, ClumpsAsked, ClumpsLaid}
 
 module _ (s : List ℕ) (keys k a to : ℕ) (asked : ClumpsAsked s keys k a to) where
@@ -39,7 +39,7 @@ module _ (s : List ℕ) (keys k a to : ℕ) (asked : ClumpsAsked s keys k a to) 
 
       pub row_on : RowsOver to k (j + 1) end f s (set new (to + j + 1) end)
       row_on =
-          rw row_end (over-more to k f j e s cells new d h (laid.are ∙ ap (λ (l : List ℕ). laidAt e l cells) own) row_room)
+          rw row_end (over_more to k f j e s cells new d h (laid.are ∙ ap (λ (l : List ℕ). laidAt e l cells) own) row_room)
 
   -- with their first place stored before
   abbrev first : List ℕ
@@ -51,8 +51,8 @@ module _ (s : List ℕ) (keys k a to : ℕ) (asked : ClumpsAsked s keys k a to) 
   first_clump : (j : ℕ) → j < k → clump_in a first (keys + j) ≡ f j
   first_clump j h = ap (clump_of a) (first_key j h)
 
-  pub first-asked : ClumpsAsked first keys k a to × (get_or first to 0 ≡ to + k + 1)
-  first-asked = (
+  pub first_asked : ClumpsAsked first keys k a to × (get_or first to 0 ≡ to + k + 1)
+  first_asked = (
     record {
       some = asked.some;
       few = asked.few;
@@ -64,9 +64,9 @@ module _ (s : List ℕ) (keys k a to : ℕ) (asked : ClumpsAsked s keys k a to) 
     get_or-set_same s to (to + k + 1) 0 (omega (arith, asked.room)),
   )
 
-  pub clumps-laid : (e : ℕ) (new : List ℕ) → RowsOver to k k e (λ j. clump_in a first (keys + j)) first new → ClumpsLaid keys k a to e s new
-  clumps-laid e new d =
+  pub clumps_laid : (e : ℕ) (new : List ℕ) → RowsOver to k k e (λ j. clump_in a first (keys + j)) first new → ClumpsLaid keys k a to e s new
+  clumps_laid e new d =
       record {
-        laid = subst (λ (l : List (List ℕ)). RowsLaid to e l s new) (list_same k _ f first_clump) (over-all to k _ e s first new refl d);
+        laid = subst (λ (l : List (List ℕ)). RowsLaid to e l s new) (list_same k _ f first_clump) (over_all to k _ e s first new refl d);
         end = d.end ∙ ap (λ (n : ℕ). to + k + 1 + n) (sum_same k _ _ (λ j h. ap length (first_clump j h)));
       }

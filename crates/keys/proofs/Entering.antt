@@ -8,7 +8,7 @@ use native.Mathlib.Decide.{ℕ_discrete}
 use native.Mathlib.Omega.{arith}
 use Rattle.chain.specs.Tests.{◌<?◌, ◌=?◌, ◌or◌}
 use Rattle.chain.proofs.Rules.{lt_yes, lt_no, eq_yes, eq_no, or_left, or_right}
-use Rattle.clumps.proofs.Lists.{false_or, or_false, or_assoc, joined_same, joined_split, which-same, which-none}
+use Rattle.clumps.proofs.Lists.{false_or, or_false, or_assoc, joined_same, joined_split, which_same, which_none}
 use Rattle.clumps.proofs.Chosen.{has_chosen}
 use Rattle.clumps.specs.Lists.{joined, which, has, holds, equal, precedes, insert, enter, entered}
 
@@ -64,7 +64,7 @@ module _ (decode : ℕ → List ℕ) (Good : ℕ → Type 0) (order : (x y : ℕ
     other i ne = sym (ap (λ (b : Bool). test i or b) (eq_no i x ne) ∙ or_false (test i))
 
     enter_old : test x ≡ true → which test n ≡ which more n
-    enter_old h = which-same n test more (λ i g. by_place i (ℕ_discrete i x))
+    enter_old h = which_same n test more (λ i g. by_place i (ℕ_discrete i x))
       where
         by_place : (i : ℕ) → Dec (i ≡ x) → test i ≡ more i
         by_place i (yes e) = ap test e ∙ h ∙ sym (or_left (test i) _ (ap test e ∙ h))
@@ -101,7 +101,7 @@ module _ (decode : ℕ → List ℕ) (Good : ℕ → Type 0) (order : (x y : ℕ
         higher = every_chosen (λ y. x < y) test (suc x) (n - suc x) (λ i a b k. omega arith)
 
         low : which more x ≡ which test x
-        low = sym (which-same x test more (λ i g. other i (λ e. omega arith)))
+        low = sym (which_same x test more (λ i g. other i (λ e. omega arith)))
 
         here : more x ≡ true
         here = or_right (test x) _ (eq_yes x x refl)
@@ -109,8 +109,8 @@ module _ (decode : ℕ → List ℕ) (Good : ℕ → Type 0) (order : (x y : ℕ
         high : above more ≡ above test
         high = sym (joined_same (n - suc x) _ _ (λ j g. ap (λ (b : Bool). cond b ((suc x + j) ∷ []) []) (other (suc x + j) (λ e. omega arith))))
 
-    pub enter-is : enter (decode x) (map decode (which test n)) ≡ map decode (which more n)
-    enter-is = by_test (test x) refl
+    pub enter_is : enter (decode x) (map decode (which test n)) ≡ map decode (which more n)
+    enter_is = by_test (test x) refl
       where
         there : holds (decode x) (map decode (which test n)) ≡ test x
         there = key_there x (which test n) own (every_below Good test n good) ∙ has_chosen test n x below
@@ -121,19 +121,19 @@ module _ (decode : ℕ → List ℕ) (Good : ℕ → Type 0) (order : (x y : ℕ
 
   entered_from : (n : ℕ) (test : ℕ → Bool) (keys : List ℕ) → ((i : ℕ) → i < n → test i ≡ true → Good i) → Every Good keys → Every (λ x. x < n) keys
       → entered (map decode (which test n)) (map decode keys) ≡ map decode (which (λ i. test i or has i keys) n)
-  entered_from n test [] good goods low = ap (map decode) (which-same n _ _ (λ i h. sym (or_false (test i))))
+  entered_from n test [] good goods low = ap (map decode) (which_same n _ _ (λ i h. sym (or_false (test i))))
   entered_from n test (x ∷ keys) good goods low =
-      ap (λ d. entered d (map decode keys)) (enter-is test n x low.0 good goods.0)
+      ap (λ d. entered d (map decode keys)) (enter_is test n x low.0 good goods.0)
       ∙ entered_from n (λ i. test i or (i =? x)) keys (λ i h k. by_place i h k (ℕ_discrete i x)) goods.1 low.1
-      ∙ ap (map decode) (which-same n _ _ (λ i h. or_assoc (test i) (i =? x) (has i keys)))
+      ∙ ap (map decode) (which_same n _ _ (λ i h. or_assoc (test i) (i =? x) (has i keys)))
     where
       by_place : (i : ℕ) → i < n → (test i or (i =? x)) ≡ true → Dec (i ≡ x) → Good i
       by_place i h k (yes e) = subst Good (sym e) goods.0
       by_place i h k (no ne) = good i h (sym (or_false (test i)) ∙ ap (λ (b : Bool). test i or b) (sym (eq_no i x ne)) ∙ k)
 
   -- all of them are those of the different keys, rising
-  pub entered-is : (n : ℕ) (keys : List ℕ) → Every Good keys → Every (λ x. x < n) keys → entered [] (map decode keys) ≡ map decode (which (λ i. has i keys) n)
-  entered-is n keys goods low =
-      ap (λ l. entered (map decode l) (map decode keys)) (sym (which-none (λ i. false) n (λ i h. refl)))
+  pub entered_is : (n : ℕ) (keys : List ℕ) → Every Good keys → Every (λ x. x < n) keys → entered [] (map decode keys) ≡ map decode (which (λ i. has i keys) n)
+  entered_is n keys goods low =
+      ap (λ l. entered (map decode l) (map decode keys)) (sym (which_none (λ i. false) n (λ i h. refl)))
       ∙ entered_from n (λ i. false) keys (λ i h e. absurd (true≢false (sym e))) goods low
-      ∙ ap (map decode) (which-same n _ _ (λ i h. false_or (has i keys)))
+      ∙ ap (map decode) (which_same n _ _ (λ i h. false_or (has i keys)))

@@ -16,7 +16,7 @@ use Rattle.clumps.proofs.Lists.{false_or}
 use Rattle.clumps.specs.Lists.{precedes}
 use Rattle.keys.specs.Inner.{Climbs, weight_of, members_of, key_of, clump_of}
 use Rattle.keys.proofs.Weights.{weight_low, weight_order}
-use Rattle.keys.proofs.Members.{members-are}
+use Rattle.keys.proofs.Members.{members_are}
 
 -- in part k of a
 abbrev pub InPart : ℕ → ℕ → List ℕ → Type 0
@@ -53,7 +53,7 @@ module _ (a : ℕ) where
       ap (clump_of a) (key_is k u c)
       ∙ ap₂ (λ (p r : ℕ). members_of ((p + 1) * a) a (2 ^ a - 1 - r)) (block_div k (2 ^ a) over (omega (arith, pow_pos a))) (block_mod k (2 ^ a) over (omega (arith, pow_pos a)))
       ∙ ap (members_of to a) weight
-      ∙ members-are to a u (omega (arith, next k a)) (subst (λ (n : ℕ). Climbs n to u) from c)
+      ∙ members_are to a u (omega (arith, next k a)) (subst (λ (n : ℕ). Climbs n to u) from c)
     where
       to : ℕ
       to = (k + 1) * a

@@ -16,8 +16,8 @@ module _ (to n weight r : ℕ) (old : List ℕ) where
     pub left : laid r (members_of to n weight) old ≡ laid e (members_of to i w) s
     pub end : r + length (members_of to n weight) ≡ e + length (members_of to i w)
 
-  pub members-none : MembersTo weight r n old
-  members-none = record { high = omega arith; long = refl; left = refl; end = refl }
+  pub members_none : MembersTo weight r n old
+  members_none = record { high = omega arith; long = refl; left = refl; end = refl }
 
   module _ (asked : WeightAsked old to n weight r) (w e i : ℕ) (s : List ℕ) (d : MembersTo w e i s) (some : 0 < i) where
     one : i ≡ suc (i - 1)
@@ -31,15 +31,15 @@ module _ (to n weight r : ℕ) (old : List ℕ) where
             ∙ taken to (i - 1) w (omega (arith, is))
             ∙ ap (λ (k : ℕ). (to - 1 - (i - 1)) ∷ members_of to (i - 1) (w - k)) (sym is)
 
-        pub members-room : e < length s
-        members-room = omega (arith, asked.room, d.end, d.long, ap length next)
+        pub members_room : e < length s
+        members_room = omega (arith, asked.room, d.end, d.long, ap length next)
 
         pub members_on : MembersTo (w - own) (e + 1) (i - 1) (set s e (to - 1 - (i - 1)))
         members_on =
             record {
               high = omega (arith, d.high);
               long = length-set s e (to - 1 - (i - 1)) ∙ d.long;
-              left = laid_on e (to - 1 - (i - 1)) (members_of to (i - 1) (w - own)) s (laid r (members_of to n weight) old) members-room
+              left = laid_on e (to - 1 - (i - 1)) (members_of to (i - 1) (w - own)) s (laid r (members_of to n weight) old) members_room
                   (d.left ∙ ap (λ (l : List ℕ). laid e l s) next);
               end = omega (arith, d.end, ap length next);
             }
@@ -54,8 +54,8 @@ module _ (to n weight r : ℕ) (old : List ℕ) where
             end = omega (arith, d.end, ap length next);
           }
 
-  pub members-all : (w e i : ℕ) (s : List ℕ) → MembersTo w e i s → i ≤ 0 → NumbersLaid r e (members_of to n weight) old s
-  members-all w e i s d h =
+  pub members_all : (w e i : ℕ) (s : List ℕ) → MembersTo w e i s → i ≤ 0 → NumbersLaid r e (members_of to n weight) old s
+  members_all w e i s d h =
       let none : i ≡ 0 = omega arith in
       record {
         are = sym (d.left ∙ rw none (laid_nil e s));

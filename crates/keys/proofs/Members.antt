@@ -16,11 +16,11 @@ module _ (to : ℕ) where
   pub passed : (n w : ℕ) → w < 2 ^ n → members_of to (suc n) w ≡ members_of to n w
   passed n w h = rw (le_no (2 ^ n) w h)
 
-  pub members-are : (n : ℕ) (u : List ℕ) → n ≤ to → Climbs (to - n) to u → members_of to n (weight_of to u) ≡ u
-  members-are zero [] h c = refl
-  members-are zero (x ∷ u) h c = absurd (omega (arith, c.0, c.1))
-  members-are (suc n) [] h c = passed n 0 (pow_pos n) ∙ members-are n [] (omega arith) tt
-  members-are (suc n) (x ∷ u) h c = by_place (members-are n (x ∷ u) (omega arith)) (members-are n u (omega arith)) (dec_lt (to - suc n) x)
+  pub members_are : (n : ℕ) (u : List ℕ) → n ≤ to → Climbs (to - n) to u → members_of to n (weight_of to u) ≡ u
+  members_are zero [] h c = refl
+  members_are zero (x ∷ u) h c = absurd (omega (arith, c.0, c.1))
+  members_are (suc n) [] h c = passed n 0 (pow_pos n) ∙ members_are n [] (omega arith) tt
+  members_are (suc n) (x ∷ u) h c = by_place (members_are n (x ∷ u) (omega arith)) (members_are n u (omega arith)) (dec_lt (to - suc n) x)
     where
       by_place : (Climbs (to - n) to (x ∷ u) → members_of to n (weight_of to (x ∷ u)) ≡ x ∷ u) → (Climbs (to - n) to u → members_of to n (weight_of to u) ≡ u)
           → Dec (to - suc n < x) → members_of to (suc n) (weight_of to (x ∷ u)) ≡ x ∷ u

@@ -20,8 +20,8 @@ climbs_up lo hi [] c i h = absurd (omega arith)
 climbs_up lo hi (x ∷ l) c zero h = omega (arith, (climbs_at (x + 1) hi l c.2 0 (omega arith)).0)
 climbs_up lo hi (x ∷ l) c (suc i) h = climbs_up (x + 1) hi l c.2 i (omega arith)
 
-pub climbs-rising : (n : ℕ) (l : List ℕ) → Climbs 0 n l → Rising n l
-climbs-rising n l c =
+pub climbs_rising : (n : ℕ) (l : List ℕ) → Climbs 0 n l → Rising n l
+climbs_rising n l c =
     record { rises = λ i h. rw (add-one i) (climbs_up 0 n l c i (rw (add-one i) at h)); below = λ i h. (climbs_at 0 n l c i h).1 }
 
 rising_from : (lo n : ℕ) (l : List ℕ) → Rising n l → (0 < length l → lo ≤ get_or l 0 0) → Climbs lo n l
@@ -42,5 +42,5 @@ rising_from lo n (x ∷ l) r h = (
         let e : suc i + 1 ≡ suc (i + 1) = omega arith in
         rw e at up
 
-pub rising-climbs : (n : ℕ) (l : List ℕ) → Rising n l → Climbs 0 n l
-rising-climbs n l r = rising_from 0 n l r (λ some. omega arith)
+pub rising_climbs : (n : ℕ) (l : List ℕ) → Rising n l → Climbs 0 n l
+rising_climbs n l r = rising_from 0 n l r (λ some. omega arith)

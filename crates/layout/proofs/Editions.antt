@@ -3,6 +3,6 @@ use native.Mathlib.Omega.{arith}
 use Rattle.layout.specs.Layout.{edition1}
 use Rattle.layout.specs.Inner.{SoundLayout}
 
-pub edition1-sound : SoundLayout edition1
-edition1-sound =
+pub edition1_sound : SoundLayout edition1
+edition1_sound =
     record { edition_fits = omega arith; long = omega arith; short = omega arith; counted = omega arith; narrow = omega arith }

@@ -21,7 +21,7 @@ pub record HeldChain (L : Layout) (p : ℕ) (steps : List Step) (outputs : List 
 pub shape_sized : (L : Layout) (p q n : ℕ) → shape_rule L.limit p q n ≡ fine → Sized L p q n
 shape_sized L p q n ok =
     let s = shape_fits L.limit p q n ok in
-    record { p-some = s.sizes.p-some; p-low = s.sizes.p-low; q_low = s.sizes.q_low; n-low = s.few }
+    record { p_some = s.sizes.p_some; p_low = s.sizes.p_low; q_low = s.sizes.q_low; n_low = s.few }
 
 module _ (L : Layout) (p : ℕ) (steps : List Step) (outputs : List ℕ) where
   pub held_parts : Held L p steps outputs → HeldChain L p steps outputs
@@ -38,4 +38,4 @@ module _ (L : Layout) (p : ℕ) (steps : List Step) (outputs : List ℕ) where
       sym (pass _ _ fine (sym s) (sym h.chain))
 
   pub held_sized : HeldChain L p steps outputs → Sized L p (length outputs) (length steps)
-  held_sized h = record { p-some = h.sizes.p-some; p-low = h.sizes.p-low; q_low = h.sizes.q_low; n-low = h.few }
+  held_sized h = record { p_some = h.sizes.p_some; p_low = h.sizes.p_low; q_low = h.sizes.q_low; n_low = h.few }

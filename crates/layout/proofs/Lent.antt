@@ -11,7 +11,7 @@ use Rattle.chain.proofs.Rules.{lt_no, or_none}
 use Rattle.chain.proofs.Sizes.{length-fits}
 use Rattle.layout.specs.declared.Layout.{Layout}
 use Rattle.layout.specs.File.{length_of, payslips_of, read_rule}
-use Rattle.layout.proofs.Readable.{payslips-low}
+use Rattle.layout.proofs.Readable.{payslips_low}
 
 -- a rule after another need only be known where that one finds nothing
 pub then_under : (v a b : Verdict) → (v ≡ fine → a ≡ b) → (v then a) ≡ (v then b)
@@ -32,7 +32,7 @@ read_any L bytes x y hx hy =
     then_under _ _ _ (λ a. then_under _ _ _ (λ b. then_under _ _ _ (λ few. then_under _ _ _ (λ d. then_same _ _ _ (rooms few)))))
   where
     enough : (x y : ℕ) → L.limit ≤ x → most_payslips ≤ y → length_of L bytes ≤ L.limit → (x <? length_of L bytes or y <? payslips_of bytes) ≡ false
-    enough x y hx hy low = or_none _ _ (lt_no x (length_of L bytes) (omega arith)) (lt_no y (payslips_of bytes) (omega (arith, payslips-low bytes)))
+    enough x y hx hy low = or_none _ _ (lt_no x (length_of L bytes) (omega arith)) (lt_no y (payslips_of bytes) (omega (arith, payslips_low bytes)))
 
     rooms : length_rule L.limit (length_of L bytes) ≡ fine
         → refuse_if (x <? length_of L bytes or y <? payslips_of bytes) 5 0 ≡ refuse_if (L.limit <? length_of L bytes or most_payslips <? payslips_of bytes) 5 0

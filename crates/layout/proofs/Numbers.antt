@@ -10,21 +10,21 @@ use Rattle.chain.specs.Verdict.{fine}
 use Rattle.chain.specs.Chain.{flat, chain_rule}
 use Rattle.chain.specs.declared.Step.{Step}
 use Rattle.chain.proofs.Rules.{then_fine}
-use Rattle.chain.proofs.Steps.{flat-low}
-use Rattle.chain.proofs.Limits.{outputs-low}
+use Rattle.chain.proofs.Steps.{flat_low}
+use Rattle.chain.proofs.Limits.{outputs_low}
 use Rattle.layout.specs.File.{width}
-use Rattle.layout.proofs.Lengths.{width-holds}
+use Rattle.layout.proofs.Lengths.{width_holds}
 
 module _ (p : ℕ) (steps : List Step) (outputs : List ℕ) (ok : chain_rule p steps outputs ≡ fine) where
   pub operands_small : (k : ℕ) → get_or (flat steps) k 0 < 2 ^ width p (length steps)
   unfolding chain_rule
   operands_small k =
-      width-holds p (length steps) (get_or (flat steps) k 0) (flat-low p 1 (p + length steps) steps (then_fine _ _ ok).0 (omega arith) k)
+      width_holds p (length steps) (get_or (flat steps) k 0) (flat_low p 1 (p + length steps) steps (then_fine _ _ ok).0 (omega arith) k)
 
-  pub outputs-small : (k : ℕ) → get_or outputs k 0 < 2 ^ width p (length steps)
+  pub outputs_small : (k : ℕ) → get_or outputs k 0 < 2 ^ width p (length steps)
   unfolding chain_rule
-  outputs-small k = width-holds p (length steps) (get_or outputs k 0) (by_place (dec_le (length outputs) k))
+  outputs_small k = width_holds p (length steps) (get_or outputs k 0) (by_place (dec_le (length outputs) k))
     where
       by_place : Dec (length outputs ≤ k) → get_or outputs k 0 ≤ p + length steps
       by_place (yes past) = omega (arith, get_or-eq_default outputs 0 past)
-      by_place (no before) = outputs-low (p + length steps) 1 outputs (then_fine _ _ ok).1 k (lt_of_not-le before)
+      by_place (no before) = outputs_low (p + length steps) 1 outputs (then_fine _ _ ok).1 k (lt_of_not-le before)

@@ -6,7 +6,7 @@ use native.Mathlib.Omega.{arith}
 use lib.ListN.{length}
 use Rattle.chain.specs.Verdict.{fine}
 use Rattle.chain.specs.Chain.{most_columns, most_payslips, chain_rule}
-use Rattle.chain.proofs.Rules.{then_fine, refuse_if-fine, neither, not_lt, not_ne, pass, refuse_no, lt_no, ne_no, or_none}
+use Rattle.chain.proofs.Rules.{then_fine, refuse_if_fine, neither, not_lt, not_ne, pass, refuse_no, lt_no, ne_no, or_none}
 use Rattle.chain.proofs.Sizes.{length-fits, fits-length}
 use Rattle.bits.specs.Bits.{bytes_for}
 use Rattle.bits.proofs.Fields.{field_lt}
@@ -19,8 +19,8 @@ pub record Readable (L : Layout) (bytes : List ℕ) (pairsLent outputsLent : ℕ
   pub same_edition : edition_of bytes ≡ L.edition
   pub few : length_of L bytes ≤ L.limit
   pub long : length bytes ≡ bytes_for (bits_of L bytes)
-  pub pairs-room : length_of L bytes ≤ pairsLent
-  pub outputs-room : payslips_of bytes ≤ outputsLent
+  pub pairs_room : length_of L bytes ≤ pairsLent
+  pub outputs_room : payslips_of bytes ≤ outputsLent
   pub filling : filling_of L bytes ≡ 0
   pub chain : chain_rule (columns_of bytes) (steps_of L bytes) (outputs_of L bytes) ≡ fine
 
@@ -34,36 +34,36 @@ module _ (L : Layout) (bytes : List ℕ) (x y : ℕ) where
       let d = then_fine _ _ c.1 in
       let e = then_fine _ _ d.1 in
       let f = then_fine _ _ e.1 in
-      let rooms = neither _ _ (refuse_if-fine _ 5 0 e.0) in
+      let rooms = neither _ _ (refuse_if_fine _ 5 0 e.0) in
       record {
-        some = not_lt _ _ (refuse_if-fine _ 6 0 a.0);
-        same_edition = not_ne _ _ (refuse_if-fine _ 7 0 b.0);
+        some = not_lt _ _ (refuse_if_fine _ 6 0 a.0);
+        same_edition = not_ne _ _ (refuse_if_fine _ 7 0 b.0);
         few = length-fits L.limit _ c.0;
-        long = not_ne _ _ (refuse_if-fine _ 6 0 d.0);
-        pairs-room = not_lt _ _ rooms.0;
-        outputs-room = not_lt _ _ rooms.1;
-        filling = not_ne _ _ (refuse_if-fine _ 8 0 f.0);
+        long = not_ne _ _ (refuse_if_fine _ 6 0 d.0);
+        pairs_room = not_lt _ _ rooms.0;
+        outputs_room = not_lt _ _ rooms.1;
+        filling = not_ne _ _ (refuse_if_fine _ 8 0 f.0);
         chain = f.1;
       }
 
-  pub read-fine : Readable L bytes x y → read_rule L bytes x y ≡ fine
+  pub read_fine : Readable L bytes x y → read_rule L bytes x y ≡ fine
   unfolding read_rule
-  read-fine r =
+  read_fine r =
       sym
       (pass _ _ fine (refuse_no _ 6 0 (lt_no _ _ r.some))
       (pass _ _ fine (refuse_no _ 7 0 (ne_no _ _ r.same_edition))
       (pass _ _ fine (sym (fits-length L.limit _ r.few))
       (pass _ _ fine (refuse_no _ 6 0 (ne_no _ _ r.long))
-      (pass _ _ fine (refuse_no _ 5 0 (or_none _ _ (lt_no _ _ r.pairs-room) (lt_no _ _ r.outputs-room)))
+      (pass _ _ fine (refuse_no _ 5 0 (or_none _ _ (lt_no _ _ r.pairs_room) (lt_no _ _ r.outputs_room)))
       (pass _ _ fine (refuse_no _ 8 0 (ne_no _ _ r.filling)) (sym r.chain)))))))
 
 -- sizes that any header has
 module _ (bytes : List ℕ) where
-  pub columns-low : columns_of bytes ≤ most_columns
-  columns-low = omega (arith, field_lt bytes 4 4)
+  pub columns_low : columns_of bytes ≤ most_columns
+  columns_low = omega (arith, field_lt bytes 4 4)
 
-  pub payslips-low : payslips_of bytes ≤ most_payslips
-  payslips-low = omega (arith, field_lt bytes 8 6)
+  pub payslips_low : payslips_of bytes ≤ most_payslips
+  payslips_low = omega (arith, field_lt bytes 8 6)
 
 pub header_sized : (L : Layout) (bytes : List ℕ) → length_of L bytes ≤ L.limit → Sized L (columns_of bytes) (payslips_of bytes) (length_of L bytes)
-header_sized L bytes few = record { p-some = omega arith; p-low = columns-low bytes; q_low = payslips-low bytes; n-low = few }
+header_sized L bytes few = record { p_some = omega arith; p_low = columns_low bytes; q_low = payslips_low bytes; n_low = few }

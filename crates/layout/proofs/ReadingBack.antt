@@ -10,7 +10,7 @@ use Rattle.chain.specs.Verdict.{fine}
 use Rattle.chain.specs.Written.{over}
 use Rattle.chain.specs.Chain.{pairs, flat}
 use Rattle.chain.specs.declared.Step.{Step}
-use Rattle.chain.proofs.Pairs.{pairs-flat, length-flat}
+use Rattle.chain.proofs.Pairs.{pairs_flat, length-flat}
 use Rattle.bits.specs.Bits.{bits, fields, pack, bytes_for, field_at, fields_at}
 use Rattle.bits.specs.Inner.{filed}
 use Rattle.bits.proofs.Values.{length-bits}
@@ -22,8 +22,8 @@ use Rattle.layout.specs.File.{length_of, width_of, steps_of, outputs_of, bits_of
 use Rattle.layout.specs.Inner.{SoundLayout}
 use Rattle.layout.proofs.Lengths.{length_header, length-file_bits, length-file, count_most}
 use Rattle.layout.proofs.Held.{HeldChain, held_parts, held_sized}
-use Rattle.layout.proofs.Numbers.{operands_small, outputs-small}
-use Rattle.layout.proofs.Readable.{read-fine}
+use Rattle.layout.proofs.Numbers.{operands_small, outputs_small}
+use Rattle.layout.proofs.Readable.{read_fine}
 
 module _ (L : Layout) (sound : SoundLayout L) (p : ℕ) (steps : List Step) (outputs : List ℕ) where
   abbrev n : ℕ
@@ -39,25 +39,25 @@ module _ (L : Layout) (sound : SoundLayout L) (p : ℕ) (steps : List Step) (out
   file = file_of L p steps outputs
 
   -- the file as a buffer that has nothing else
-  file-filed : file ≡ filed (file_bits L p steps outputs) []
+  file_filed : file ≡ filed (file_bits L p steps outputs) []
   unfolding file_of over
-  file-filed =
+  file_filed =
       sym
       (ap (λ (k : ℕ). over (pack (bytes_for k) (file_bits L p steps outputs)) []) (length-file_bits L p steps outputs)
       ∙ ap (λ (r : List ℕ). file_of L p steps outputs ++ r) (drop-nil (length (file_of L p steps outputs))) ∙ append-nil (file_of L p steps outputs))
 
   -- what stands between the bits a and c is read at the end of a
-  read-field : (v x : ℕ) (a c : List Bool) (at : ℕ) → length a ≡ at → file_bits L p steps outputs ≡ a ++ (bits v x ++ c) → x < 2 ^ v → field_at file at v ≡ x
-  read-field v x a c at ea e h =
+  read_field : (v x : ℕ) (a c : List Bool) (at : ℕ) → length a ≡ at → file_bits L p steps outputs ≡ a ++ (bits v x ++ c) → x < 2 ^ v → field_at file at v ≡ x
+  read_field v x a c at ea e h =
       ap (λ (k : ℕ). field_at file k v) (sym ea)
-      ∙ ap (λ (r : List ℕ). field_at r (length a) v) (file-filed ∙ ap (λ (b : List Bool). filed b []) e)
+      ∙ ap (λ (r : List ℕ). field_at r (length a) v) (file_filed ∙ ap (λ (b : List Bool). filed b []) e)
       ∙ field_back v x a c [] h
 
-  read-fields : (xs : List ℕ) (a c : List Bool) (at m : ℕ) → length a ≡ at → length xs ≡ m → file_bits L p steps outputs ≡ a ++ (fields w xs ++ c)
+  read_fields_lem : (xs : List ℕ) (a c : List Bool) (at m : ℕ) → length a ≡ at → length xs ≡ m → file_bits L p steps outputs ≡ a ++ (fields w xs ++ c)
       → ((k : ℕ) → get_or xs k 0 < 2 ^ w) → fields_at file at w m ≡ xs
-  read-fields xs a c at m ea em e h =
+  read_fields_lem xs a c at m ea em e h =
       ap₂ (λ (i j : ℕ). fields_at file i w j) (sym ea) (sym em)
-      ∙ ap (λ (r : List ℕ). fields_at r (length a) w (length xs)) (file-filed ∙ ap (λ (b : List Bool). filed b []) e)
+      ∙ ap (λ (r : List ℕ). fields_at r (length a) w (length xs)) (file_filed ∙ ap (λ (b : List Bool). filed b []) e)
       ∙ fields_back xs w a c [] h
 
   abbrev body : List Bool
@@ -65,7 +65,7 @@ module _ (L : Layout) (sound : SoundLayout L) (p : ℕ) (steps : List Step) (out
 
   edition_back : edition_of file ≡ L.edition
   unfolding file_bits
-  edition_back = read-field 4 L.edition [] (bits 4 (p - 1) ++ (bits 6 (q - 1) ++ (bits L.bits n ++ body))) 0 refl (simp append_assoc)
+  edition_back = read_field 4 L.edition [] (bits 4 (p - 1) ++ (bits 6 (q - 1) ++ (bits L.bits n ++ body))) 0 refl (simp append_assoc)
       (omega (arith, sound.edition_fits))
 
   module _ (held : HeldChain L p steps outputs) where
@@ -74,9 +74,9 @@ module _ (L : Layout) (sound : SoundLayout L) (p : ℕ) (steps : List Step) (out
     columns_back =
         omega (
           arith,
-          read-field 4 (p - 1) (bits 4 L.edition) (bits 6 (q - 1) ++ (bits L.bits n ++ body)) 4 (length-bits 4 L.edition)
-              (simp append_assoc) (omega (arith, held.sizes.p-low)),
-          held.sizes.p-some,
+          read_field 4 (p - 1) (bits 4 L.edition) (bits 6 (q - 1) ++ (bits L.bits n ++ body)) 4 (length-bits 4 L.edition)
+              (simp append_assoc) (omega (arith, held.sizes.p_low)),
+          held.sizes.p_some,
         )
 
     pub payslips_back : payslips_of file ≡ q
@@ -86,7 +86,7 @@ module _ (L : Layout) (sound : SoundLayout L) (p : ℕ) (steps : List Step) (out
         omega (arith, length-append (bits 4 L.edition) (bits 4 (p - 1)), length-bits 4 L.edition, length-bits 4 (p - 1)) in
         omega (
           arith,
-          read-field 6 (q - 1) (bits 4 L.edition ++ bits 4 (p - 1)) (bits L.bits n ++ body) 8 len (simp append_assoc) (omega (arith, held.sizes.q_low)),
+          read_field 6 (q - 1) (bits 4 L.edition ++ bits 4 (p - 1)) (bits L.bits n ++ body) 8 len (simp append_assoc) (omega (arith, held.sizes.q_low)),
           held.sizes.q_some,
         )
 
@@ -95,7 +95,7 @@ module _ (L : Layout) (sound : SoundLayout L) (p : ℕ) (steps : List Step) (out
     length_back =
         let a : List Bool = bits 4 L.edition ++ bits 4 (p - 1) ++ bits 6 (q - 1) in
         let len : length a ≡ 14 = omega (arith, length-append a (bits L.bits n), length_header L p q n, length-bits L.bits n) in
-        read-field L.bits n a body 14 len (append_assoc a (bits L.bits n) body) (omega (arith, held.few, sound.counted))
+        read_field L.bits n a body 14 len (append_assoc a (bits L.bits n) body) (omega (arith, held.few, sound.counted))
 
     width_back : width_of L file ≡ w
     width_back = ap₂ width columns_back length_back
@@ -104,9 +104,9 @@ module _ (L : Layout) (sound : SoundLayout L) (p : ℕ) (steps : List Step) (out
     unfolding steps_of file_bits
     steps_back =
         ap₂ (λ (v k : ℕ). pairs (fields_at file (header_size L) v (2 * k))) width_back length_back
-        ∙ ap pairs (read-fields (flat steps) (header_bits L p q n) (fields w outputs) (header_size L) (2 * n) (length_header L p q n)
+        ∙ ap pairs (read_fields_lem (flat steps) (header_bits L p q n) (fields w outputs) (header_size L) (2 * n) (length_header L p q n)
         (length-flat steps) refl (operands_small p steps outputs held.chain))
-        ∙ pairs-flat steps
+        ∙ pairs_flat steps
 
     pub outputs_back : outputs_of L file ≡ outputs
     unfolding outputs_of file_bits
@@ -123,8 +123,8 @@ module _ (L : Layout) (sound : SoundLayout L) (p : ℕ) (steps : List Step) (out
         ) in
         ap₂ (λ (v k : ℕ). fields_at file (header_size L + 2 * k * v) v (payslips_of file)) width_back length_back
         ∙ ap (fields_at file (header_size L + 2 * n * w) w) payslips_back
-        ∙ read-fields outputs a [] (header_size L + 2 * n * w) q len refl (sym (append_assoc (header_bits L p q n) (fields w (flat steps)) (fields w outputs ++ [])
-        ∙ ap (λ (r : List Bool). header_bits L p q n ++ (fields w (flat steps) ++ r)) (append-nil (fields w outputs)))) (outputs-small p steps outputs held.chain)
+        ∙ read_fields_lem outputs a [] (header_size L + 2 * n * w) q len refl (sym (append_assoc (header_bits L p q n) (fields w (flat steps)) (fields w outputs ++ [])
+        ∙ ap (λ (r : List Bool). header_bits L p q n ++ (fields w (flat steps) ++ r)) (append-nil (fields w outputs)))) (outputs_small p steps outputs held.chain)
 
     count_back : bits_of L file ≡ bit_count L p q n
     count_back = rw (columns_back, payslips_back, length_back)
@@ -133,7 +133,7 @@ module _ (L : Layout) (sound : SoundLayout L) (p : ℕ) (steps : List Step) (out
     filling_back =
         let k : ℕ = 8 * length file - bit_count L p q n in
         ap (λ (m : ℕ). field_at file m (8 * length file - m)) count_back
-        ∙ ap (λ (r : List ℕ). field_at r (bit_count L p q n) k) file-filed
+        ∙ ap (λ (r : List ℕ). field_at r (bit_count L p q n) k) file_filed
         ∙ filling_zero (file_bits L p steps outputs) [] (bit_count L p q n) k (length-file_bits L p steps outputs)
         (ap (λ (m : ℕ). 8 * m - bit_count L p q n) (length-file L p steps outputs))
 
@@ -142,21 +142,21 @@ pub record ReadBack (L : Layout) (p : ℕ) (steps : List Step) (outputs file : L
   pub columns : columns_of file ≡ p
   pub payslips : payslips_of file ≡ length outputs
   pub long : length_of L file ≡ length steps
-  pub steps-same : steps_of L file ≡ steps
-  pub outputs-same : outputs_of L file ≡ outputs
+  pub steps_same : steps_of L file ≡ steps
+  pub outputs_same : outputs_of L file ≡ outputs
 
 module _ (L : Layout) (sound : SoundLayout L) (p : ℕ) (steps : List Step) (outputs : List ℕ) (held : Held L p steps outputs) where
   parts : HeldChain L p steps outputs
   parts = held_parts L p steps outputs held
 
-  pub reading-gives : ReadBack L p steps outputs (file_of L p steps outputs)
-  reading-gives =
+  pub reading_gives : ReadBack L p steps outputs (file_of L p steps outputs)
+  reading_gives =
       record {
         columns = columns_back L sound p steps outputs parts;
         payslips = payslips_back L sound p steps outputs parts;
         long = length_back L sound p steps outputs parts;
-        steps-same = steps_back L sound p steps outputs parts;
-        outputs-same = outputs_back L sound p steps outputs parts;
+        steps_same = steps_back L sound p steps outputs parts;
+        outputs_same = outputs_back L sound p steps outputs parts;
       }
 
   -- it is read wherever there is room
@@ -164,36 +164,36 @@ module _ (L : Layout) (sound : SoundLayout L) (p : ℕ) (steps : List Step) (out
       → read_rule L (file_of L p steps outputs) pairsLent outputsLent ≡ fine
   reading_back x y hx hy =
       let f : List ℕ = file_of L p steps outputs in
-      let r = reading-gives in
-      read-fine L f x y
+      let r = reading_gives in
+      read_fine L f x y
       (record {
         some = omega (arith, length-file L p steps outputs, sound.long);
         same_edition = edition_back L sound p steps outputs;
         few = omega (arith, r.long, parts.few);
         long = length-file L p steps outputs ∙ sym (rw (r.columns, r.payslips, r.long));
-        pairs-room = omega (arith, r.long);
-        outputs-room = omega (arith, r.payslips);
+        pairs_room = omega (arith, r.long);
+        outputs_room = omega (arith, r.payslips);
         filling = filling_back L sound p steps outputs parts;
-        chain = rw (r.columns, r.steps-same, r.outputs-same) parts.chain;
+        chain = rw (r.columns, r.steps_same, r.outputs_same) parts.chain;
       })
 
   -- and has at most the bytes of the longest file
-  pub file-low : byte_count L p (length outputs) (length steps) ≤ most_bytes L
-  file-low = count_most L sound p (length outputs) (length steps) (held_sized L p steps outputs parts)
+  pub file_low : byte_count L p (length outputs) (length steps) ≤ most_bytes L
+  file_low = count_most L sound p (length outputs) (length steps) (held_sized L p steps outputs parts)
 
 -- a chain is known by its file
 pub record Same (p p' : ℕ) (steps steps' : List Step) (outputs outputs' : List ℕ) : Type 0 where
   pub columns : p ≡ p'
-  pub steps-same : steps ≡ steps'
-  pub outputs-same : outputs ≡ outputs'
+  pub steps_same : steps ≡ steps'
+  pub outputs_same : outputs ≡ outputs'
 
-pub one-chain : (L : Layout) → SoundLayout L → (p p' : ℕ) (steps steps' : List Step) (outputs outputs' : List ℕ) → Held L p steps outputs → Held L p' steps' outputs'
+pub one_chain : (L : Layout) → SoundLayout L → (p p' : ℕ) (steps steps' : List Step) (outputs outputs' : List ℕ) → Held L p steps outputs → Held L p' steps' outputs'
     → file_of L p steps outputs ≡ file_of L p' steps' outputs' → Same p p' steps steps' outputs outputs'
-one-chain L sound p p' steps steps' outputs outputs' held held' e =
-    let a = reading-gives L sound p steps outputs held in
-    let b = reading-gives L sound p' steps' outputs' held' in
+one_chain L sound p p' steps steps' outputs outputs' held held' e =
+    let a = reading_gives L sound p steps outputs held in
+    let b = reading_gives L sound p' steps' outputs' held' in
     record {
       columns = sym a.columns ∙ ap columns_of e ∙ b.columns;
-      steps-same = sym a.steps-same ∙ ap (steps_of L) e ∙ b.steps-same;
-      outputs-same = sym a.outputs-same ∙ ap (outputs_of L) e ∙ b.outputs-same;
+      steps_same = sym a.steps_same ∙ ap (steps_of L) e ∙ b.steps_same;
+      outputs_same = sym a.outputs_same ∙ ap (outputs_of L) e ∙ b.outputs_same;
     }

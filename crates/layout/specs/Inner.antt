@@ -15,10 +15,10 @@ pub record SoundLayout (L : Layout) : Type 0 where
 
 -- sizes that the layout holds
 pub record Sized (L : Layout) (p q n : ℕ) : Type 0 where
-  pub p-some : 1 ≤ p
-  pub p-low : p ≤ most_columns
+  pub p_some : 1 ≤ p
+  pub p_low : p ≤ most_columns
   pub q_low : q ≤ most_payslips
-  pub n-low : n ≤ L.limit
+  pub n_low : n ≤ L.limit
 
 -- a layout that can be written and read back, and sizes that it holds
 pub record LayoutHolds (L : Layout) (p q n : ℕ) : Type 0 where

@@ -15,10 +15,10 @@ width_stated L file = width_by_cases (columns_of file + length_of L file)
 -- Req 03: every width in the file of a chain remains the bit length of p + n
 pub record WidthsByCases (L : Layout) (p : ℕ) (steps : List Step) (outputs file : List ℕ) : Type 0 where
   -- Spec 5.2: the width found is the bit length
-  pub is-bit-length : width_stated L file ≡ bit_length (p + length steps)
+  pub is_bit_length : width_stated L file ≡ bit_length (p + length steps)
   -- Spec 5.1: and every field past the header has it: the operands of the steps in turn,
   pub operands_fill : fields_at file (header_size L) (width_stated L file) (2 * length steps) ≡ flat steps
   -- then the outputs,
-  pub outputs-fill : fields_at file (header_size L + 2 * length steps * width_stated L file) (width_stated L file) (length outputs) ≡ outputs
+  pub outputs_fill : fields_at file (header_size L + 2 * length steps * width_stated L file) (width_stated L file) (length outputs) ≡ outputs
   -- Spec 5.3: with which the file ends, but for the filling
   pub long : length file ≡ bytes_for (header_size L + (2 * length steps + length outputs) * width_stated L file)

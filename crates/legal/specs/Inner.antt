@@ -26,4 +26,4 @@ legal_of p steps = added_up (λ s x. passed (step_rule (p + s) s x)) 1 steps
 -- what a pass over steps that does not tell them apart counts
 pub record Tallied (p : ℕ) (steps : List Step) (t : Tally) : Type 0 where
   pub legal_are : t.legal ≡ legal_of p steps
-  pub squarings-are : t.squarings ≡ squarings_of steps
+  pub squarings_are : t.squarings ≡ squarings_of steps

@@ -16,11 +16,11 @@ use Rattle.groups.specs.Groups.{group_count}
 use Rattle.clumps.specs.Lists.{joined, which, has, holds, entered}
 use Rattle.clumps.specs.Clumps.{most_part, clumps_in, clumps_of}
 use Rattle.clumps.proofs.Lists.{get_d_map_in, joined_same}
-use Rattle.clumps.proofs.Ranked.{which-few, which_item}
+use Rattle.clumps.proofs.Ranked.{which_few, which_item}
 use Rattle.rows.specs.Inner.{members_at, row_at, rows_at, Formed}
 use Rattle.rows.proofs.Lists.{slice_cell}
-use Rattle.rows.proofs.Rows.{place-above, row_inside, row_kept, rows-kept}
-use Rattle.rows.proofs.Members.{rows-joined, part_changed}
+use Rattle.rows.proofs.Rows.{place_above, row_inside, row_kept, rows_kept}
+use Rattle.rows.proofs.Members.{rows_joined, part_changed}
 use Rattle.keys.specs.Inner.{key_in, clump_of, clump_in, ClumpsAsked, ClumpsLaid}
 use Rattle.keys.proofs.Entering.{Every}
 use Rattle.keys.proofs.Climbing.{Good}
@@ -29,7 +29,7 @@ use Rattle.cuts.specs.Inner.{RowsCut}
 use Rattle.cuts.specs.declared.Pair.{Pair}
 use Rattle.cuts.specs.declared.Ends.{Ends}
 use Rattle.level.specs.Inner.{level_of, keys_of, cut_of, places_of, LevelAsked, LevelCut}
-use Rattle.level.proofs.Ranked.{every_has, goods, low, clumps-are, clumps-count, clumps_listed, ranks-are, clump_long}
+use Rattle.level.proofs.Ranked.{every_has, goods, low, clumps_are, clumps_count, clumps_listed, ranks_are, clump_long}
 
 pub quotient_low : (b k e : ℕ) → 1 ≤ b → b * k ≤ e → k ≤ e / b
 quotient_low b k e some h = by_order (dec_le k (e / b))
@@ -79,28 +79,28 @@ module _ (at m n : ℕ) (l : Pair) (keys rest : ℕ) (s : List ℕ) (asked : Lev
   someb = omega (arith, asked.cut.some)
 
   keys_rise : from ≤ ends.keys
-  keys_rise = place_below' (place-above s1 keys m ends.keys cut.keys-formed m (omega arith)) cut.keys-formed.last
+  keys_rise = place_below' (place_above s1 keys m ends.keys cut.keys_formed m (omega arith)) cut.keys_formed.last
     where
       place_below' : from ≤ get_or s1 (keys + m) 0 → get_or s1 (keys + m) 0 ≡ ends.keys → from ≤ ends.keys
       place_below' h e = omega (arith, h, e)
 
   rest_rise : rest + m + 1 ≤ ends.rest
-  rest_rise = omega (arith, place-above s1 rest m ends.rest cut.rest-formed m (omega arith), cut.rest-formed.last)
+  rest_rise = omega (arith, place_above s1 rest m ends.rest cut.rest_formed m (omega arith), cut.rest_formed.last)
 
   few : ends.keys - from ≤ E / l.b
   few = quotient_low l.b (ends.keys - from) E someb (omega (arith, cut.whole))
 
   flat : slice from ends.keys s1 ≡ all
-  flat = rows-joined s1 keys m ends.keys cut.keys-formed ∙ joined_same m _ _ (λ j h. cut.clumps n j h (asked.rising j h))
+  flat = rows_joined s1 keys m ends.keys cut.keys_formed ∙ joined_same m _ _ (λ j h. cut.clumps n j h (asked.rising j h))
 
-  flat-long : length all ≡ ends.keys - from
-  flat-long = sym (ap length flat) ∙ length-slice from ends.keys s1 (omega (arith, cut.keys-formed.inside))
+  flat_long : length all ≡ ends.keys - from
+  flat_long = sym (ap length flat) ∙ length-slice from ends.keys s1 (omega (arith, cut.keys_formed.inside))
 
   pub rank_asked : RankAsked s1 from ends.keys ends.rest T
   rank_asked =
       record {
         rises = keys_rise;
-        below = omega (arith, cut.keys-low, rest_rise);
+        below = omega (arith, cut.keys_low, rest_rise);
         low = λ i h g. low_at i h g;
         room = omega (arith, few, cut.whole, asked.room, cut.apart.size);
         fits = rw cut.apart.size asked.cut.fits;
@@ -110,7 +110,7 @@ module _ (at m n : ℕ) (l : Pair) (keys rest : ℕ) (s : List ℕ) (asked : Lev
       low_at i h g =
           let q : from + (i - from) ≡ i = omega arith in
           subst (λ (x : ℕ). x < T) (sym (ap (λ (c : ℕ). get_or s1 c 0) (sym q) ∙ sym (slice_cell from ends.keys s1 (i - from) (omega arith)) ∙ ap (λ (r : List ℕ). get_or r (i - from) 0) flat))
-          (every_at (λ x. x < T) all (low (level_of l) somea someb n m (row_at s at) asked.rising) (i - from) (omega (arith, flat-long)))
+          (every_at (λ x. x < T) all (low (level_of l) somea someb n m (row_at s at) asked.rising) (i - from) (omega (arith, flat_long)))
 
   -- all clumps in order
   abbrev D : List (List ℕ)
@@ -123,10 +123,10 @@ module _ (at m n : ℕ) (l : Pair) (keys rest : ℕ) (s : List ℕ) (asked : Lev
   joined_is = clumps_listed m C
 
   D_is : D ≡ map (clump_of a) (different all T)
-  D_is = joined_is ∙ clumps-are (level_of l) somea someb n m (row_at s at) asked.rising
+  D_is = joined_is ∙ clumps_are (level_of l) somea someb n m (row_at s at) asked.rising
 
   D_long : length D ≡ length (different all T)
-  D_long = ap length joined_is ∙ clumps-count (level_of l) somea someb n m (row_at s at) asked.rising
+  D_long = ap length joined_is ∙ clumps_count (level_of l) somea someb n m (row_at s at) asked.rising
 
   module _ (clumps : ℕ) (s2 : List ℕ) (ranked : Ranked from ends.keys ends.rest T clumps s1 s2) where
     abbrev first : ℕ
@@ -141,17 +141,17 @@ module _ (at m n : ℕ) (l : Pair) (keys rest : ℕ) (s : List ℕ) (asked : Lev
     count : k ≡ length (different all T)
     count = omega (arith, end_is)
 
-    few-clumps : k ≤ ends.keys - from
-    few-clumps = omega (arith, ranked.low)
+    few_clumps : k ≤ ends.keys - from
+    few_clumps = omega (arith, ranked.low)
 
-    few-keys : k ≤ T
-    few-keys = omega (arith, count, which-few (λ x. has x all) T)
+    few_keys : k ≤ T
+    few_keys = omega (arith, count, which_few (λ x. has x all) T)
 
-    different-is : slice first clumps s2 ≡ different all T
-    different-is = ranked.keys ∙ ap (λ (r : List ℕ). different r T) flat
+    different_is : slice first clumps s2 ≡ different all T
+    different_is = ranked.keys ∙ ap (λ (r : List ℕ). different r T) flat
 
     key_at_lem : (j : ℕ) → j < k → get_or s2 (first + j) 0 ≡ get_or (different all T) j 0
-    key_at_lem j h = sym (slice_cell first clumps s2 j (omega arith)) ∙ ap (λ (r : List ℕ). get_or r j 0) different-is
+    key_at_lem j h = sym (slice_cell first clumps s2 j (omega arith)) ∙ ap (λ (r : List ℕ). get_or r j 0) different_is
 
     key_there : (j : ℕ) → j < k → (get_or (different all T) j 0 < T) × (has (get_or (different all T) j 0) all ≡ true)
     key_there j h = which_item (λ x. has x all) T j (omega (arith, count))
@@ -173,17 +173,17 @@ module _ (at m n : ℕ) (l : Pair) (keys rest : ℕ) (s : List ℕ) (asked : Lev
     size2 : length s2 ≡ length s
     size2 = ranked.long ∙ cut.apart.size
 
-    times-few : l.b * k ≤ l.b * (ends.keys - from)
-    times-few = mul-le-mul_left l.b few-clumps
+    times_few : l.b * k ≤ l.b * (ends.keys - from)
+    times_few = mul-le-mul_left l.b few_clumps
 
-    pub clumps-asked : ClumpsAsked s2 first k a clumps
-    clumps-asked =
+    pub clumps_asked : ClumpsAsked s2 first k a clumps
+    clumps_asked =
         record {
           some = somea;
           few = asked.cut.few;
           before = omega (arith, end_is);
           small = λ j h. rw (key_at_lem j h) (small_key a n _ somea asked.cut.few asked.few (key_there j h).0);
-          room = omega (arith, sizes, end_is, count, few-clumps, few-keys, few, times-few, cut.whole, asked.room, size2, rest_rise);
+          room = omega (arith, sizes, end_is, count, few_clumps, few_keys, few, times_few, cut.whole, asked.room, size2, rest_rise);
           fits = rw size2 asked.cut.fits;
         }
 
@@ -191,24 +191,24 @@ module _ (at m n : ℕ) (l : Pair) (keys rest : ℕ) (s : List ℕ) (asked : Lev
     formed2 : Formed s2 keys m ends.keys
     formed2 =
         record {
-          first = ranked.before keys (omega arith) ∙ cut.keys-formed.first;
-          rises = λ j h. rw (ranked.before (keys + j) (omega arith), ranked.before (keys + j + 1) (omega arith)) (cut.keys-formed.rises j h);
-          last = ranked.before (keys + m) (omega arith) ∙ cut.keys-formed.last;
-          inside = omega (arith, cut.keys-formed.inside, ranked.long);
+          first = ranked.before keys (omega arith) ∙ cut.keys_formed.first;
+          rises = λ j h. rw (ranked.before (keys + j) (omega arith), ranked.before (keys + j + 1) (omega arith)) (cut.keys_formed.rises j h);
+          last = ranked.before (keys + m) (omega arith) ∙ cut.keys_formed.last;
+          inside = omega (arith, cut.keys_formed.inside, ranked.long);
         }
 
     row2 : (j : ℕ) → j < m → row_at s2 keys j ≡ places_of (cut_of l n s at m) j
     unfolding row_at
     row2 j h =
         ap₂ (λ (p q : ℕ). slice p q s2) (ranked.before (keys + j) (omega arith)) (ranked.before (keys + j + 1) (omega arith))
-        ∙ part_changed (rank_in (slice from ends.keys s1)) from ends.keys _ _ s1 s2 cut.keys-formed.inside (omega (arith, cut.keys-formed.inside, ranked.long))
-        (row_inside s1 keys m ends.keys cut.keys-formed j h).0 (row_inside s1 keys m ends.keys cut.keys-formed j h).1 ranked.ranks
+        ∙ part_changed (rank_in (slice from ends.keys s1)) from ends.keys _ _ s1 s2 cut.keys_formed.inside (omega (arith, cut.keys_formed.inside, ranked.long))
+        (row_inside s1 keys m ends.keys cut.keys_formed j h).0 (row_inside s1 keys m ends.keys cut.keys_formed j h).1 ranked.ranks
         ∙ ap₂ (λ (r v : List ℕ). map (rank_in r) v) flat (cut.clumps n j h (asked.rising j h))
-        ∙ ranks-are (level_of l) somea someb n m (row_at s at) asked.rising j h
+        ∙ ranks_are (level_of l) somea someb n m (row_at s at) asked.rising j h
         ∙ ap₂ (λ (d c : List (List ℕ)). which (λ x. holds (get_or d x []) c) (length d)) (sym joined_is) (sym (get_d_list m C [] j h))
 
-    rest-same : (c : ℕ) → rest ≤ c → c < ends.rest → get_or s2 c 0 ≡ get_or s1 c 0
-    rest-same c h g = ranked.between c (omega (arith, cut.keys-low)) g
+    rest_same : (c : ℕ) → rest ≤ c → c < ends.rest → get_or s2 c 0 ≡ get_or s1 c 0
+    rest_same c h g = ranked.between c (omega (arith, cut.keys_low)) g
 
     module _ (end : ℕ) (s3 : List ℕ) (laid : ClumpsLaid first k a clumps end s2 s3) where
       rows_is : list_to k (λ j. clump_in a s2 (first + j)) ≡ D
@@ -228,43 +228,43 @@ module _ (at m n : ℕ) (l : Pair) (keys rest : ℕ) (s : List ℕ) (asked : Lev
 
       keys3 : Formed s3 keys m ends.keys × (rows_at s3 keys m ≡ rows_at s2 keys m)
       keys3 =
-          rows-kept s2 keys m ends.keys formed2 s3 (λ c h g. same3 c (omega (arith, cut.keys-low, rest_rise, end_is)))
+          rows_kept s2 keys m ends.keys formed2 s3 (λ c h g. same3 c (omega (arith, cut.keys_low, rest_rise, end_is)))
           (omega (arith, formed2.inside, size3))
 
       level_row : (j : ℕ) → j < m → row_at s3 keys j ≡ row_at s2 keys j
       level_row =
-          row_kept s2 keys m ends.keys formed2 s3 (λ c h g. same3 c (omega (arith, cut.keys-low, rest_rise, end_is))) (omega (arith, formed2.inside, size3))
+          row_kept s2 keys m ends.keys formed2 s3 (λ c h g. same3 c (omega (arith, cut.keys_low, rest_rise, end_is))) (omega (arith, formed2.inside, size3))
 
       rest_both : (c : ℕ) → rest ≤ c → c < ends.rest → get_or s3 c 0 ≡ get_or s1 c 0
-      rest_both c h g = same3 c (omega (arith, end_is)) ∙ rest-same c h g
+      rest_both c h g = same3 c (omega (arith, end_is)) ∙ rest_same c h g
 
-      rest-room : ends.rest ≤ length s3
-      rest-room = omega (arith, cut.rest-formed.inside, ranked.long, size3)
+      rest_room : ends.rest ≤ length s3
+      rest_room = omega (arith, cut.rest_formed.inside, ranked.long, size3)
 
       rest3 : Formed s3 rest m ends.rest × (rows_at s3 rest m ≡ rows_at s1 rest m)
-      rest3 = rows-kept s1 rest m ends.rest cut.rest-formed s3 rest_both rest-room
+      rest3 = rows_kept s1 rest m ends.rest cut.rest_formed s3 rest_both rest_room
 
-      clumps-last : get_or s3 (clumps + k) 0 ≡ end
-      clumps-last = (rw (length-list k (λ j. clump_in a s2 (first + j))) at laid.laid.formed).last
+      clumps_last : get_or s3 (clumps + k) 0 ≡ end
+      clumps_last = (rw (length-list k (λ j. clump_in a s2 (first + j))) at laid.laid.formed).last
 
-      pub level-cut : LevelCut at m n l keys rest (record { clumps = clumps; k = k; end = end }) s s3
-      level-cut =
+      pub level_cut : LevelCut at m n l keys rest (record { clumps = clumps; k = k; end = end }) s s3
+      level_cut =
           record {
             size = size3 ∙ size2;
-            kept = λ c h. same3 c (omega (arith, cut.keys-low, rest_rise, end_is, keys_rise)) ∙ ranked.before c (omega arith) ∙ cut.apart.before c h;
-            places-formed = own-end keys3.0;
+            kept = λ c h. same3 c (omega (arith, cut.keys_low, rest_rise, end_is, keys_rise)) ∙ ranked.before c (omega arith) ∙ cut.apart.before c h;
+            places_formed = own_end keys3.0;
             places = λ j h. level_row j h ∙ row2 j h;
-            rest-formed = own-end rest3.0;
-            rest-before = omega (arith, rest3.0.last, end_is);
-            overflow = λ j h. row_kept s1 rest m ends.rest cut.rest-formed s3 rest_both rest-room j h ∙ cut.overflow n j h (asked.rising j h);
+            rest_formed = own_end rest3.0;
+            rest_before = omega (arith, rest3.0.last, end_is);
+            overflow = λ j h. row_kept s1 rest m ends.rest cut.rest_formed s3 rest_both rest_room j h ∙ cut.overflow n j h (asked.rising j h);
             whole = rw (keys3.0.last, rest3.0.last) cut.whole;
             count = count ∙ sym D_long;
-            clumps-formed = rw (length-list k (λ j. clump_in a s2 (first + j))) at laid.laid.formed;
-            clumps-are = ap (rows_at s3 clumps) (sym (length-list k (λ j. clump_in a s2 (first + j)))) ∙ laid.laid.are ∙ rows_is;
-            members = omega (arith, clumps-last, laid.end, sizes, times-few, cut.whole, rest3.0.last);
-            few = omega (arith, few-clumps, few, few-keys);
-            low = omega (arith, laid.end, sizes, end_is, count, few-clumps, few-keys, few, times-few, cut.whole, rest_rise);
+            clumps_formed = rw (length-list k (λ j. clump_in a s2 (first + j))) at laid.laid.formed;
+            clumps_are = ap (rows_at s3 clumps) (sym (length-list k (λ j. clump_in a s2 (first + j)))) ∙ laid.laid.are ∙ rows_is;
+            members = omega (arith, clumps_last, laid.end, sizes, times_few, cut.whole, rest3.0.last);
+            few = omega (arith, few_clumps, few, few_keys);
+            low = omega (arith, laid.end, sizes, end_is, count, few_clumps, few_keys, few, times_few, cut.whole, rest_rise);
           }
         where
-          own-end : {at e : ℕ} → Formed s3 at m e → Formed s3 at m (get_or s3 (at + m) 0)
-          own-end f = record { first = f.first; rises = f.rises; last = refl; inside = omega (arith, f.last, f.inside) }
+          own_end : {at e : ℕ} → Formed s3 at m e → Formed s3 at m (get_or s3 (at + m) 0)
+          own_end f = record { first = f.first; rises = f.rises; last = refl; inside = omega (arith, f.last, f.inside) }

@@ -8,7 +8,7 @@ use Rattle.digits.proofs.Listed.{get_d_list, length-list, list_same}
 use Rattle.clumps.specs.Lists.{which, has, having, holds}
 use Rattle.clumps.specs.Clumps.{Level, clumps_in}
 use Rattle.clumps.specs.Levels.{output_cut, next_outputs}
-use Rattle.clumps.proofs.Lists.{which-same}
+use Rattle.clumps.proofs.Lists.{which_same}
 use Rattle.clumps.proofs.Chosen.{has_chosen}
 use Rattle.level.specs.Inner.{places_of}
 
@@ -19,9 +19,9 @@ module _ (l : Level) (n : ℕ) (outs : List (List ℕ)) where
   abbrev places : List (List ℕ)
   places = list_to n (places_of cut)
 
-  pub next-outputs : list_to (length (clumps_in cut)) (having places) ≡ next_outputs l n outs
+  pub next_outputs_lem : list_to (length (clumps_in cut)) (having places) ≡ next_outputs l n outs
   unfolding next_outputs
-  next-outputs = list_same (length (clumps_in cut)) _ _ (λ x h. ap (which (λ i. has x (get_or places i []))) (length-list n (places_of cut)) ∙ which-same n _ _ (λ i g. one x i h g))
+  next_outputs_lem = list_same (length (clumps_in cut)) _ _ (λ x h. ap (which (λ i. has x (get_or places i []))) (length-list n (places_of cut)) ∙ which_same n _ _ (λ i g. one x i h g))
     where
       one : (x i : ℕ) → x < length (clumps_in cut) → i < n → has x (get_or places i []) ≡ holds (get_or (clumps_in cut) x []) (get_or cut i [])
       one x i h g =

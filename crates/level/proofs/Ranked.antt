@@ -14,18 +14,18 @@ use Rattle.digits.proofs.Listed.{get_d_list, length-list}
 use Rattle.groups.specs.Groups.{group_count}
 use Rattle.clumps.specs.Lists.{joined, which, has, equal, holds, precedes, entered}
 use Rattle.clumps.specs.Clumps.{Level, clumps_in, clumps_of}
-use Rattle.clumps.proofs.Lists.{false_or, get_d_map_in, has-joined, joined_same, map-joined, which-same}
+use Rattle.clumps.proofs.Lists.{false_or, get_d_map_in, has_joined, joined_same, map-joined, which_same}
 use Rattle.clumps.proofs.Often.{members_tell}
 use Rattle.clumps.proofs.Ranked.{which_item}
 use Rattle.rows.specs.Inner.{Rising}
-use Rattle.rows.proofs.Rows.{which-rises, rising_less}
+use Rattle.rows.proofs.Rows.{which_rises, rising_less}
 use Rattle.keys.specs.Inner.{Climbs, key_in, clump_of}
 use Rattle.keys.proofs.Keys.{clump_of_key, key_order}
-use Rattle.keys.proofs.Entering.{Every, key_there, entered-is}
+use Rattle.keys.proofs.Entering.{Every, key_there, entered_is}
 use Rattle.keys.proofs.Climbing.{Good, key_in_lem, every_joined, row_climbs, row_back, row_good}
-use Rattle.keys.proofs.Rising.{climbs-rising, rising-climbs}
+use Rattle.keys.proofs.Rising.{climbs_rising, rising_climbs}
 use Rattle.ranks.specs.Inner.{different, rank_in}
-use Rattle.ranks.proofs.Ranks.{rank_at, rank_low, rising-is, ranks_rise, has_rank}
+use Rattle.ranks.proofs.Ranks.{rank_at, rank_low, rising_is, ranks_rise, has_rank}
 
 -- keys of clumps of one size
 module _ (a b : ℕ) (somea : 1 ≤ a) (someb : 1 ≤ b) where
@@ -35,8 +35,8 @@ module _ (a b : ℕ) (somea : 1 ≤ a) (someb : 1 ≤ b) where
   pub clump_long : (x : ℕ) → Good a b x → length (clump_of a x) ≡ b
   clump_long x g = ap length (clump_is x g) ∙ g.long
 
-  pub good-order : (x y : ℕ) → Good a b x → Good a b y → precedes (clump_of a x) (clump_of a y) ≡ (x <? y)
-  good-order x y g h =
+  pub good_order : (x y : ℕ) → Good a b x → Good a b y → precedes (clump_of a x) (clump_of a y) ≡ (x <? y)
+  good_order x y g h =
       ap₂ precedes (clump_is x g) (clump_is y h)
       ∙ key_order a g.part h.part g.clump h.clump g.inside h.inside (g.long ∙ sym h.long) (omega (arith, g.long))
       ∙ ap₂ ◌<?◌ (sym g.is) (sym h.is)
@@ -84,7 +84,7 @@ rank_of l n x h = by_order (dec_lt rank x) (dec_lt x rank)
     there = which_item (λ z. has z l) n x h
 
     less : (i k : ℕ) → i < k → k < length (different l n) → get_or (different l n) i 0 < get_or (different l n) k 0
-    less = rising_less n (different l n) (which-rises (λ z. has z l) n)
+    less = rising_less n (different l n) (which_rises (λ z. has z l) n)
 
     by_order : Dec (rank < x) → Dec (x < rank) → rank ≡ x
     by_order (yes lt) g = absurd (omega (arith, less rank x lt h, rank_at l y there.1 n there.0))
@@ -108,7 +108,7 @@ module _ (l : Level) (somea : 1 ≤ l.a) (someb : 1 ≤ l.b) (n m : ℕ) (row : 
   clumps = entered [] (joined m (λ j. clumps_of l n (row j)))
 
   climbs : (j : ℕ) → j < m → Climbs 0 n (row j)
-  climbs j h = rising-climbs n (row j) (rising j h)
+  climbs j h = rising_climbs n (row j) (rising j h)
 
   pub goods : Every (Good a l.b) all
   goods = every_joined (Good a l.b) m keys (λ j h. row_good l n (row j) somea someb (climbs j h))
@@ -117,27 +117,27 @@ module _ (l : Level) (somea : 1 ≤ l.a) (someb : 1 ≤ l.b) (n m : ℕ) (row : 
   low = every_joined (λ x. x < size) m keys (λ j h. every_below 0 size (keys j) (row_climbs l n (row j) somea someb (climbs j h)))
 
   -- all clumps in order are those of the different keys
-  pub clumps-are : clumps ≡ map (clump_of a) (different all size)
-  clumps-are =
+  pub clumps_are : clumps ≡ map (clump_of a) (different all size)
+  clumps_are =
       ap (entered [])
       (sym (map-joined (clump_of a) m keys ∙ joined_same m _ _ (λ j h. row_back l n (row j) somea someb (climbs j h))))
-      ∙ entered-is (clump_of a) (Good a l.b) (good-order a l.b somea someb) (good_tells a l.b somea someb) size all goods low
+      ∙ entered_is (clump_of a) (Good a l.b) (good_order a l.b somea someb) (good_tells a l.b somea someb) size all goods low
 
-  pub clumps-count : length clumps ≡ length (different all size)
-  clumps-count = ap length clumps-are ∙ length-map (different all size) (clump_of a)
+  pub clumps_count : length clumps ≡ length (different all size)
+  clumps_count = ap length clumps_are ∙ length-map (different all size) (clump_of a)
 
   -- the ranks of a row's keys are its clumps' places
-  pub ranks-are : (j : ℕ) → j < m → map (rank_in all) (keys j) ≡ which (λ x. holds (get_or clumps x []) (clumps_of l n (row j))) (length clumps)
-  ranks-are j h =
-      sym (rising-is K (map (rank_in all) (keys j)) (ranks_rise all (keys j) member size (climbs-rising size (keys j) (row_climbs l n (row j) somea someb (climbs j h)))))
-      ∙ which-same K _ _ (λ x g. one x g)
-      ∙ ap (which (λ x. holds (get_or clumps x []) (clumps_of l n (row j)))) (sym clumps-count)
+  pub ranks_are : (j : ℕ) → j < m → map (rank_in all) (keys j) ≡ which (λ x. holds (get_or clumps x []) (clumps_of l n (row j))) (length clumps)
+  ranks_are j h =
+      sym (rising_is K (map (rank_in all) (keys j)) (ranks_rise all (keys j) member size (climbs_rising size (keys j) (row_climbs l n (row j) somea someb (climbs j h)))))
+      ∙ which_same K _ _ (λ x g. one x g)
+      ∙ ap (which (λ x. holds (get_or clumps x []) (clumps_of l n (row j)))) (sym clumps_count)
     where
       K : ℕ
       K = length (different all size)
 
       member : (x : ℕ) → has x (keys j) ≡ true → has x all ≡ true
-      member x e = has-joined x m keys j h e
+      member x e = has_joined x m keys j h e
 
       one : (x : ℕ) → x < K → has x (map (rank_in all) (keys j)) ≡ holds (get_or clumps x []) (clumps_of l n (row j))
       one x g =
@@ -145,7 +145,7 @@ module _ (l : Level) (somea : 1 ≤ l.a) (someb : 1 ≤ l.b) (n m : ℕ) (row : 
           let there = which_item (λ x. has x all) size x g in
           ap (λ (z : ℕ). has z (map (rank_in all) (keys j))) (sym (rank_of all size x g))
           ∙ has_rank all (keys j) member y there.1
-          ∙ sym (key_there (clump_of a) (Good a l.b) (good-order a l.b somea someb) (good_tells a l.b somea someb) y (keys j)
+          ∙ sym (key_there (clump_of a) (Good a l.b) (good_order a l.b somea someb) (good_tells a l.b somea someb) y (keys j)
           (every_has (Good a l.b) y all goods there.1) (row_good l n (row j) somea someb (climbs j h)))
-          ∙ ap₂ holds (sym (ap (λ (d : List (List ℕ)). get_or d x []) clumps-are ∙ get_d_map_in (clump_of a) (different all size) x 0 [] g))
+          ∙ ap₂ holds (sym (ap (λ (d : List (List ℕ)). get_or d x []) clumps_are ∙ get_d_map_in (clump_of a) (different all size) x 0 [] g))
           (row_back l n (row j) somea someb (climbs j h))

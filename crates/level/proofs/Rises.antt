@@ -17,9 +17,9 @@ use Rattle.keys.specs.Inner.{Climbs, key_in, clump_of}
 use Rattle.ranks.specs.Inner.{different}
 use Rattle.keys.proofs.Weights.{climbs_lower}
 use Rattle.keys.proofs.Entering.{Every}
-use Rattle.keys.proofs.Climbing.{climbs-append, climbs-drop, climbs-take, every_joined, every_list, only-climbs, row_back}
-use Rattle.keys.proofs.Rising.{climbs-rising, rising-climbs}
-use Rattle.level.proofs.Ranked.{clumps-are, clumps-count, every_below, every_has}
+use Rattle.keys.proofs.Climbing.{climbs-append, climbs-drop, climbs-take, every_joined, every_list, only_climbs, row_back}
+use Rattle.keys.proofs.Rising.{climbs_rising, rising_climbs}
+use Rattle.level.proofs.Ranked.{clumps_are, clumps_count, every_below, every_has}
 
 -- those of a list that pass a test, and those behind some
 every_only : (P : ℕ → Type 0) (test : ℕ → Bool) (l : List ℕ) → Every P l → Every P (only test l)
@@ -42,11 +42,11 @@ climbs_capped lo hi n (x ∷ l) c e = (c.0, e.0, climbs_capped (x + 1) hi n l c.
 
 module _ (l : Level) (n : ℕ) (s : List ℕ) (some : 1 ≤ l.a) (rising : Rising n s) where
   climbs : Climbs 0 n s
-  climbs = rising-climbs n s rising
+  climbs = rising_climbs n s rising
 
-  pub overflow-rises : Rising n (overflow_of l n s)
+  pub overflow_rises : Rising n (overflow_of l n s)
   unfolding overflow_of
-  overflow-rises = climbs-rising n _ (climbs_capped 0 (group_count a n * a) n (joined (group_count a n) part) (parts (group_count a n)) (every_joined (λ x. x < n) (group_count a n) part low))
+  overflow_rises = climbs_rising n _ (climbs_capped 0 (group_count a n * a) n (joined (group_count a n) part) (parts (group_count a n)) (every_joined (λ x. x < n) (group_count a n) part low))
     where
       a : ℕ
       a = l.a
@@ -64,7 +64,7 @@ module _ (l : Level) (n : ℕ) (s : List ℕ) (some : 1 ≤ l.a) (rising : Risin
           let more : P * a ≤ suc P * a = mul-le-mul_right a (omega arith) in
           climbs-append 0 (P * a) (suc P * a) (joined P part) (part P) (omega arith) more (parts P)
           (subst (λ (m : ℕ). Climbs (P * a) m (part P)) e
-          (climbs-drop (P * a) ((P + 1) * a) (length (in_part a P s) / l.b * l.b) (in_part a P s) (only-climbs a P some 0 n (P * a) s climbs (λ x g h. h))))
+          (climbs-drop (P * a) ((P + 1) * a) (length (in_part a P s) / l.b * l.b) (in_part a P s) (only_climbs a P some 0 n (P * a) s climbs (λ x g h. h))))
 
   -- each clump
   pub clumps_rise : Every (Rising n) (clumps_of l n s)
@@ -75,11 +75,11 @@ module _ (l : Level) (n : ℕ) (s : List ℕ) (some : 1 ≤ l.a) (rising : Risin
       here : (k : ℕ) → Climbs 0 n (in_part l.a k s)
       here k =
           climbs_lower 0 (k * l.a) n (in_part l.a k s) (omega arith)
-          (climbs_capped (k * l.a) ((k + 1) * l.a) n (in_part l.a k s) (only-climbs l.a k some 0 n (k * l.a) s climbs (λ x g h. h))
+          (climbs_capped (k * l.a) ((k + 1) * l.a) n (in_part l.a k s) (only_climbs l.a k some 0 n (k * l.a) s climbs (λ x g h. h))
           (every_only (λ x. x < n) (λ x. x / l.a =? k) s (every_below 0 n s climbs)))
 
       one : (k m : ℕ) → Rising n (group l.b m (in_part l.a k s))
-      one k m = climbs-rising n _ (climbs-take 0 n l.b (drop (m * l.b) (in_part l.a k s)) (climbs-drop 0 n (m * l.b) (in_part l.a k s) (here k)))
+      one k m = climbs_rising n _ (climbs-take 0 n l.b (drop (m * l.b) (in_part l.a k s)) (climbs-drop 0 n (m * l.b) (in_part l.a k s) (here k)))
 
 every_map : {A B : Type 0} (P : B → Type 0) (f : A → B) (l : List A) → Every P (map f l) → Every (λ x. P (f x)) l
 every_map P f [] e = tt
@@ -93,12 +93,12 @@ module _ (l : Level) (somea : 1 ≤ l.a) (someb : 1 ≤ l.b) (n m : ℕ) (row : 
   rises : Every (λ x. Rising n (clump_of l.a x)) all
   rises =
       every_joined (λ x. Rising n (clump_of l.a x)) m _ (λ j h. every_map (Rising n) (clump_of l.a) (map (key_in l.a) (clumps_of l n (row j)))
-      (subst (Every (Rising n)) (sym (row_back l n (row j) somea someb (rising-climbs n (row j) (rising j h)))) (clumps_rise l n (row j) somea (rising j h))))
+      (subst (Every (Rising n)) (sym (row_back l n (row j) somea someb (rising_climbs n (row j) (rising j h)))) (clumps_rise l n (row j) somea (rising j h))))
 
   pub ordered_rise : (x : ℕ) → x < length (entered [] (joined m (λ j. clumps_of l n (row j)))) → Rising n (get_or (entered [] (joined m (λ j. clumps_of l n (row j)))) x [])
   ordered_rise x h =
       let T : ℕ = group_count l.a n * 2 ^ l.a in
-      let inside : x < length (different all T) = omega (arith, clumps-count l somea someb n m row rising) in
+      let inside : x < length (different all T) = omega (arith, clumps_count l somea someb n m row rising) in
       subst (Rising n)
-      (sym (ap (λ (d : List (List ℕ)). get_or d x []) (clumps-are l somea someb n m row rising) ∙ get_d_map_in (clump_of l.a) (different all T) x 0 [] inside))
+      (sym (ap (λ (d : List (List ℕ)). get_or d x []) (clumps_are l somea someb n m row rising) ∙ get_d_map_in (clump_of l.a) (different all T) x 0 [] inside))
       (every_has (λ y. Rising n (clump_of l.a y)) (get_or (different all T) x 0) all rises (which_item (λ y. has y all) T x inside).1)

@@ -43,15 +43,15 @@ pub record LevelAsked (s : List ℕ) (at m n : ℕ) (l : Pair) (keys rest : ℕ)
 pub record LevelCut (at m n : ℕ) (l : Pair) (keys rest : ℕ) (r : Clumped) (old new : List ℕ) : Type 0 where
   pub size : length new ≡ length old
   pub kept : (c : ℕ) → c < keys → get_or new c 0 ≡ get_or old c 0
-  pub places-formed : Formed new keys m (get_or new (keys + m) 0)
+  pub places_formed : Formed new keys m (get_or new (keys + m) 0)
   pub places : (j : ℕ) → j < m → row_at new keys j ≡ places_of (cut_of l n old at m) j
-  pub rest-formed : Formed new rest m (get_or new (rest + m) 0)
-  pub rest-before : get_or new (rest + m) 0 ≤ r.clumps
+  pub rest_formed : Formed new rest m (get_or new (rest + m) 0)
+  pub rest_before : get_or new (rest + m) 0 ≤ r.clumps
   pub overflow : (j : ℕ) → j < m → row_at new rest j ≡ overflow_of (level_of l) n (row_at old at j)
   pub whole : l.b * members_at new keys m + members_at new rest m ≡ members_at old at m
   pub count : r.k ≡ length (clumps_in (cut_of l n old at m))
-  pub clumps-formed : Formed new r.clumps r.k r.end
-  pub clumps-are : rows_at new r.clumps r.k ≡ clumps_in (cut_of l n old at m)
+  pub clumps_formed : Formed new r.clumps r.k r.end
+  pub clumps_are : rows_at new r.clumps r.k ≡ clumps_in (cut_of l n old at m)
   pub members : members_at new r.clumps r.k + members_at new rest m ≤ members_at old at m
   pub few : r.k ≤ most_clumps l n (members_at old at m)
   pub low : r.end ≤ level_end l n m (members_at old at m) rest

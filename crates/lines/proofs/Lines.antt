@@ -44,8 +44,8 @@ until_within (b ∷ r) = by_test (b =? newline) (until_within r)
     by_test false h = omega arith
 
 -- a line ends within its text
-pub end-within : (text : List ℕ) (at end : ℕ) → at ≤ length text → end ≡ at + until_newline (drop at text) → (at ≤ end) × (end ≤ length text)
-end-within text at end h e = (omega arith, omega (arith, until_within (drop at text), length-drop at text))
+pub end_within : (text : List ℕ) (at end : ℕ) → at ≤ length text → end ≡ at + until_newline (drop at text) → (at ≤ end) × (end ≤ length text)
+end_within text at end h e = (omega arith, omega (arith, until_within (drop at text), length-drop at text))
 
 -- the newline is sought byte by byte
 module _ (text : List ℕ) (i : ℕ) (w : ℕ) (e : w ≡ i + until_newline (drop i text)) where
@@ -53,8 +53,8 @@ module _ (text : List ℕ) (i : ℕ) (w : ℕ) (e : w ≡ i + until_newline (dro
     byte : drop i text ≡ get_or text i 0 ∷ drop (i + 1) text
     byte = rw (add-one i) (drop-cons text i 0 h)
 
-    pub end-found : get_or text i 0 ≡ newline → i ≡ w
-    end-found is = let z : until_newline (drop i text) ≡ 0 = rw (byte, eq_yes (get_or text i 0) newline is) in omega arith
+    pub end_found : get_or text i 0 ≡ newline → i ≡ w
+    end_found is = let z : until_newline (drop i text) ≡ 0 = rw (byte, eq_yes (get_or text i 0) newline is) in omega arith
 
     pub end_on : (get_or text i 0 ≡ newline → ⊥) → w ≡ i + 1 + until_newline (drop (i + 1) text)
     end_on is =
@@ -96,13 +96,13 @@ pub digit_low : (b : ℕ) → digit_unit b ≤ 1
 unfolding digit_unit
 digit_low b = (unit (b <? first_digit or last_digit <? b)).1
 
-pub blank-low : (b : ℕ) → blank_unit b ≤ 1
+pub blank_low : (b : ℕ) → blank_unit b ≤ 1
 unfolding blank_unit
-blank-low b = (unit (is_blank b)).0
+blank_low b = (unit (is_blank b)).0
 
-pub begun-low : (gap b : ℕ) → begun gap b ≤ gap
+pub begun_low : (gap b : ℕ) → begun gap b ≤ gap
 unfolding begun
-begun-low gap b = by_test (blank_unit b =? 0)
+begun_low gap b = by_test (blank_unit b =? 0)
   where
     by_test : (t : Bool) → cond t gap 0 ≤ gap
     by_test true = omega arith
@@ -121,13 +121,13 @@ tally_same t u e1 e2 e3 e4 e5 =
     same
 
 -- no more is counted than there are bytes
-counted-low : (unit : ℕ → ℕ) → ((b : ℕ) → unit b ≤ 1) → (l : List ℕ) → counted unit l ≤ length l
-counted-low unit low [] = omega arith
-counted-low unit low (b ∷ r) = omega (arith, low b, counted-low unit low r)
+counted_low : (unit : ℕ → ℕ) → ((b : ℕ) → unit b ≤ 1) → (l : List ℕ) → counted unit l ≤ length l
+counted_low unit low [] = omega arith
+counted_low unit low (b ∷ r) = omega (arith, low b, counted_low unit low r)
 
-filled-low : (l : List ℕ) → filled (cut_at is_blank l) ≤ length l
-filled-low [] = omega arith
-filled-low (b ∷ r) = by_test (is_blank b) (cut_at is_blank r) (filled-low r)
+filled_low : (l : List ℕ) → filled (cut_at is_blank l) ≤ length l
+filled_low [] = omega arith
+filled_low (b ∷ r) = by_test (is_blank b) (cut_at is_blank r) (filled_low r)
   where
     by_test : (t : Bool) (ls : List (List ℕ)) → filled ls ≤ length r → filled (cond t ([] ∷ ls) (on_first b ls)) ≤ suc (length r)
     by_test true ls h = omega arith
@@ -164,16 +164,16 @@ unfolding separators_in
 separators_low s t low = by_test (s =? tab) (s =? semicolon)
   where
     by_test : (u v : Bool) → cond u t.tabs (cond v t.semicolons t.commas) + 1 < 2 ^ 64
-    by_test true v = low.tabs-low
-    by_test false true = low.semicolons-low
-    by_test false false = low.commas-low
+    by_test true v = low.tabs_low
+    by_test false true = low.semicolons_low
+    by_test false false = low.commas_low
 
 -- the tally so far: with what is left of the line it is the whole line's
 pub record Tallies (line : List ℕ) (t : Tally) (gap i : ℕ) : Type 0 where
   pub gap_low : gap ≤ 1
-  pub tabs-left : t.tabs + counted (λ b. same_unit b tab) (drop i line) ≡ (tally_of line).tabs
-  pub semicolons-left : t.semicolons + counted (λ b. same_unit b semicolon) (drop i line) ≡ (tally_of line).semicolons
-  pub commas-left : t.commas + counted (λ b. same_unit b comma) (drop i line) ≡ (tally_of line).commas
+  pub tabs_left : t.tabs + counted (λ b. same_unit b tab) (drop i line) ≡ (tally_of line).tabs
+  pub semicolons_left : t.semicolons + counted (λ b. same_unit b semicolon) (drop i line) ≡ (tally_of line).semicolons
+  pub commas_left : t.commas + counted (λ b. same_unit b comma) (drop i line) ≡ (tally_of line).commas
   pub digits_left : t.digits + counted digit_unit (drop i line) ≡ (tally_of line).digits
   pub words_left : t.words + beginning gap (drop i line) ≡ (tally_of line).words
 
@@ -185,11 +185,11 @@ module _ (line : List ℕ) where
   unfolding tally_of
   tally_low h =
       record {
-        tabs-low = omega (arith, counted-low (λ b. same_unit b tab) (λ b. same_low b tab) line);
-        semicolons-low = omega (arith, counted-low (λ b. same_unit b semicolon) (λ b. same_low b semicolon) line);
-        commas-low = omega (arith, counted-low (λ b. same_unit b comma) (λ b. same_low b comma) line);
-        digits_low = omega (arith, counted-low digit_unit digit_low line);
-        words_low = omega (arith, filled-low line);
+        tabs_low = omega (arith, counted_low (λ b. same_unit b tab) (λ b. same_low b tab) line);
+        semicolons_low = omega (arith, counted_low (λ b. same_unit b semicolon) (λ b. same_low b semicolon) line);
+        commas_low = omega (arith, counted_low (λ b. same_unit b comma) (λ b. same_low b comma) line);
+        digits_low = omega (arith, counted_low digit_unit digit_low line);
+        words_low = omega (arith, filled_low line);
       }
 
   pub tally_start_lem : Tallies line tally_start 1 0
@@ -197,9 +197,9 @@ module _ (line : List ℕ) where
   tally_start_lem =
       record {
         gap_low = omega arith;
-        tabs-left = zero-add _;
-        semicolons-left = zero-add _;
-        commas-left = zero-add _;
+        tabs_left = zero-add _;
+        semicolons_left = zero-add _;
+        commas_left = zero-add _;
         digits_left = zero-add _;
         words_left = zero-add _ ∙ (words_begin line).0;
       }
@@ -209,9 +209,9 @@ module _ (line : List ℕ) where
     tally_room h =
         let low = tally_low h in
         record {
-          tabs-low = omega (arith, s.tabs-left, low.tabs-low);
-          semicolons-low = omega (arith, s.semicolons-left, low.semicolons-low);
-          commas-low = omega (arith, s.commas-left, low.commas-low);
+          tabs_low = omega (arith, s.tabs_left, low.tabs_low);
+          semicolons_low = omega (arith, s.semicolons_left, low.semicolons_low);
+          commas_low = omega (arith, s.commas_left, low.commas_low);
           digits_low = omega (arith, s.digits_left, low.digits_low);
           words_low = omega (arith, s.words_left, low.words_low);
         }
@@ -223,10 +223,10 @@ module _ (line : List ℕ) where
         let byte : drop i line ≡ b ∷ drop (i + 1) line = rw (add-one i) (drop-cons line i 0 h) in
         rw (e, g)
         (record {
-          gap_low = blank-low b;
-          tabs-left = omega (arith, s.tabs-left, ap (counted (λ c. same_unit c tab)) byte);
-          semicolons-left = omega (arith, s.semicolons-left, ap (counted (λ c. same_unit c semicolon)) byte);
-          commas-left = omega (arith, s.commas-left, ap (counted (λ c. same_unit c comma)) byte);
+          gap_low = blank_low b;
+          tabs_left = omega (arith, s.tabs_left, ap (counted (λ c. same_unit c tab)) byte);
+          semicolons_left = omega (arith, s.semicolons_left, ap (counted (λ c. same_unit c semicolon)) byte);
+          commas_left = omega (arith, s.commas_left, ap (counted (λ c. same_unit c comma)) byte);
           digits_left = omega (arith, s.digits_left, ap (counted digit_unit) byte);
           words_left = omega (arith, s.words_left, ap (beginning gap) byte);
         })
@@ -235,9 +235,9 @@ module _ (line : List ℕ) where
     tally_end h =
         let none : drop i line ≡ [] = drop_of_length-le line h in
         tally_same t (tally_of line)
-        (omega (arith, s.tabs-left, ap (counted (λ c. same_unit c tab)) none))
-        (omega (arith, s.semicolons-left, ap (counted (λ c. same_unit c semicolon)) none))
-        (omega (arith, s.commas-left, ap (counted (λ c. same_unit c comma)) none))
+        (omega (arith, s.tabs_left, ap (counted (λ c. same_unit c tab)) none))
+        (omega (arith, s.semicolons_left, ap (counted (λ c. same_unit c semicolon)) none))
+        (omega (arith, s.commas_left, ap (counted (λ c. same_unit c comma)) none))
         (omega (arith, s.digits_left, ap (counted digit_unit) none))
         (omega (arith, s.words_left, ap (beginning gap) none))
 
@@ -252,8 +252,8 @@ pub tally_made : (line : List ℕ) (t : Tally) → t ≡ tally_of line → lengt
 tally_made line t e h = rw e (tally_low line h)
 
 -- fields by a separator
-pub fields-by : (t : Tally) (by : Parting) (s n : ℕ) → by ≡ Fields s → n ≡ separators_in s t → n + 1 ≡ fields_in t by
-fields-by t by s n is e = rw (is, e)
+pub fields_by : (t : Tally) (by : Parting) (s n : ℕ) → by ≡ Fields s → n ≡ separators_in s t → n + 1 ≡ fields_in t by
+fields_by t by s n is e = rw (is, e)
 
 pub separators_made : (s n : ℕ) (t : Tally) → n ≡ separators_in s t → Low t → n + 1 < 2 ^ 64
 separators_made s n t e low = rw e (separators_low s t low)

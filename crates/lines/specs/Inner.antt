@@ -13,9 +13,9 @@ until_newline (b ∷ r) = cond (b =? newline) 0 (suc (until_newline r))
 
 -- one more of each can be counted
 pub record Low (t : Tally) : Type 0 where
-  pub tabs-low : t.tabs + 1 < 2 ^ 64
-  pub semicolons-low : t.semicolons + 1 < 2 ^ 64
-  pub commas-low : t.commas + 1 < 2 ^ 64
+  pub tabs_low : t.tabs + 1 < 2 ^ 64
+  pub semicolons_low : t.semicolons + 1 < 2 ^ 64
+  pub commas_low : t.commas + 1 < 2 ^ 64
   pub digits_low : t.digits + 1 < 2 ^ 64
   pub words_low : t.words + 1 < 2 ^ 64
 

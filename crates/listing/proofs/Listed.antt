@@ -8,16 +8,16 @@ use Rattle.chain.specs.Verdict.{fine, refused, answer}
 use Rattle.chain.specs.Written.{over}
 use Rattle.chain.specs.Chain.{most_columns, most_payslips, counts}
 use Rattle.chain.proofs.Rules.{then_fine}
-use Rattle.chain.proofs.Written.{over-laid}
+use Rattle.chain.proofs.Written.{over_laid}
 use Rattle.layout.specs.Layout.{edition1}
 use Rattle.layout.specs.File.{columns_of, payslips_of, length_of}
 use Rattle.answers.specs.Answers.{counts_in, read_of}
 use Rattle.answers.specs.declared.Counts.{Counts}
 use Rattle.answers.specs.declared.Reading.{Reading}
 use Rattle.answers.specs.declared.Reading.TheVariants as reading
-use Rattle.layout.proofs.Readable.{readable, columns-low, payslips-low}
+use Rattle.layout.proofs.Readable.{readable, columns_low, payslips_low}
 use Rattle.layout.proofs.OneFile.{length_steps_of}
-use Rattle.chain.proofs.Told.{verdict_in, told, told-values}
+use Rattle.chain.proofs.Told.{verdict_in, told, told_values_lem}
 use Rattle.digits.proofs.Listed.{list_same}
 use Rattle.listing.specs.Listing.{line_of, payslip_lines, amount_of, listing_rule, chain_text, refused_text, text_for, listing}
 use Rattle.listing.specs.Inner.{amount_in, TableHolds, sizes_of}
@@ -30,8 +30,8 @@ lines_same p f g (suc q) e =
     ap₂ (λ (l m : List ℕ). l ++ line_of (suc q) m) (lines_same p f g q (λ i c h k. e i c (omega arith) k)) (list_same p (f q) (g q) (λ c k. e q c (omega arith) k))
 
 -- a text over the front
-over-front : (t old : List ℕ) (r : ℕ) (new : List ℕ) → Put 0 t old r new → (r ≡ length t) × (new ≡ over t old)
-over-front t old r new w = (w.place ∙ omega arith, w.text ∙ sym (over-laid t old))
+over_front : (t old : List ℕ) (r : ℕ) (new : List ℕ) → Put 0 t old r new → (r ≡ length t) × (new ≡ over t old)
+over_front t old r new w = (w.place ∙ omega arith, w.text ∙ sym (over_laid t old))
 
 -- what the file's answer tells, and the text that was written
 module _ (bytes : List ℕ) (a : Reading) (answered : read_of a ≡ answer (listing_rule bytes) (sizes_of bytes)) where
@@ -43,37 +43,37 @@ module _ (bytes : List ℕ) (a : Reading) (answered : read_of a ≡ answer (list
   unfolding listing text_for
   listed_refused k s old r new is w =
       let e : listing_rule bytes ≡ refused k s = sym found ∙ ap (λ (x : Reading). verdict_in (read_of x)) is in
-      rw e (over-front (refused_text k) old r new w)
+      rw e (over_front (refused_text k) old r new w)
 
   module _ (p q : ℕ) (c : Counts) (is : a ≡ reading.Chain p q c) where
     abbrev n : ℕ
     n = c.steps
 
-    sizes-are : ◌≡◌ {A = List ℕ} (p ∷ q ∷ counts_in c) (sizes_of bytes)
-    sizes-are = told-values _ _ _ (sym (ap read_of is) ∙ answered)
+    sizes_are : ◌≡◌ {A = List ℕ} (p ∷ q ∷ counts_in c) (sizes_of bytes)
+    sizes_are = told_values_lem _ _ _ (sym (ap read_of is) ∙ answered)
 
-    columns-are : p ≡ columns_of bytes
-    columns-are = ap (λ (l : List ℕ). get_or l 0 0) sizes-are
+    columns_are : p ≡ columns_of bytes
+    columns_are = ap (λ (l : List ℕ). get_or l 0 0) sizes_are
 
-    payslips-are : q ≡ payslips_of bytes
-    payslips-are = ap (λ (l : List ℕ). get_or l 1 0) sizes-are
+    payslips_are : q ≡ payslips_of bytes
+    payslips_are = ap (λ (l : List ℕ). get_or l 1 0) sizes_are
 
-    steps-are : n ≡ length_of edition1 bytes
+    steps_are : n ≡ length_of edition1 bytes
     unfolding counts
-    steps-are = ap (λ (l : List ℕ). get_or l 2 0) sizes-are ∙ length_steps_of edition1 bytes
+    steps_are = ap (λ (l : List ℕ). get_or l 2 0) sizes_are ∙ length_steps_of edition1 bytes
 
     rule_fine : listing_rule bytes ≡ fine
     rule_fine = sym found ∙ ap (λ (x : Reading). verdict_in (read_of x)) is
 
-    pub columns-few : p ≤ most_columns
-    columns-few = rw columns-are (columns-low bytes)
+    pub columns_few : p ≤ most_columns
+    columns_few = rw columns_are (columns_low bytes)
 
-    pub payslips-few : q ≤ most_payslips
-    payslips-few = rw payslips-are (payslips-low bytes)
+    pub payslips_few : q ≤ most_payslips
+    payslips_few = rw payslips_are (payslips_low bytes)
 
-    pub steps-few : n ≤ edition1.limit
+    pub steps_few : n ≤ edition1.limit
     unfolding listing_rule
-    steps-few = rw steps-are (omega (arith, (readable edition1 bytes _ _ (then_fine _ _ (then_fine _ _ rule_fine).1).0).few))
+    steps_few = rw steps_are (omega (arith, (readable edition1 bytes _ _ (then_fine _ _ (then_fine _ _ rule_fine).1).0).few))
 
     pub listed_chain : (table old : List ℕ) (r : ℕ) (new : List ℕ)
         → (listing_rule bytes ≡ fine → TableHolds table (payslips_of bytes) (columns_of bytes) (amount_of bytes))
@@ -81,7 +81,7 @@ module _ (bytes : List ℕ) (a : Reading) (answered : read_of a ≡ answer (list
     unfolding listing text_for chain_text
     listed_chain table old r new holds w =
         let e : chain_text p q n (amount_in table) ≡ chain_text (columns_of bytes) (payslips_of bytes) (length_of edition1 bytes) (amount_of bytes) =
-        rw (columns-are, payslips-are, steps-are)
+        rw (columns_are, payslips_are, steps_are)
         (ap (λ (l : List ℕ). line_of (columns_of bytes) (payslips_of bytes ∷ length_of edition1 bytes ∷ []) ++ l)
         (lines_same (columns_of bytes) (amount_in table) (amount_of bytes) (payslips_of bytes) (λ i j h k. (holds rule_fine).each i j h k))) in
-        rw rule_fine (over-front _ old r new (subst (λ (t : List ℕ). Put 0 t old r new) e w))
+        rw rule_fine (over_front _ old r new (subst (λ (t : List ℕ). Put 0 t old r new) e w))

@@ -47,42 +47,42 @@ most_text = most_sizes + most_line * most_payslips
 -- payslip i in a whole table, and room for so many bytes from a place on
 pub record LineAsked (bytes i p : ℕ) (table : List ℕ) (at : ℕ) (text : List ℕ) : Type 0 where
   pub inside : i < most_payslips
-  pub p-low : p ≤ most_columns
-  pub table-whole : length table ≡ table_size
+  pub p_low : p ≤ most_columns
+  pub table_whole : length table ≡ table_size
   pub room : at + bytes ≤ length text
 
 -- a whole table, and room for the lines of the first q payslips
 pub record LinesAsked (p q : ℕ) (table : List ℕ) (at : ℕ) (text : List ℕ) : Type 0 where
-  pub sizes-low : SizesLow p q
-  pub table-whole : length table ≡ table_size
+  pub sizes_low : SizesLow p q
+  pub table_whole : length table ≡ table_size
   pub room : at + most_line * q ≤ length text
 
 -- sizes that are not too large for a file, and room for so many bytes
 pub record SizesAsked (bytes p q n : ℕ) (text : List ℕ) : Type 0 where
-  pub sizes-low : SizesLow p q
-  pub n-low : n ≤ edition1.limit
+  pub sizes_low : SizesLow p q
+  pub n_low : n ≤ edition1.limit
   pub room : bytes ≤ length text
 
 -- what the listing of a chain asks
 pub record ListingAsked (p q n : ℕ) (table text : List ℕ) : Type 0 where
   pub sizes : SizesAsked most_text p q n text
-  pub table-whole : length table ≡ table_size
+  pub table_whole : length table ≡ table_size
 
 -- a column of the table, with a cell for each of the outputs
 pub record GatherAsked (c : ℕ) (outputs values table : List ℕ) : Type 0 where
-  pub column-low : c < most_columns
+  pub column_low : c < most_columns
   pub figures_able : FiguresAble outputs (length values) most_payslips
-  pub table-whole : length table ≡ table_size
+  pub table_whole : length table ≡ table_size
 
 -- a chain whose amounts have room in the table
 pub record MeasureAsked (p : ℕ) (steps outputs scratch table : List ℕ) : Type 0 where
-  pub chain-sound : ChainSound p steps outputs scratch
-  pub outputs-few : length outputs ≤ most_payslips
-  pub table-whole : length table ≡ table_size
+  pub chain_sound : ChainSound p steps outputs scratch
+  pub outputs_few : length outputs ≤ most_payslips
+  pub table_whole : length table ≡ table_size
 
 -- room for every file
 pub record FileRoom (steps outputs scratch table : List ℕ) : Type 0 where
-  pub steps-whole : length steps ≡ 2 * edition1.limit
-  pub outputs-whole : length outputs ≡ most_payslips
-  pub scratch-whole : length scratch ≡ most_columns + edition1.limit + 1
-  pub table-whole : length table ≡ table_size
+  pub steps_whole : length steps ≡ 2 * edition1.limit
+  pub outputs_whole : length outputs ≡ most_payslips
+  pub scratch_whole : length scratch ≡ most_columns + edition1.limit + 1
+  pub table_whole : length table ≡ table_size

@@ -29,9 +29,9 @@ pub record MakeAsked (p : ℕ) (s : List ℕ) (t : Problem) (l : Pair) (to : ℕ
   pub formed : Formed s t.outs t.m (get_or s (t.outs + t.m) 0)
   pub rising : (j : ℕ) → j < t.m → Rising t.n (row_at s t.outs j)
   pub before : get_or s (t.outs + t.m) 0 ≤ to
-  pub few-inputs : t.n < 2 ^ 24
-  pub values-behind : lists_from ≤ t.ins
-  pub values-before : t.ins + t.n ≤ to
+  pub few_inputs : t.n < 2 ^ 24
+  pub values_behind : lists_from ≤ t.ins
+  pub values_before : t.ins + t.n ≤ to
   pub room :
       level_end l t.n t.m (members_at s t.outs t.m) (over_from l t (members_at s t.outs t.m) to)
       + most_clumps l t.n (members_at s t.outs t.m) + t.n + t.m + 1 + members_at s t.outs t.m ≤ length s
@@ -47,8 +47,8 @@ pub record InputsMade (p : ℕ) (t : Problem) (l : Pair) (to : ℕ) (done : Prog
   pub kept : (c : ℕ) → lists_from ≤ c → c < to + t.m → get_or new c 0 ≡ get_or old c 0
   pub values_at_lem : to + t.m ≤ r.values
   pub rows_at_lem : r.values + (r.k + t.n) ≡ r.rows
-  pub values-are : slice r.values (r.values + (r.k + t.n)) new ≡ (clumps_made p old t l done).outputs ++ slice t.ins (t.ins + t.n) old
-  pub rows-formed : Formed new r.rows t.m r.end
+  pub values_are : slice r.values (r.values + (r.k + t.n)) new ≡ (clumps_made p old t l done).outputs ++ slice t.ins (t.ins + t.n) old
+  pub rows_formed : Formed new r.rows t.m r.end
   pub rows_are : rows_at new r.rows t.m ≡ next_inputs (level_of l) t.n (rows_at old t.outs t.m)
   pub few : r.k ≤ most_clumps l t.n (members_at old t.outs t.m)
   pub members : members_at new r.rows t.m ≤ members_at old t.outs t.m

@@ -12,7 +12,7 @@ use Rattle.digits.proofs.Count.{low_count}
 use Rattle.sheet.specs.Sheet.{amount}
 use Rattle.methods.specs.Powers.{largest_in}
 use Rattle.methods.specs.Inner.{Largest}
-use Rattle.methods.proofs.Filling.{FilledTo, filled-all, filled_at}
+use Rattle.methods.proofs.Filling.{FilledTo, filled_all, filled_at}
 
 -- the largest amount of column c over the first i payslips
 unfoldable pub largest_to : ℕ → List ℕ → ℕ → ℕ → ℕ
@@ -28,17 +28,17 @@ module _ (p : ℕ) (amounts : List ℕ) (c : ℕ) where
   column_on i most x next e f g =
       rw (add-one i) (g ∙ ap (λ (y : ℕ). max y x) e ∙ ap (max (largest_to p amounts c i)) f)
 
-  pub column-end : (q i most : ℕ) → i ≤ q → q ≤ i → most ≡ largest_to p amounts c i → most ≡ largest_in p q amounts c
+  pub column_end_lem : (q i most : ℕ) → i ≤ q → q ≤ i → most ≡ largest_to p amounts c i → most ≡ largest_in p q amounts c
   unfolding largest_to
-  column-end q i most h g e = let last : q ≡ i = omega arith in rw last e
+  column_end_lem q i most h g e = let last : q ≡ i = omega arith in rw last e
 
-pub ruleset finding_largest = (column_start_lem, column_on, column-end)
+pub ruleset finding_largest = (column_start_lem, column_on, column_end_lem)
 
 -- filled column by column, cells hold the largest amount of each
-pub all-largest : (p q : ℕ) (amounts old cells : List ℕ) (c : ℕ) → p ≤ c → p ≤ length old → FilledTo (largest_in p q amounts) old p c cells
+pub all_largest : (p q : ℕ) (amounts old cells : List ℕ) (c : ℕ) → p ≤ c → p ≤ length old → FilledTo (largest_in p q amounts) old p c cells
     → Largest p q amounts cells
-all-largest p q amounts old cells c g room d =
-    record { there = omega (arith, d.long); are = filled_at (largest_in p q amounts) old p cells (filled-all (largest_in p q amounts) old p c cells g d) }
+all_largest p q amounts old cells c g room d =
+    record { there = omega (arith, d.long); are = filled_at (largest_in p q amounts) old p cells (filled_all (largest_in p q amounts) old p c cells g d) }
 
 -- a number of 32 bits has no more digits than bits
 pub digits_low : (k x r : ℕ) → 0 < k → x < 2 ^ 32 → r ≡ digit_count k x → r ≤ 32

@@ -13,7 +13,7 @@ use Rattle.products.specs.Inner.{steps_in, begun, StepsRoom, StepsStored, Emitte
 use Rattle.products.specs.declared.Progress.{Progress}
 use Rattle.products.proofs.Sound.{Begins, begins_rise}
 use Rattle.products.proofs.Product.{squared_begins}
-use Rattle.products.proofs.Emitted.{stored-own, emits_room, emits_on}
+use Rattle.products.proofs.Emitted.{stored_own, emits_room, emits_on}
 
 -- the number of a power: the base itself, or one of the values made
 module _ (c first j : ℕ) where
@@ -28,15 +28,15 @@ pub squarings_begin : (p : ℕ) (n : ℕ → ℕ) (c d : ℕ) → c ≤ d → Be
 squarings_begin p n = begins_rise (squarings p n) (λ c. squared_begins p (made (squarings p n c) (c + 1)) 0 (n c) (omega arith))
 
 -- counts that agree give the same squarings
-pub squarings-same : (p : ℕ) (n m : ℕ → ℕ) (c : ℕ) → ((d : ℕ) → d < c → n d ≡ m d) → squarings p n c ≡ squarings p m c
-squarings-same p n m zero e = refl
-squarings-same p n m (suc c) e =
-    ap (λ (s : List Step). (squared p (n c) (made s (c + 1))).steps) (squarings-same p n m c (λ d h. e d (omega arith)))
+pub squarings_same : (p : ℕ) (n m : ℕ → ℕ) (c : ℕ) → ((d : ℕ) → d < c → n d ≡ m d) → squarings p n c ≡ squarings p m c
+squarings_same p n m zero e = refl
+squarings_same p n m (suc c) e =
+    ap (λ (s : List Step). (squared p (n c) (made s (c + 1))).steps) (squarings_same p n m c (λ d h. e d (omega arith)))
     ∙ ap (λ (k : ℕ). (squared p k (made (squarings p m c) (c + 1))).steps) (e c (omega arith))
 
 module _ (p : ℕ) (counts old : List ℕ) (room : StepsRoom p old begun (squarings p (counts_of counts) (length counts))) where
   pub columns_start : StepsStored old old begun (squarings p (counts_of counts) 0)
-  columns_start = stored-own old begun room.so_far
+  columns_start = stored_own old begun room.so_far
 
   module _ (cells : List ℕ) (r : Progress) (c : ℕ) (s : StepsStored old cells r (squarings p (counts_of counts) c)) (less : c < length counts) where
     base : Emitted old cells r (c + 1) (made (squarings p (counts_of counts) c) (c + 1))
@@ -45,16 +45,16 @@ module _ (p : ℕ) (counts old : List ℕ) (room : StepsRoom p old begun (squari
     begins : Begins (squarings p (counts_of counts) c) (squarings p (counts_of counts) (suc c))
     begins = squarings_begin p (counts_of counts) c (suc c) (omega arith)
 
-    pub columns-room : StepsRoom p cells r (squared p (get_or counts c 0) (made (steps_in cells r.steps) (c + 1))).steps
-    columns-room = emits_room room (squared p (counts_of counts c)) base begins (squarings_begin p (counts_of counts) (suc c) (length counts) less)
+    pub columns_room : StepsRoom p cells r (squared p (get_or counts c 0) (made (steps_in cells r.steps) (c + 1))).steps
+    columns_room = emits_room room (squared p (counts_of counts c)) base begins (squarings_begin p (counts_of counts) (suc c) (length counts) less)
 
     pub columns_on : (cells' : List ℕ) (r' : Progress) (v' : ℕ)
         → Emitted cells cells' r' v' (squared p (get_or counts c 0) (made (steps_in cells r.steps) (c + 1)))
         → StepsStored old cells' r' (squarings p (counts_of counts) (c + 1))
     columns_on cells' r' v' t = rw (add-one c) (emits_on (squared p (counts_of counts c)) base begins t).stored
 
-pub columns-end : (p : ℕ) (counts old cells : List ℕ) (r : Progress) (c : ℕ) → c ≤ length counts → length counts ≤ c
+pub columns_end : (p : ℕ) (counts old cells : List ℕ) (r : Progress) (c : ℕ) → c ≤ length counts → length counts ≤ c
     → StepsStored old cells r (squarings p (counts_of counts) c) → StepsStored old cells r (squarings p (counts_of counts) (length counts))
-columns-end p counts old cells r c h g s = let last : length counts ≡ c = omega arith in rw last s
+columns_end p counts old cells r c h g s = let last : length counts ≡ c = omega arith in rw last s
 
-pub ruleset squaring_columns = (columns_start, columns-room, columns_on, columns-end)
+pub ruleset squaring_columns = (columns_start, columns_room, columns_on, columns_end)

@@ -6,7 +6,7 @@ use native.Mathlib.Numerals.{add-one}
 use native.Mathlib.Omega.{arith}
 use lib.ListN.{length, get_or, take, set, length-set}
 use Rattle.chain.specs.Written.{over}
-use Rattle.chain.proofs.Written.{take-over, over-next, over_get_d}
+use Rattle.chain.proofs.Written.{take-over, over_next, over_get_d}
 use Rattle.digits.specs.Range.{list_to}
 use Rattle.digits.proofs.Listed.{length-list, get_d_list}
 use Rattle.methods.proofs.Paying.{over_none}
@@ -17,7 +17,7 @@ module _ (f : ℕ → ℕ) (old : List ℕ) where
   fill_on n c x cells h room is e =
       rw (add-one c)
       (ap (λ (l : List ℕ). set l c x) e
-      ∙ over-next (list_to c f) old x c (length-list c f) (omega arith)
+      ∙ over_next (list_to c f) old x c (length-list c f) (omega arith)
       ∙ ap (λ (y : ℕ). over (list_to c f ++ y ∷ []) old) is)
 
   -- the loop's invariant: c of n cells are filled
@@ -33,8 +33,8 @@ module _ (f : ℕ → ℕ) (old : List ℕ) where
   filled_more n c x cells h room is d =
       record { some = omega arith; long = length-set cells c x ∙ d.long; are = fill_on n c x cells h room is d.are }
 
-  pub filled-all : (n c : ℕ) (cells : List ℕ) → n ≤ c → FilledTo n c cells → cells ≡ over (list_to n f) old
-  filled-all n c cells g d =
+  pub filled_all : (n c : ℕ) (cells : List ℕ) → n ≤ c → FilledTo n c cells → cells ≡ over (list_to n f) old
+  filled_all n c cells g d =
       let last : c ≡ n = omega (arith, d.some) in
       d.are ∙ ap (λ (m : ℕ). over (list_to m f) old) last
 
@@ -43,10 +43,10 @@ module _ (f : ℕ → ℕ) (old : List ℕ) where
     pub filled_at : (c : ℕ) → c < n → get_or cells c 0 ≡ f c
     filled_at c h = ap (λ (l : List ℕ). get_or l c 0) e ∙ over_get_d (list_to n f) old c (omega (arith, length-list n f)) ∙ get_d_list n f 0 c h
 
-    pub filled-front : take n cells ≡ list_to n f
-    filled-front = ap (take n) e ∙ take-over n (list_to n f) old (length-list n f)
+    pub filled_front : take n cells ≡ list_to n f
+    filled_front = ap (take n) e ∙ take-over n (list_to n f) old (length-list n f)
 
     pub filled-length : n ≡ length (take n cells)
-    filled-length = sym (ap length filled-front ∙ length-list n f)
+    filled-length = sym (ap length filled_front ∙ length-list n f)
 
-pub ruleset filling = (filled_none, filled_more, filled-all)
+pub ruleset filling = (filled_none, filled_more, filled_all)

@@ -9,12 +9,12 @@ use lib.ListN.{length, set, length-append, length-set}
 use Rattle.chain.specs.Chain.{most_columns}
 use Rattle.chain.specs.Written.{over}
 use Rattle.chain.specs.declared.Step.{Step}
-use Rattle.chain.proofs.Written.{over-next}
+use Rattle.chain.proofs.Written.{over_next}
 use Rattle.products.specs.Product.{Made, payslips}
 use Rattle.products.specs.Inner.{steps_in, begun, StepsRoom, StepsStored, Emitted}
 use Rattle.products.specs.declared.Progress.{Progress}
 use Rattle.products.proofs.Sound.{Begins, begins_own, begins_rise, begins_length}
-use Rattle.products.proofs.Emitted.{stored-own, so_far_none, stored_is, stored-length, stored_on, stored-room}
+use Rattle.products.proofs.Emitted.{stored_own, so_far_none, stored_is, stored-length, stored_on, stored_room}
 use Rattle.methods.specs.Inner.{ChainRoom, ChainStored, PayslipsRoom}
 
 pub over_none : (old : List ℕ) → old ≡ over [] old
@@ -23,7 +23,7 @@ over_none old = refl
 
 -- the slices before the first payslip, and after the last
 paid_none : (p : ℕ) (cells : List ℕ) (r : Progress) (steps : List Step) → StepsRoom p cells r steps → StepsStored cells cells r (steps_in cells r.steps)
-paid_none p cells r steps room = stored-own cells r room.so_far
+paid_none p cells r steps room = stored_own cells r room.so_far
 
 module _ (slip : ℕ → List Step → Made) (start : List Step) (i q : ℕ) (h : i ≤ q) (g : q ≤ i) where
   paid_steps : (old cells : List ℕ) (s : Progress) → StepsStored old cells s (payslips slip start i).steps
@@ -50,7 +50,7 @@ module _ (slip : ℕ → List Step → Made) (start : List Step) (each : (i : �
     pay_room : (p : ℕ) (r : Progress) (q : ℕ) → StepsRoom p old r (payslips slip start q).steps → i < q
         → StepsRoom p cells s (slip i (steps_in cells s.steps)).steps
     pay_room p r q room h =
-        rw (stored_is st) (stored-room room st (each i (payslips slip start i).steps) (paid_begins (suc i) q h))
+        rw (stored_is st) (stored_room room st (each i (payslips slip start i).steps) (paid_begins (suc i) q h))
 
     pay_steps : (cells' : List ℕ) (s' : Progress) (v : ℕ) → Emitted cells cells' s' v (slip i (steps_in cells s.steps))
         → StepsStored old cells' s' (payslips slip start (i + 1)).steps
@@ -63,18 +63,18 @@ module _ (slip : ℕ → List Step → Made) (start : List Step) (each : (i : �
         → outputs ≡ over (payslips slip start i).outputs old' → set outputs i v ≡ over (payslips slip start (i + 1)).outputs old'
     pay_output cells' s' v e old' outputs h is =
         let t : v ≡ (slip i (payslips slip start i).steps).value = e.value ∙ ap (λ (l : List Step). (slip i l).value) (stored_is st) in
-        rw (add-one i, is, t) (over-next (payslips slip start i).outputs old' _ i (paid_length i) h)
+        rw (add-one i, is, t) (over_next (payslips slip start i).outputs old' _ i (paid_length i) h)
 
 -- The state of a loop over q payslips after the first i: the slices, which were steps₀ and outputs₀, hold their s steps after those of start, and
 -- their outputs.
 pub record Paying (q : ℕ) (slip : ℕ → List Step → Made) (start : List Step) (steps₀ outputs₀ : List ℕ) (i : ℕ) (steps outputs : List ℕ)
     (s : Progress) : Type 0 where
   pub so_far : i ≤ q
-  pub steps-long : length steps ≡ length steps₀
-  pub outputs-long : length outputs ≡ length outputs₀
+  pub steps_long : length steps ≡ length steps₀
+  pub outputs_long : length outputs ≡ length outputs₀
   pub outputs_fit : q ≤ length outputs
   pub stored : StepsStored steps₀ steps s (payslips slip start i).steps
-  pub outputs-are : outputs ≡ over (payslips slip start i).outputs outputs₀
+  pub outputs_are : outputs ≡ over (payslips slip start i).outputs outputs₀
 
 pub paying_start : (p q : ℕ) (slip : ℕ → List Step → Made) (steps outputs : List ℕ) (r : Progress)
     → PayslipsRoom p q steps r (payslips slip (steps_in steps r.steps) q).steps outputs
@@ -82,11 +82,11 @@ pub paying_start : (p q : ℕ) (slip : ℕ → List Step → Made) (steps output
 paying_start p q slip steps outputs r room =
     record {
       so_far = zero-le;
-      steps-long = refl;
-      outputs-long = refl;
+      steps_long = refl;
+      outputs_long = refl;
       outputs_fit = room.outputs_fit;
-      stored = paid_none p steps r _ room.steps-room;
-      outputs-are = over_none outputs;
+      stored = paid_none p steps r _ room.steps_room;
+      outputs_are = over_none outputs;
     }
 
 pub paying_end : {q : ℕ} {slip : ℕ → List Step → Made} {start : List Step} {steps₀ outputs₀ : List ℕ} {i : ℕ} {steps outputs : List ℕ} {s : Progress}
@@ -94,7 +94,7 @@ pub paying_end : {q : ℕ} {slip : ℕ → List Step → Made} {start : List Ste
 paying_end {q} {slip} {start} {steps₀} {outputs₀} {i} state done =
     record {
       stored = paid_steps slip start i q state.so_far done _ _ _ state.stored;
-      outputs-are = paid_outputs slip start i q state.so_far done _ _ state.outputs-are;
+      outputs_are = paid_outputs slip start i q state.so_far done _ _ state.outputs_are;
     }
 
 module _ (slip : ℕ → List Step → Made) (each : (i : ℕ) (before : List Step) → Begins before (slip i before).steps) where
@@ -103,20 +103,20 @@ module _ (slip : ℕ → List Step → Made) (each : (i : ℕ) (before : List St
       (state : Paying q slip start steps₀ outputs₀ i steps outputs s) {p : ℕ} {r : Progress}
       (room : PayslipsRoom p q steps₀ r (payslips slip start q).steps outputs₀) (less : i < q) where
     pub paying_room : StepsRoom p steps s (slip i (steps_in steps s.steps)).steps
-    paying_room = pay_room slip start each steps₀ steps s i state.stored p r q room.steps-room less
+    paying_room = pay_room slip start each steps₀ steps s i state.stored p r q room.steps_room less
 
     pub paying_on : {steps' : List ℕ} {s' : Progress} {v : ℕ} → Emitted steps steps' s' v (slip i (steps_in steps s.steps))
         → Paying q slip start steps₀ outputs₀ (i + 1) steps' (set outputs i v) s'
     paying_on {steps'} {s'} {v} e =
         record {
           so_far = omega arith;
-          steps-long = stored-length e.stored paying_room.cells_hold ∙ state.steps-long;
-          outputs-long = length-set outputs i v ∙ state.outputs-long;
+          steps_long = stored-length e.stored paying_room.cells_hold ∙ state.steps_long;
+          outputs_long = length-set outputs i v ∙ state.outputs_long;
           outputs_fit = rw (length-set outputs i v) state.outputs_fit;
           stored = pay_steps slip start each steps₀ steps s i state.stored steps' s' v e;
-          outputs-are =
+          outputs_are =
               pay_output slip start each steps₀ steps s i state.stored steps' s' v e outputs₀ outputs
-              (omega (arith, state.outputs-long, state.outputs_fit)) state.outputs-are;
+              (omega (arith, state.outputs_long, state.outputs_fit)) state.outputs_are;
         }
 
   -- A chain of some steps that it begins with, and its payslips.
@@ -132,21 +132,21 @@ module _ (slip : ℕ → List Step → Made) (each : (i : ℕ) (before : List St
         let longer = begins_length (paid_begins slip start each 0 q zero-le) in
         record { so_far = so_far_none old; cells_hold = omega (arith, w.cells_hold); numbers_fit = omega (arith, w.numbers_fit) }
 
-    pub payslips-room : {cells : List ℕ} {r : Progress} → StepsStored old cells r start
+    pub payslips_room : {cells : List ℕ} {r : Progress} → StepsStored old cells r start
         → PayslipsRoom p q cells r (payslips slip (steps_in cells r.steps) q).steps outputs₀
-    payslips-room st =
+    payslips_room st =
         record {
           outputs_fit = fits.lent.outputs_fit;
-          steps-room = rw (stored_is st) (stored-room whole st (paid_begins slip start each 0 q zero-le) (begins_own _));
+          steps_room = rw (stored_is st) (stored_room whole st (paid_begins slip start each 0 q zero-le) (begins_own _));
         }
 
   -- the payslips over the beginning are the chain
-  pub chain-stored : (start : List Step) (q : ℕ) {old cells : List ℕ} {s : Progress} → StepsStored old cells s start
+  pub chain_stored : (start : List Step) (q : ℕ) {old cells : List ℕ} {s : Progress} → StepsStored old cells s start
       → {outputs₀ cells' outputs' : List ℕ} {s' : Progress} → ChainStored cells outputs₀ cells' outputs' s' (payslips slip (steps_in cells s.steps) q)
       → ChainStored old outputs₀ cells' outputs' s' (payslips slip start q)
-  chain-stored start q {old} {cells} {s} st {outputs₀} r =
+  chain_stored start q {old} {cells} {s} st {outputs₀} r =
       let same = rw (stored_is st) at r.stored in
       record {
         stored = stored_on st (paid_begins slip start each 0 q zero-le) same;
-        outputs-are = r.outputs-are ∙ ap (λ (l : List Step). over (payslips slip l q).outputs outputs₀) (stored_is st);
+        outputs_are = r.outputs_are ∙ ap (λ (l : List Step). over (payslips slip l q).outputs outputs₀) (stored_is st);
       }

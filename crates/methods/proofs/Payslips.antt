@@ -10,7 +10,7 @@ use Rattle.chain.specs.Verdict.{fine}
 use Rattle.chain.specs.Chain.{Chain, outputs_rule}
 use Rattle.chain.specs.declared.Step.{Step}
 use Rattle.chain.proofs.Exponents.{Makes}
-use Rattle.chain.proofs.Limits.{low-outputs}
+use Rattle.chain.proofs.Limits.{low_outputs}
 use Rattle.digits.specs.Range.{sum_to}
 use Rattle.products.specs.Product.{Made, payslips}
 use Rattle.products.proofs.Sound.{Begins, begins_own, begins_on, makes_on, Sound}
@@ -26,7 +26,7 @@ pub record Pays (p limit : ℕ) (start : List Step) (x : ℕ → ℕ → ℕ) (q
 -- each output is a value's number
 pub pays_legal : {p limit : ℕ} {start : List Step} {x : ℕ → ℕ → ℕ} {q : ℕ} {chain : Chain} → Pays p limit start x q chain
     → outputs_rule (p + length chain.steps) 1 chain.outputs ≡ fine
-pays_legal {p} {limit} {start} {x} {q} {chain} r = low-outputs _ 1 chain.outputs (λ i h. (r.makes i (omega (arith, r.outputs))).there)
+pays_legal {p} {limit} {start} {x} {q} {chain} r = low_outputs _ 1 chain.outputs (λ i h. (r.makes i (omega (arith, r.outputs))).there)
 
 module _ (p limit : ℕ) (slip : ℕ → List Step → Made) (start : List Step) where
   pub payslips_make : (x : ℕ → ℕ → ℕ) (q : ℕ) → Sound p limit start
@@ -61,9 +61,9 @@ module _ (p limit : ℕ) (slip : ℕ → List Step → Made) (start : List Step)
               rw (last, get_or_at done.outputs m.value [] 0 q r.outputs) t.makes
 
 -- the steps add up, whatever the steps before a payslip are
-pub payslips-count : (slip : ℕ → List Step → Made) (start : List Step) (count : ℕ → ℕ) (q : ℕ)
+pub payslips_count_lem : (slip : ℕ → List Step → Made) (start : List Step) (count : ℕ → ℕ) (q : ℕ)
     → ((i : ℕ) → i < q → (before : List Step) → length (slip i before).steps ≡ length before + count i)
     → length (payslips slip start q).steps ≡ length start + sum_to q count
-payslips-count slip start count zero each = omega arith
-payslips-count slip start count (suc q) each =
-    omega (arith, each q (omega arith) (payslips slip start q).steps, payslips-count slip start count q (λ i h. each i (omega arith)))
+payslips_count_lem slip start count zero each = omega arith
+payslips_count_lem slip start count (suc q) each =
+    omega (arith, each q (omega arith) (payslips slip start q).steps, payslips_count_lem slip start count q (λ i h. each i (omega arith)))

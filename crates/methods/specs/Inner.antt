@@ -13,8 +13,8 @@ use Rattle.methods.specs.declared.Quote.{Quote}
 
 -- a sheet whose sizes keep to their ranges
 pub record SheetSized (p q : ℕ) (amounts : List ℕ) : Type 0 where
-  pub p-some : 1 ≤ p
-  pub p-low : p ≤ most_columns
+  pub p_some : 1 ≤ p
+  pub p_low : p ≤ most_columns
   pub q_low : q ≤ most_payslips
   pub amounts_are : length amounts ≡ p * q
 
@@ -40,8 +40,8 @@ digits_at k numbers c = digit_count k (get_or numbers c 0)
 
 -- r is the quote of a method
 pub record QuoteOf (r : Quote) (m : Method) : Type 0 where
-  pub count-is : r.count ≡ m.count
-  pub ceiling-is : r.ceiling ≡ m.ceiling
+  pub count_is : r.count ≡ m.count
+  pub ceiling_is : r.ceiling ≡ m.ceiling
 
 -- r has these two numbers, neither of them large
 pub record QuoteWithin (r : Quote) (count ceiling most : ℕ) : Type 0 where
@@ -61,9 +61,9 @@ pub record ChainRoom (q count : ℕ) (steps outputs : List ℕ) : Type 0 where
 -- room for q payslips after the steps so far: for all the steps then, and for the outputs
 pub record PayslipsRoom (p q : ℕ) (cells : List ℕ) (r : Progress) (steps : List Step) (outputs : List ℕ) : Type 0 where
   pub outputs_fit : q ≤ length outputs
-  pub steps-room : StepsRoom p cells r steps
+  pub steps_room : StepsRoom p cells r steps
 
 -- two slices hold a chain, its steps in turn and its outputs, over the front of what they held before, and r counts its steps and squarings
 pub record ChainStored (steps₀ outputs₀ steps outputs : List ℕ) (r : Progress) (c : Chain) : Type 0 where
   pub stored : StepsStored steps₀ steps r c.steps
-  pub outputs-are : outputs ≡ over c.outputs outputs₀
+  pub outputs_are : outputs ≡ over c.outputs outputs₀

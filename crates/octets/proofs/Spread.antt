@@ -8,7 +8,7 @@ use lib.ListN.{length, take, set}
 use lib.Seq.{take_all, take-append-le, take-append-add}
 use lib.Pow.{shr_shr}
 use Rattle.chain.specs.Written.{laid}
-use Rattle.chain.proofs.Written.{laid-laid, cell_laid, cell_after}
+use Rattle.chain.proofs.Written.{laid_laid, cell_laid, cell_after}
 use Rattle.octets.specs.Inner.{spread}
 
 -- the first count bytes of head * 2 ^ 24 + x
@@ -16,12 +16,12 @@ module _ (l : List ℕ) (i count head x a : ℕ) (room : i + count ≤ length l)
   abbrev y : ℕ
   y = head * 2 ^ 24 + x
 
-  is-a : a ≡ y / 2 ^ 24 % 256
-  is-a = ea ∙ omega arith
+  is_a : a ≡ y / 2 ^ 24 % 256
+  is_a = ea ∙ omega arith
 
   pub stored_one : count ≡ 1 → set l i a ≡ laid i (take count (spread 4 y)) l
   unfolding spread
-  stored_one e = cell_laid l i a (omega arith) ∙ rw (e, is-a)
+  stored_one e = cell_laid l i a (omega arith) ∙ rw (e, is_a)
 
   module _ (b : ℕ) (eb : b ≡ x / 2 ^ 16 % 256) where
     is_b : b ≡ y / 2 ^ 16 % 256
@@ -29,7 +29,7 @@ module _ (l : List ℕ) (i count head x a : ℕ) (room : i + count ≤ length l)
 
     pub stored_two : count ≡ 2 → set (set l i a) (i + 1) b ≡ laid i (take count (spread 4 y)) l
     unfolding spread
-    stored_two e = cell_after l _ (a ∷ []) i b 1 (cell_laid l i a (omega arith)) refl (omega arith) ∙ rw (e, is-a, is_b)
+    stored_two e = cell_after l _ (a ∷ []) i b 1 (cell_laid l i a (omega arith)) refl (omega arith) ∙ rw (e, is_a, is_b)
 
     module _ (c : ℕ) (ec : c ≡ x / 2 ^ 8 % 256) where
       is_c : c ≡ y / 2 ^ 8 % 256
@@ -38,7 +38,7 @@ module _ (l : List ℕ) (i count head x a : ℕ) (room : i + count ≤ length l)
       pub stored_three : count ≡ 3 → set (set (set l i a) (i + 1) b) (i + 2) c ≡ laid i (take count (spread 4 y)) l
       unfolding spread
       stored_three e =
-          cell_after l _ (a ∷ b ∷ []) i c 2 (cell_after l _ (a ∷ []) i b 1 (cell_laid l i a (omega arith)) refl (omega arith)) refl (omega arith) ∙ rw (e, is-a, is_b, is_c)
+          cell_after l _ (a ∷ b ∷ []) i c 2 (cell_after l _ (a ∷ []) i b 1 (cell_laid l i a (omega arith)) refl (omega arith)) refl (omega arith) ∙ rw (e, is_a, is_b, is_c)
 
       pub stored_four : (d : ℕ) → d ≡ x % 256 → count ≡ 4 → set (set (set (set l i a) (i + 1) b) (i + 2) c) (i + 3) d ≡ laid i (take count (spread 4 y)) l
       unfolding spread
@@ -46,7 +46,7 @@ module _ (l : List ℕ) (i count head x a : ℕ) (room : i + count ≤ length l)
           let is-d : d ≡ y / 2 ^ 0 % 256 = ed ∙ omega arith in
           cell_after l _ (a ∷ b ∷ c ∷ []) i d 3
           (cell_after l _ (a ∷ b ∷ []) i c 2 (cell_after l _ (a ∷ []) i b 1 (cell_laid l i a (omega arith)) refl (omega arith)) refl (omega arith)) refl (omega arith)
-          ∙ rw (e, is-a, is_b, is_c, is-d)
+          ∙ rw (e, is_a, is_b, is_c, is-d)
 
 length-spread : (n x : ℕ) → length (spread n x) ≡ n
 unfolding spread
@@ -96,5 +96,5 @@ module _ (l : List ℕ) (i count head x : ℕ) (m : List ℕ) where
       let t : take count (spread 8 word) ≡ a ++ take (count - 4) b =
       ap (take count) halves ∙ ap (λ (k : ℕ). take k (a ++ b)) (sym n) ∙ take-append-add a b (count - 4) in
       f ∙ ap (laid (i + 4) (take (count - 4) b)) (e ∙ ap (λ (r : List ℕ). laid i r l) (take_all 4 a (omega arith)))
-      ∙ laid-laid i (i + 4) a (take (count - 4) b) l (omega arith) (omega arith)
+      ∙ laid_laid i (i + 4) a (take (count - 4) b) l (omega arith) (omega arith)
       ∙ ap (λ (r : List ℕ). laid i r l) (sym t)

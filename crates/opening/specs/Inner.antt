@@ -24,9 +24,9 @@ pub record OpenAsked (s : List ℕ) (t : Problem) (l : Pair) (to : ℕ) : Type 0
   pub formed : Formed s t.outs t.m (get_or s (t.outs + t.m) 0)
   pub rising : (j : ℕ) → j < t.m → Rising t.n (row_at s t.outs j)
   pub before : get_or s (t.outs + t.m) 0 ≤ to
-  pub few-inputs : t.n < 2 ^ 24
-  pub few-outputs : t.m < 2 ^ 24
-  pub cut-room : rest_from l t (members_at s t.outs t.m) to + 2 * (t.n + 1 + members_at s t.outs t.m) ≤ length s
+  pub few_inputs : t.n < 2 ^ 24
+  pub few_outputs : t.m < 2 ^ 24
+  pub cut_room : rest_from l t (members_at s t.outs t.m) to + 2 * (t.n + 1 + members_at s t.outs t.m) ≤ length s
   pub room :
       level_end l t.m t.n (members_at s t.outs t.m) (rest_from l t (members_at s t.outs t.m) to)
       + most_clumps l t.m (members_at s t.outs t.m) + 1 + members_at s t.outs t.m / l.b ≤ length s
@@ -37,14 +37,14 @@ pub record OutputsOpened (t : Problem) (l : Pair) (to : ℕ) (r : Opened) (old n
   pub size : length new ≡ length old
   pub kept : (c : ℕ) → c < to + t.m → get_or new c 0 ≡ get_or old c 0
   pub rest_at : to + t.m ≤ r.rest
-  pub rest-formed : Formed new r.rest t.n (get_or new (r.rest + t.n) 0)
-  pub rest-before : get_or new (r.rest + t.n) 0 ≤ r.clumps
-  pub rest-are : rows_at new r.rest t.n ≡ output_rest (level_of l) t.n (rows_at old t.outs t.m)
+  pub rest_formed : Formed new r.rest t.n (get_or new (r.rest + t.n) 0)
+  pub rest_before : get_or new (r.rest + t.n) 0 ≤ r.clumps
+  pub rest_are : rows_at new r.rest t.n ≡ output_rest (level_of l) t.n (rows_at old t.outs t.m)
   pub count : r.k ≡ length (clumps_in (output_cut (level_of l) t.n (rows_at old t.outs t.m)))
-  pub clumps-formed : Formed new r.clumps r.k r.next
-  pub clumps-are : rows_at new r.clumps r.k ≡ clumps_in (output_cut (level_of l) t.n (rows_at old t.outs t.m))
-  pub next-formed : Formed new r.next r.k r.made
-  pub next-are : rows_at new r.next r.k ≡ next_outputs (level_of l) t.n (rows_at old t.outs t.m)
+  pub clumps_formed : Formed new r.clumps r.k r.next
+  pub clumps_are : rows_at new r.clumps r.k ≡ clumps_in (output_cut (level_of l) t.n (rows_at old t.outs t.m))
+  pub next_formed : Formed new r.next r.k r.made
+  pub next_are : rows_at new r.next r.k ≡ next_outputs (level_of l) t.n (rows_at old t.outs t.m)
   pub few : r.k ≤ most_clumps l t.m (members_at old t.outs t.m)
   pub low :
       r.made

@@ -24,9 +24,9 @@ field_is (suc m) bytes (suc k) h =
 pub length_amounts : (m : ℕ) (bytes : List ℕ) → length (map amount_of (fields_in m bytes)) ≡ m
 length_amounts m bytes = length-map (fields_in m bytes) amount_of ∙ length_fields m bytes
 
-pub amount-is : (m : ℕ) (bytes : List ℕ) (k : ℕ) → k < m → get_or (map amount_of (fields_in m bytes)) k 0 ≡ amount_of (field_from bytes (field_bytes * k))
+pub amount_is : (m : ℕ) (bytes : List ℕ) (k : ℕ) → k < m → get_or (map amount_of (fields_in m bytes)) k 0 ≡ amount_of (field_from bytes (field_bytes * k))
 unfolding amount_of digits_of
-amount-is m bytes k h = get_or-map amount_of (fields_in m bytes) k [] ∙ ap amount_of (field_is m bytes k h)
+amount_is m bytes k h = get_or-map amount_of (fields_in m bytes) k [] ∙ ap amount_of (field_is m bytes k h)
 
 -- the fields of amounts
 pub length-field : (x : ℕ) → length (field_of x) ≡ field_bytes

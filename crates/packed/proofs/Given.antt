@@ -5,11 +5,11 @@ use Prim.Native.Nat.{ℕ, ◌*◌, ◌≤◌, ◌<◌}
 use lib.ListN.{length, get_or}
 use Rattle.chain.specs.Verdict.{fine, in_order}
 use Rattle.chain.specs.Chain.{most_columns, most_payslips, sizes_rule}
-use Rattle.chain.proofs.Rules.{then_fine, refuse_if-fine, not_ne}
+use Rattle.chain.proofs.Rules.{then_fine, refuse_if_fine, not_ne}
 use Rattle.chain.proofs.Sizes.{sizes_fit}
-use Rattle.chain.proofs.Limits.{numbers-low}
+use Rattle.chain.proofs.Limits.{numbers_low}
 use Rattle.sheet.specs.Sheet.{sheet_rule}
-use Rattle.sheet.proofs.Amounts.{product-low, amounts_fit}
+use Rattle.sheet.proofs.Amounts.{product_low, amounts_fit}
 use Rattle.packed.specs.Field.{field_bytes, most_packed, field_rule, fields_in}
 use Rattle.packed.specs.Packed.{readable_rule, writable_rule}
 
@@ -17,7 +17,7 @@ pub record Readable (p q : ℕ) (bytes : List ℕ) : Type 0 where
   pub sizes : sizes_rule p q ≡ fine
   pub few : p * q ≤ most_columns * most_payslips
   pub long : length bytes ≡ field_bytes * (p * q)
-  pub fields-fine : in_order field_rule 1 (fields_in (p * q) bytes) ≡ fine
+  pub fields_fine : in_order field_rule 1 (fields_in (p * q) bytes) ≡ fine
 
 pub readable : (p q : ℕ) (bytes : List ℕ) → readable_rule p q bytes ≡ fine → Readable p q bytes
 unfolding readable_rule
@@ -27,9 +27,9 @@ readable p q bytes ok =
     let low = sizes_fit p q first.0 in
     record {
       sizes = first.0;
-      few = product-low p q low.p-low low.q_low;
-      long = not_ne _ _ (refuse_if-fine _ 2 0 rest.0);
-      fields-fine = rest.1;
+      few = product_low p q low.p_low low.q_low;
+      long = not_ne _ _ (refuse_if_fine _ 2 0 rest.0);
+      fields_fine = rest.1;
     }
 
 pub record Writable (p q : ℕ) (amounts : List ℕ) : Type 0 where
@@ -42,4 +42,4 @@ unfolding writable_rule sheet_rule
 writable p q amounts ok =
     let both = then_fine _ _ ok in
     let sheet = then_fine _ _ both.0 in
-    record { sizes = sheet.0; many = amounts_fit p q amounts sheet.1; low = numbers-low 20 most_packed 1 amounts both.1 }
+    record { sizes = sheet.0; many = amounts_fit p q amounts sheet.1; low = numbers_low 20 most_packed 1 amounts both.1 }

@@ -19,12 +19,12 @@ above b = 9 <? b / 16 or 9 <? b % 16
 
 pair_is : (b : ℕ) → digit_pair b ≡ cond (above b) 0 1
 unfolding digit_pair ◌or◌
-pair_is b = by-halves (dec_lt b 160) (dec_lt (b % 16) 10)
+pair_is b = by_halves (dec_lt b 160) (dec_lt (b % 16) 10)
   where
-    by-halves : Dec (b < 160) → Dec (b % 16 < 10) → digit_pair b ≡ cond (above b) 0 1
-    by-halves (yes h) (yes l) = rw (lt_yes b 160 h, lt_yes (b % 16) 10 l, lt_no 9 (b / 16) (omega arith), lt_no 9 (b % 16) (omega arith))
-    by-halves (yes h) (no l) = rw (lt_yes b 160 h, lt_no (b % 16) 10 (omega arith), lt_no 9 (b / 16) (omega arith), lt_yes 9 (b % 16) (omega arith))
-    by-halves (no h) l = rw (lt_no b 160 (omega arith), lt_yes 9 (b / 16) (omega arith))
+    by_halves : Dec (b < 160) → Dec (b % 16 < 10) → digit_pair b ≡ cond (above b) 0 1
+    by_halves (yes h) (yes l) = rw (lt_yes b 160 h, lt_yes (b % 16) 10 l, lt_no 9 (b / 16) (omega arith), lt_no 9 (b % 16) (omega arith))
+    by_halves (yes h) (no l) = rw (lt_yes b 160 h, lt_no (b % 16) 10 (omega arith), lt_no 9 (b / 16) (omega arith), lt_yes 9 (b % 16) (omega arith))
+    by_halves (no h) l = rw (lt_no b 160 (omega arith), lt_yes 9 (b / 16) (omega arith))
 
 -- four tests of which one holds, or none
 some_of : (t u v w r : Bool) → cond t 0 1 + cond u 0 1 + cond v 0 1 + cond w 0 1 < 4 → (t or u or v or w or r) ≡ true
@@ -95,33 +95,33 @@ module _ (a b c d e i : ℕ) where
 
 -- what is found of a sign
 module _ (i s : ℕ) where
-  pub sign-plus : s ≡ plus → fine ≡ sign_rule i s
+  pub sign_plus : s ≡ plus → fine ≡ sign_rule i s
   unfolding sign_rule is_sign ◌=?◌ ◌or◌ refuse_if ◌then◌
-  sign-plus e = rw e
+  sign_plus e = rw e
 
-  pub sign-unsigned : s ≡ unsigned → fine ≡ sign_rule i s
+  pub sign_unsigned : s ≡ unsigned → fine ≡ sign_rule i s
   unfolding sign_rule is_sign ◌=?◌ ◌or◌ refuse_if ◌then◌
-  sign-unsigned e = rw e
+  sign_unsigned e = rw e
 
-  pub sign-minus : s ≡ minus → refused 19 i ≡ sign_rule i s
+  pub sign_minus : s ≡ minus → refused 19 i ≡ sign_rule i s
   unfolding sign_rule is_sign ◌=?◌ ◌or◌ refuse_if ◌then◌
-  sign-minus e = rw e
+  sign_minus e = rw e
 
-  pub sign-none : (s ≡ plus → ⊥) → (s ≡ minus → ⊥) → (s ≡ unsigned → ⊥) → refused 18 i ≡ sign_rule i s
+  pub sign_none : (s ≡ plus → ⊥) → (s ≡ minus → ⊥) → (s ≡ unsigned → ⊥) → refused 18 i ≡ sign_rule i s
   unfolding sign_rule is_sign ◌or◌ refuse_if ◌then◌
-  sign-none a b c = rw (eq_no s plus a, eq_no s minus b, eq_no s unsigned c)
+  sign_none a b c = rw (eq_no s plus a, eq_no s minus b, eq_no s unsigned c)
 
 -- the same of the field from a byte on
 module _ (bytes : List ℕ) (at i : ℕ) (there : at + field_bytes ≤ length bytes) where
   is_field : (v : Verdict) → v ≡ field_rule i (five_at bytes at) → v ≡ field_rule i (field_from bytes at)
   is_field v e = e ∙ ap (field_rule i) (sym (five_bytes bytes at there))
 
-  pub pairs-refused : pairs_at bytes at < 4 → refused 18 i ≡ field_rule i (field_from bytes at)
-  pairs-refused h = is_field _ (pairs_bad _ _ _ _ _ i h)
+  pub pairs_refused : pairs_at bytes at < 4 → refused 18 i ≡ field_rule i (field_from bytes at)
+  pairs_refused h = is_field _ (pairs_bad _ _ _ _ _ i h)
 
   module _ (good : 4 ≤ pairs_at bytes at) where
-    pub last-refused : 160 ≤ get_or bytes (at + 4) 0 → refused 18 i ≡ field_rule i (field_from bytes at)
-    last-refused h = is_field _ (last_bad _ _ _ _ _ i good h)
+    pub last_refused : 160 ≤ get_or bytes (at + 4) 0 → refused 18 i ≡ field_rule i (field_from bytes at)
+    last_refused h = is_field _ (last_bad _ _ _ _ _ i good h)
 
-    pub sign-judged : (v : Verdict) → v ≡ sign_rule i (get_or bytes (at + 4) 0 % 16) → get_or bytes (at + 4) 0 < 160 → v ≡ field_rule i (field_from bytes at)
-    sign-judged v e h = is_field _ (e ∙ sign_decides _ _ _ _ _ i good h)
+    pub sign_judged : (v : Verdict) → v ≡ sign_rule i (get_or bytes (at + 4) 0 % 16) → get_or bytes (at + 4) 0 < 160 → v ≡ field_rule i (field_from bytes at)
+    sign_judged v e h = is_field _ (e ∙ sign_decides _ _ _ _ _ i good h)

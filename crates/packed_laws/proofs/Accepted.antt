@@ -7,7 +7,7 @@ use native.Mathlib.Omega.{arith}
 use lib.ListN.{length, get_or}
 use Rattle.chain.specs.Verdict.{Verdict, fine, refused, in_order}
 use Rattle.chain.proofs.Rules.{then_fine, pass, stop, refuse_no, lt_no, ne_no}
-use Rattle.chain.proofs.InOrder.{each-fine, fine-each, first-refused}
+use Rattle.chain.proofs.InOrder.{each_fine, fine_each, first_refused}
 use Rattle.packed.specs.Field.{field_bytes, field_rule, field_from, fields_in}
 use Rattle.packed.specs.Packed.{readable_rule, unpack_rule}
 use Rattle.packed.proofs.Fields.{length_fields, field_is}
@@ -35,7 +35,7 @@ module _ (p q : ℕ) (bytes : List ℕ) where
   found n v s e = pass _ _ v (sym s.sizes) (pass _ _ v (refuse_no _ 2 0 (ne_no _ _ s.long)) (sym e))
 
   says : (k : ℕ) → k < p * q → Sayable (field k) → field_rule (1 + k) (get_or fields k []) ≡ fine
-  says k h s = judged k h ∙ (kinds (field k)).sayable-fine s (1 + k)
+  says k h s = judged k h ∙ (kinds (field k)).sayable_fine s (1 + k)
 
   module _ (lent : ℕ) where
     pub accepted : unpack_rule p q bytes lent ≡ fine → Saying p q bytes (p * q)
@@ -45,28 +45,28 @@ module _ (p q : ℕ) (bytes : List ℕ) where
         record {
           sizes = r.sizes;
           long = r.long;
-          fields = λ k h. (kinds (field k)).fine-sayable (1 + k) (sym (judged k h) ∙ each-fine field_rule [] 1 fields r.fields-fine k (one_of k h));
+          fields = λ k h. (kinds (field k)).fine_sayable (1 + k) (sym (judged k h) ∙ each_fine field_rule [] 1 fields r.fields_fine k (one_of k h));
         }
 
-    pub accepted-fields : unpack_rule p q bytes lent ≡ fine → (k : ℕ) → k < p * q → Sayable (field k)
-    accepted-fields ok = (accepted ok).fields
+    pub accepted_fields : unpack_rule p q bytes lent ≡ fine → (k : ℕ) → k < p * q → Sayable (field k)
+    accepted_fields ok = (accepted ok).fields
 
-    pub sayable-accepted : Saying p q bytes (p * q) → p * q ≤ lent → unpack_rule p q bytes lent ≡ fine
+    pub sayable_accepted : Saying p q bytes (p * q) → p * q ≤ lent → unpack_rule p q bytes lent ≡ fine
     unfolding unpack_rule
-    sayable-accepted s room =
+    sayable_accepted s room =
         let inside : (k : ℕ) → k < length fields → k < p * q = λ k h. omega (arith, length_fields (p * q) bytes) in
-        let each = fine-each field_rule [] 1 fields (λ k h. says k (inside k h) (s.fields k (inside k h))) in
+        let each = fine_each field_rule [] 1 fields (λ k h. says k (inside k h) (s.fields k (inside k h))) in
         sym (pass _ _ fine (found (p * q) fine s each) (refuse_no _ 5 0 (lt_no lent (p * q) room)))
 
     pub others_refused : (k : ℕ) → k < p * q → Saying p q bytes k → Decided p q bytes lent k
     unfolding unpack_rule
     others_refused k h s =
         record {
-          negative-told = λ kind. decides 19 ((kinds (field k)).negative-refused kind (1 + k));
-          spoilt-told = λ kind. decides 18 ((kinds (field k)).spoilt-refused kind (1 + k));
+          negative_told = λ kind. decides 19 ((kinds (field k)).negative_refused kind (1 + k));
+          spoilt_told = λ kind. decides 18 ((kinds (field k)).spoilt_refused kind (1 + k));
         }
       where
         decides : (n : ℕ) → field_rule (1 + k) (field k) ≡ refused n (1 + k) → unpack_rule p q bytes lent ≡ refused n (k + 1)
         decides n e =
-            let first = first-refused field_rule [] 1 fields k n (1 + k) (one_of k h) (λ j g. says j (omega arith) (s.fields j g)) (judged k h ∙ e) in
+            let first = first_refused field_rule [] 1 fields k n (1 + k) (one_of k h) (λ j g. says j (omega arith) (s.fields j g)) (judged k h ∙ e) in
             sym (stop _ _ n (1 + k) (found k (refused n (1 + k)) s first)) ∙ ap (refused n) (add_comm 1 k)

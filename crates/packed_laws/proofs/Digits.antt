@@ -15,19 +15,19 @@ abbrev pub Low : List ℕ → Type 0
 Low ds = (k : ℕ) → k < length ds → get_or ds k 0 ≤ 9
 
 -- as those of a field are, if its first nine half-bytes are
-pub field-low : (field : List ℕ) → Decimal field → Low (digits_of field)
+pub field_low : (field : List ℕ) → Decimal field → Low (digits_of field)
 unfolding digits_of
-field-low field low k h =
+field_low field low k h =
     let inside : k < field_digits = omega (arith, length-take field_digits (halves field)) in
     rw (get_or-take field_digits (halves field) k 0 inside) (low k inside)
 
 ten_times : (n : ℕ) → 10 ^ suc n ≡ 10 * 10 ^ n
 ten_times n = pow-suc 10 n ∙ mul_comm (10 ^ n) 10
 
-pub last-low : (n x k : ℕ) → get_or (last_digits n x) k 0 ≤ 9
-last-low zero x k = omega arith
-last-low (suc n) x zero = omega arith
-last-low (suc n) x (suc k) = last-low n x k
+pub last_low : (n x k : ℕ) → get_or (last_digits n x) k 0 ≤ 9
+last_low zero x k = omega arith
+last_low (suc n) x zero = omega arith
+last_low (suc n) x (suc k) = last_low n x k
 
 pub said_last : (n x y : ℕ) → said_after y (last_digits n x) ≡ y * 10 ^ n + x % 10 ^ n
 said_last zero x y = omega arith

@@ -18,11 +18,11 @@ map_same f g d (x ∷ l) same = ap₂ ◌∷◌ (same 0 (omega arith)) (map_same
 pub field_byte : (bytes : List ℕ) (at j : ℕ) → j < field_bytes → get_or (field_from bytes at) j 0 ≡ get_or bytes (at + j) 0
 field_byte bytes at j h = get_or-take field_bytes (drop at bytes) j 0 h ∙ get_or-drop at bytes j 0
 
-pub packed-field : (amounts : List ℕ) (k : ℕ) → k < length amounts → field_from (packed amounts) (field_bytes * k) ≡ field_of (get_or amounts k 0)
-packed-field [] k h = absurd (omega arith)
-packed-field (a ∷ r) zero h = take_at (field_of a) (packed r) field_bytes (length-field a)
-packed-field (a ∷ r) (suc k) h =
+pub packed_field : (amounts : List ℕ) (k : ℕ) → k < length amounts → field_from (packed amounts) (field_bytes * k) ≡ field_of (get_or amounts k 0)
+packed_field [] k h = absurd (omega arith)
+packed_field (a ∷ r) zero h = take_at (field_of a) (packed r) field_bytes (length-field a)
+packed_field (a ∷ r) (suc k) h =
     let e : field_bytes * suc k ≡ length (field_of a) + field_bytes * k = omega (arith, length-field a) in
     ap (λ (n : ℕ). take field_bytes (drop n (field_of a ++ packed r))) e
     ∙ ap (take field_bytes) (drop-append-add (field_of a) (packed r) (field_bytes * k))
-    ∙ packed-field r k (omega arith)
+    ∙ packed_field r k (omega arith)

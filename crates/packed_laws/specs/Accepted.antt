@@ -14,5 +14,5 @@ pub record Saying (p q : ℕ) (bytes : List ℕ) (n : ℕ) : Type 0 where
 
 -- field k decides, whatever stands behind it and whatever is lent
 pub record Decided (p q : ℕ) (bytes : List ℕ) (lent k : ℕ) : Type 0 where
-  pub negative-told : Negative (field_from bytes (field_bytes * k)) → unpack_rule p q bytes lent ≡ refused 19 (k + 1)
-  pub spoilt-told : Spoilt (field_from bytes (field_bytes * k)) → unpack_rule p q bytes lent ≡ refused 18 (k + 1)
+  pub negative_told : Negative (field_from bytes (field_bytes * k)) → unpack_rule p q bytes lent ≡ refused 19 (k + 1)
+  pub spoilt_told : Spoilt (field_from bytes (field_bytes * k)) → unpack_rule p q bytes lent ≡ refused 18 (k + 1)

@@ -22,9 +22,9 @@ pub record ReadBack (p q : ℕ) (amounts bytes new : List ℕ) : Type 0 where
 -- what writing gives of amounts that were read from bytes; the slice lent to it held `new`
 pub record WrittenBack (p q : ℕ) (bytes amounts new : List ℕ) : Type 0 where
   -- all amounts are written
-  pub all-written : pack_answer p q amounts (length new) ≡ done (p * q ∷ [])
+  pub all_written : pack_answer p q amounts (length new) ≡ done (p * q ∷ [])
   -- each as the field that it was read from, with plus for unsigned
-  pub fields-same : pack_bytes p q amounts new ≡ over (in_aRow (map written_back (fields_in (p * q) bytes))) new
+  pub fields_same : pack_bytes p q amounts new ≡ over (in_aRow (map written_back (fields_in (p * q) bytes))) new
   -- so there are as many bytes
   pub as_many : length (packed amounts) ≡ field_bytes * (p * q)
   -- and each is the same, unless it is a field's last and has unsigned for its sign

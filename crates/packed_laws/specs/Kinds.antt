@@ -10,12 +10,12 @@ Decimal field = (k : ℕ) → k < field_digits → get_or (halves field) k 0 ≤
 -- the field says an amount
 pub record Sayable (field : List ℕ) : Type 0 where
   pub digits_low : Decimal field
-  pub sign-is : (sign_of field ≡ plus) ⊎ (sign_of field ≡ unsigned)
+  pub sign_is : (sign_of field ≡ plus) ⊎ (sign_of field ≡ unsigned)
 
 -- it says a negative amount, also where that is 0
 pub record Negative (field : List ℕ) : Type 0 where
   pub digits_low : Decimal field
-  pub sign-is : sign_of field ≡ minus
+  pub sign_is : sign_of field ≡ minus
 
 -- it says none: a digit is above 9, or where the sign stands there is no sign
 pub data Spoilt (field : List ℕ) : Type 0 where
@@ -33,9 +33,9 @@ pub record Kinds (field : List ℕ) : Type 0 where
   -- it is of one of the kinds, and of no second one, since what is found of each differs
   pub some_kind : Kind field
   -- one that says an amount is fine, and no other is
-  pub sayable-fine : Sayable field → (i : ℕ) → field_rule i field ≡ fine
-  pub fine-sayable : (i : ℕ) → field_rule i field ≡ fine → Sayable field
+  pub sayable_fine : Sayable field → (i : ℕ) → field_rule i field ≡ fine
+  pub fine_sayable : (i : ℕ) → field_rule i field ≡ fine → Sayable field
   -- a negative amount is refused under its own number
-  pub negative-refused : Negative field → (i : ℕ) → field_rule i field ≡ refused 19 i
+  pub negative_refused : Negative field → (i : ℕ) → field_rule i field ≡ refused 19 i
   -- one that says none is refused under another, also where its sign is minus
-  pub spoilt-refused : Spoilt field → (i : ℕ) → field_rule i field ≡ refused 18 i
+  pub spoilt_refused : Spoilt field → (i : ℕ) → field_rule i field ≡ refused 18 i

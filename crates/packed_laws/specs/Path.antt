@@ -9,7 +9,7 @@ use Rattle.path.specs.Demand3.{Demand3}
 -- what holds of amounts that were read from bytes
 pub record PackedPath (p q : ℕ) (bytes amounts : List ℕ) : Type 0 where
   -- they are a sheet
-  pub sheet-fine : sheet_rule p q amounts ≡ fine
+  pub sheet_fine : sheet_rule p q amounts ≡ fine
   -- whose amount of payslip i in column c is what the field there says
   pub amounts_said : (i c : ℕ) → i < q → c < p → amount p amounts i c ≡ amount_of (field_from bytes (field_bytes * (i * p + c)))
   -- and the five calls do with it what demand 3 asks

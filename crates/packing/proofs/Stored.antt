@@ -8,7 +8,7 @@ use native.Mathlib.Omega.{arith}
 use lib.ListN.{length, get_or, take, set}
 use lib.Seq.{length-take-le, take_all, take-suc}
 use Rattle.chain.specs.Written.{over, laid}
-use Rattle.chain.proofs.Written.{laid-laid, cell_laid, cell_after, over-laid, over-length, over-take}
+use Rattle.chain.proofs.Written.{laid_laid, cell_laid, cell_after, over_laid, over-length, over-take}
 use Rattle.packed.specs.Field.{field_bytes, most_packed, plus, field_of}
 use Rattle.packed.specs.Packed.{packed}
 use Rattle.packed.proofs.Fields.{length-packed, packed_more}
@@ -46,11 +46,11 @@ fourth_pair : (y : ℕ) → y % 100 ≡ y % 10000 % 100
 fourth_pair y = omega arith
 
 -- an amount's field, its digits parted two by two
-pub field-parted : (x : ℕ) → x ≤ most_packed
+pub field_parted : (x : ℕ) → x ≤ most_packed
     → field_of x ≡
     pair_of (x / 100000 / 100) ∷ pair_of (x / 100000 % 100) ∷ pair_of (x / 10 % 10000 / 100) ∷ pair_of (x / 10 % 10000 % 100) ∷ (x % 10 * 16 + plus) ∷ []
 unfolding field_of
-field-parted x h =
+field_parted x h =
     let next : (y n m : ℕ) → y / n / m ≡ y / (n * m) = div-div-eq-div-mul in
     let a1 : x / 10000000 / 10 ≡ x / 100000000 = next x 10000000 10 in
     let b1 : x / 100000 / 10 ≡ x / 1000000 = next x 100000 10 in
@@ -85,8 +85,8 @@ module _ (amounts old : List ℕ) where
       let more : take (i + 1) amounts ≡ take i amounts ++ get_or amounts i 0 ∷ [] =
       ap (λ (k : ℕ). take k amounts) (add-one i) ∙ take-suc amounts i 0 h in
       let new_is : new ≡ over (packed (take (i + 1) amounts)) old =
-      e ∙ ap (laid (field_bytes * i) field) (d.are ∙ over-laid front old) ∙ laid-laid 0 (field_bytes * i) front field old (omega arith) (omega arith)
-      ∙ sym (over-laid (front ++ field) old)
+      e ∙ ap (laid (field_bytes * i) field) (d.are ∙ over_laid front old) ∙ laid_laid 0 (field_bytes * i) front field old (omega arith) (omega arith)
+      ∙ sym (over_laid (front ++ field) old)
       ∙ ap (λ (l : List ℕ). over l old) (sym (ap packed more ∙ packed_more (take i amounts) (get_or amounts i 0))) in
       record {
         some = omega arith;

@@ -8,7 +8,7 @@ pair_of x = x / 10 * 16 + x % 10
 
 -- what putting a field asks: that nine digits can say the amount, and a cell for each byte
 pub record FieldAsked (amount at : ℕ) (bytes : List ℕ) : Type 0 where
-  pub amount-low : amount ≤ most_packed
+  pub amount_low : amount ≤ most_packed
   pub room : at + field_bytes ≤ length bytes
 
 -- and putting those of all amounts

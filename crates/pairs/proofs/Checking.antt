@@ -14,28 +14,28 @@ use Rattle.chain.specs.Written.{over}
 use Rattle.chain.specs.Chain.{most_amount, by, pairs, flat, steps_rule, outputs_rule, values, squarings_of}
 use Rattle.chain.specs.declared.Step.{Step}
 use Rattle.chain.proofs.Rules.{then_assoc, then_fine, lt_yes, lt_no}
-use Rattle.chain.proofs.Pairs.{pairs-flat}
-use Rattle.chain.proofs.Squarings.{squarings-few, counts-are}
+use Rattle.chain.proofs.Pairs.{pairs_flat}
+use Rattle.chain.proofs.Squarings.{squarings_few, counts_are}
 use Rattle.chain.proofs.Filling.{made_to, fill_start, fill_on}
-use Rattle.chain.proofs.Legal.{legal_parts, chain-parts}
-use Rattle.chain.proofs.Limits.{outputs-low}
+use Rattle.chain.proofs.Legal.{legal_parts, chain_parts}
+use Rattle.chain.proofs.Limits.{outputs_low}
 use Rattle.verify.specs.Verify.{first_over, fitting_rule, verify_answer, verify_scratch}
 use Rattle.rest.specs.Inner.{EndAsked, end_rule}
-use Rattle.rest.proofs.Rest.{rest-parts, end-asked}
+use Rattle.rest.proofs.Rest.{rest_parts, end_asked}
 use Rattle.verify.specs.Inner.{start_rule, column_start, steps_before, SummedUp, Comparable, found_in, Finished}
 use Rattle.verify.specs.declared.Found.{Found}
 use Rattle.verify.proofs.Over.{over_left, over_start}
 use Rattle.verify.proofs.Sums.{AtStep, sums, sum_on, sum_bad, sum-end, sums_stopped, sums_all}
 use Rattle.verify.proofs.Beginning.{length_started, start_summed}
-use Rattle.verify.proofs.Columns.{HeldTo, held_none, held_next, held_all, summed-past}
+use Rattle.verify.proofs.Columns.{HeldTo, held_none, held_next, held_all, summed_past}
 use Rattle.verify.proofs.Fitting.{Fitting, fitting}
 use Rattle.verify.proofs.Parts.{fitting_parts, started}
-use Rattle.verify.proofs.Answers.{early-answer, early-scratch, late-answer, late-scratch}
+use Rattle.verify.proofs.Answers.{early_answer, early_scratch, late_answer, late_scratch}
 use Rattle.pairs.specs.Inner.{found_by, squarings_in, unless, Left, left, summed, after_step, after_steps, Able, counts_of, place_in, ColumnTaken, CheckEnded}
 use Rattle.pairs.specs.declared.Task.{Task}
 use Rattle.pairs.specs.declared.Task.TheVariants.{Judging, Adding, Refused}
 use Rattle.pairs.proofs.Folded.{flat_half, flat_step}
-use Rattle.pairs.proofs.Judged.{found-unless, judge_able, judged-found, judged-counted, judged-kept}
+use Rattle.pairs.proofs.Judged.{found_unless, judge_able, judged_found, judged_counted, judged_kept}
 
 -- one column: the steps are added after the p + 1 values in front of l
 module _ (p : ℕ) (l : List ℕ) (steps : List Step) (ok : steps_rule p 1 steps ≡ fine) (room : p + length steps < length l) where
@@ -48,14 +48,14 @@ module _ (p : ℕ) (l : List ℕ) (steps : List Step) (ok : steps_rule p 1 steps
     stopped : (k : ℕ) (vs : List ℕ) → s ≡ left (Refused 13 k) vs → k ≡ first → vs ≡ over (values ◌+◌ (take (p + 1) l) (steps_before k (pairs (flat steps)))) l → Summing i s
 
   flat_ok : steps_rule p 1 (pairs (flat steps)) ≡ fine
-  flat_ok = ap (steps_rule p 1) (pairs-flat steps) ∙ ok
+  flat_ok = ap (steps_rule p 1) (pairs_flat steps) ∙ ok
 
-  flat-room : p + length (flat steps) / 2 < length l
-  flat-room = omega (arith, flat_half steps)
+  flat_room : p + length (flat steps) / 2 < length l
+  flat_room = omega (arith, flat_half steps)
 
   summing : (i : ℕ) → i ≤ length steps → Summing i (after_steps (Adding p 0) l steps i)
   unfolding after_steps after_step
-  summing zero h = on (ap (left (Adding p 0)) (fill_start ◌+◌ p (flat steps) l flat-room)) (over_start p (sums p (flat steps) l))
+  summing zero h = on (ap (left (Adding p 0)) (fill_start ◌+◌ p (flat steps) l flat_room)) (over_start p (sums p (flat steps) l))
   summing (suc i) h = next (after_steps (Adding p 0) l steps i) (summing i (omega arith))
     where
       x : Step
@@ -74,7 +74,7 @@ module _ (p : ℕ) (l : List ℕ) (steps : List Step) (ok : steps_rule p 1 steps
       one_more = omega arith
 
       at : AtStep p (flat steps) l i
-      at = record { there = there; legal = flat_ok; room = flat-room }
+      at = record { there = there; legal = flat_ok; room = flat_room }
 
       by-sum : Dec (most_amount < e) → first ≡ over_left p (sums p (flat steps) l) i → Summing (suc i) (summed (most_amount <? e) p 0 i e made)
       by-sum (yes high) w =
@@ -85,7 +85,7 @@ module _ (p : ℕ) (l : List ℕ) (steps : List Step) (ok : steps_rule p 1 steps
           let few : e ≤ most_amount = omega arith in
           subst (λ (b : Bool). Summing (suc i) (summed b p 0 i e made)) (sym (lt_no most_amount e few))
           (on
-          (ap (left (Adding p 0)) (fill_on ◌+◌ p (flat steps) i l made x e there (flat_step steps i (omega arith)) flat_ok flat-room refl refl
+          (ap (left (Adding p 0)) (fill_on ◌+◌ p (flat steps) i l made x e there (flat_step steps i (omega arith)) flat_ok flat_room refl refl
           ∙ ap (λ (k : ℕ). made_to ◌+◌ p (flat steps) k l) (add-one i)))
           (sum_on p (flat steps) l i made first x e at (flat_step steps i (omega arith)) refl refl few w ∙ ap (over_left p (sums p (flat steps) l)) (add-one i)))
 
@@ -97,7 +97,7 @@ module _ (p : ℕ) (l : List ℕ) (steps : List Step) (ok : steps_rule p 1 steps
   -- all steps added: the place is that of the first sum that is too large
   added : (s : Left) → s ≡ after_steps (Adding p 0) l steps (length steps) → SummedUp p (values ◌+◌ (take (p + 1) l)) steps l s.cells (place_in (found_by s.task))
   added s e =
-      subst (λ (z : List Step). SummedUp p (values ◌+◌ (take (p + 1) l)) z l s.cells (place_in (found_by s.task))) (pairs-flat steps)
+      subst (λ (z : List Step). SummedUp p (values ◌+◌ (take (p + 1) l)) z l s.cells (place_in (found_by s.task))) (pairs_flat steps)
       (by_state (subst (Summing (length steps)) (sym e) (summing (length steps) (le_refl _))))
     where
       end : length (flat steps) / 2 ≤ length steps
@@ -106,7 +106,7 @@ module _ (p : ℕ) (l : List ℕ) (steps : List Step) (ok : steps_rule p 1 steps
       by_state : Summing (length steps) s → SummedUp p (values ◌+◌ (take (p + 1) l)) (pairs (flat steps)) l s.cells (place_in (found_by s.task))
       by_state (on is w) =
           record {
-            place = ap (λ (r : Left). place_in (found_by r.task)) is ∙ sum-end p (flat steps) l (length steps) [] first end flat-room w;
+            place = ap (λ (r : Left). place_in (found_by r.task)) is ∙ sum-end p (flat steps) l (length steps) [] first end flat_room w;
             cells = sums_all p (flat steps) l (length steps) s.cells end (ap (λ (r : Left). r.cells) is)
                 ∙ ap (λ (k : ℕ). over (values ◌+◌ (take (p + 1) l) (steps_before k (pairs (flat steps)))) l) (sym (ap (λ (r : Left). place_in (found_by r.task)) is));
           }
@@ -147,36 +147,36 @@ module _ (p : ℕ) (steps : List Step) (outputs amounts old : List ℕ) where
 
   module _ (t₁ : Task) (opened : t₁ ≡ unless opening (Judging p 0)) where
     pub open_able : (room : ℕ) → Able t₁ 0 steps room
-    open_able = judge_able p steps old opening t₁ opened (λ e. (started p (length outputs) (length steps) amounts e).shape.sizes.p-low)
+    open_able = judge_able p steps old opening t₁ opened (λ e. (started p (length outputs) (length steps) amounts e).shape.sizes.p_low)
 
     module _ (t₂ : Task) (l₂ : List ℕ) (passed : Passed t₁ old t₂ l₂) where
-      found-is : found_by t₂ ≡ (opening then steps_rule p 1 steps)
-      found-is = judged-found p steps old opening t₁ opened t₂ l₂ passed
+      found_is : found_by t₂ ≡ (opening then steps_rule p 1 steps)
+      found_is = judged_found p steps old opening t₁ opened t₂ l₂ passed
 
-      pub scratch-same : l₂ ≡ old
-      scratch-same = judged-kept p steps old opening t₁ opened t₂ l₂ passed
+      pub scratch_same : l₂ ≡ old
+      scratch_same = judged_kept p steps old opening t₁ opened t₂ l₂ passed
 
       pub start_able : found_by t₂ ≡ fine → EndAsked p (length steps)
       start_able e =
-          let s = started p (length outputs) (length steps) amounts (then_fine opening (steps_rule p 1 steps) (sym found-is ∙ e)).0 in
-          end-asked s.shape
+          let s = started p (length outputs) (length steps) amounts (then_fine opening (steps_rule p 1 steps) (sym found_is ∙ e)).0 in
+          end_asked s.shape
 
       module _ (t₃ : Task) (begun : t₃ ≡ unless (found_by t₂ then ending) (Adding p (squarings_in t₂))) where
-        begun-found : found_by t₃ ≡ (found_by t₂ then ending)
-        begun-found = ap found_by begun ∙ found-unless (found_by t₂ then ending) (Adding p (squarings_in t₂)) refl
+        begun_found : found_by t₃ ≡ (found_by t₂ then ending)
+        begun_found = ap found_by begun ∙ found_unless (found_by t₂ then ending) (Adding p (squarings_in t₂)) refl
 
         pub rule_found : found_by t₃ ≡ rule
         rule_found =
-            begun-found
-            ∙ ap (λ (v : Verdict). v then ending) found-is
+            begun_found
+            ∙ ap (λ (v : Verdict). v then ending) found_is
             ∙ then_assoc opening (steps_rule p 1 steps) ending
-            ∙ ap (λ (v : Verdict). opening then v) (rest-parts p steps outputs (length old))
+            ∙ ap (λ (v : Verdict). opening then v) (rest_parts p steps outputs (length old))
             ∙ fitting_parts p steps outputs amounts (length old)
 
-        squarings-all : found_by t₃ ≡ fine → squarings_in t₃ ≡ squarings_of steps
-        squarings-all e =
-            ap squarings_in (begun ∙ judged-counted p steps old opening t₁ opened t₂ l₂ passed ending (Adding p))
-            ∙ ap (λ (v : Verdict). squarings_in (unless v (Adding p (squarings_of steps)))) (sym begun-found ∙ e)
+        squarings_all : found_by t₃ ≡ fine → squarings_in t₃ ≡ squarings_of steps
+        squarings_all e =
+            ap squarings_in (begun ∙ judged_counted p steps old opening t₁ opened t₂ l₂ passed ending (Adding p))
+            ∙ ap (λ (v : Verdict). squarings_in (unless v (Adding p (squarings_of steps)))) (sym begun_found ∙ e)
 
         -- where there is a turn, nothing was found before the columns
         module _ (k : ℕ) (count : k ≡ on_fine (found_by t₃) p 0) where
@@ -198,23 +198,23 @@ module _ (p : ℕ) (steps : List Step) (outputs amounts old : List ℕ) where
             fits = fitting p steps outputs amounts (length old) (turn_fine c h)
 
             parts : (steps_rule p 1 steps ≡ fine) × (outputs_rule (p + length steps) 1 outputs ≡ fine)
-            parts = chain-parts p steps outputs (legal_parts p steps outputs fits.legal).chain
+            parts = chain_parts p steps outputs (legal_parts p steps outputs fits.legal).chain
 
-            pub column-room : p < length l
-            column-room = omega (arith, fits.room)
+            pub column_room : p < length l
+            column_room = omega (arith, fits.room)
 
             pub comparable : (l' : List ℕ) → length l' ≡ length old → Comparable p c outputs amounts (length l')
             comparable l' len' =
                 record {
                   column = turn_below c h;
                   amounts_fit = fits.amounts_fit;
-                  outputs-within = λ i g. omega (arith, outputs-low (p + length steps) 1 outputs parts.1 i g, fits.room, len');
+                  outputs_within = λ i g. omega (arith, outputs_low (p + length steps) 1 outputs parts.1 i g, fits.room, len');
                 }
 
             module _ (t : Task) (l' : List ℕ) (starts : left t l' ≡ left (Adding p 0) (column_start p c l)) where
               pub add_able : length l' ≡ length old → Able t 0 steps (length l')
               unfolding Able
-              add_able len' = subst (λ (u : Task). Able u 0 steps (length l')) (sym (ap (λ (s : Left). s.task) starts)) (record { steps-fine = parts.0; enough = omega (arith, fits.room) })
+              add_able len' = subst (λ (u : Task). Able u 0 steps (length l')) (sym (ap (λ (s : Left). s.task) starts)) (record { steps_fine = parts.0; enough = omega (arith, fits.room) })
 
               -- the column is summed, and what is found taken up
               pub stands_next : (t' : Task) (l'' l''' : List ℕ) (f' : Found) → Passed t l' t' l'' → ColumnTaken f (place_in (found_by t')) p c outputs amounts l'' l''' f'
@@ -223,21 +223,21 @@ module _ (p : ℕ) (steps : List Step) (outputs amounts old : List ℕ) where
               stands_next t' l'' l''' f' passes taken stands =
                   let s = start_summed p c l (turn_below c h) steps _ (column_start p c l) l'' refl summed_so in
                   record {
-                    held = held_next p amounts steps outputs c f f' _ l l'' parts.1 s taken.found-is stands.held;
-                    past = ap (drop top) taken.scratch-kept ∙ summed-past p c top steps l l'' _ refl s ∙ stands.past;
+                    held = held_next p amounts steps outputs c f f' _ l l'' parts.1 s taken.found_is stands.held;
+                    past = ap (drop top) taken.scratch_kept ∙ summed_past p c top steps l l'' _ refl s ∙ stands.past;
                     untouched = λ z. absurd (omega (arith, z));
                   }
                 where
                   summed_so : SummedUp p (values ◌+◌ (take (p + 1) (column_start p c l))) steps (column_start p c l) l'' (place_in (found_by t'))
                   summed_so =
-                      added p (column_start p c l) steps parts.0 (omega (arith, fits.room, length_started p c l column-room)) (left t' l'')
+                      added p (column_start p c l) steps parts.0 (omega (arith, fits.room, length_started p c l column_room)) (left t' l'')
                       (passes ∙ ap (λ (s : Left). after_steps s.task s.cells steps (on_fine (found_by s.task) (length steps) 0)) starts)
 
           -- once all columns are held
           module _ (c : ℕ) (all : c ≡ k) (f : Found) (l : List ℕ) (len : length l ≡ length old) (stands : Standing c f l) where
             pub end_able : found_by t₃ ≡ fine → (squarings_in t₃ ≤ length steps) × (p + length steps < length l)
             end_able e = (
-              omega (arith, squarings-all e, squarings-few steps),
+              omega (arith, squarings_all e, squarings_few steps),
               omega (arith, (fitting p steps outputs amounts (length old) (sym rule_found ∙ e)).room),
             )
 
@@ -253,23 +253,23 @@ module _ (p : ℕ) (steps : List Step) (outputs amounts old : List ℕ) where
                   let so = sym e ∙ rule_found in
                   let done : Finished (found_in f) told top l l' r = record {
                     answered = ends.answered ∙ ap (λ (v : Verdict). answer (v then found_in f) told) e;
-                    cleared = ends.scratch-is ∙ ap (λ (v : Verdict). on_fine v (over (replicate top 0) l) l) e;
+                    cleared = ends.scratch_is ∙ ap (λ (v : Verdict). on_fine v (over (replicate top 0) l) l) e;
                   } in
                   let columns : k ≡ p = count ∙ ap (λ (v : Verdict). on_fine v p 0) e in (
-                    late-answer p steps outputs amounts old so (found_in f) told top l l' r done
-                        (counts-are steps _ _ refl (squarings-all e)) (held_all p amounts steps outputs c f (omega arith) (omega arith) stands.held),
-                    late-scratch p steps outputs amounts old so (found_in f) told top l l' r done refl stands.past,
+                    late_answer p steps outputs amounts old so (found_in f) told top l l' r done
+                        (counts_are steps _ _ refl (squarings_all e)) (held_all p amounts steps outputs c f (omega arith) (omega arith) stands.held),
+                    late_scratch p steps outputs amounts old so (found_in f) told top l l' r done refl stands.past,
                   )
               answered (refused n s) e =
                   let so = sym e ∙ rule_found in
                   let none : k ≡ 0 = count ∙ ap (λ (v : Verdict). on_fine v p 0) e in (
-                    ends.answered ∙ ap (λ (v : Verdict). answer (v then found_in f) told) e ∙ early-answer p steps outputs amounts old n s so,
-                    ends.scratch-is ∙ ap (λ (v : Verdict). on_fine v (over (replicate top 0) l) l) e ∙ stands.untouched (omega arith)
-                        ∙ early-scratch p steps outputs amounts old n s so,
+                    ends.answered ∙ ap (λ (v : Verdict). answer (v then found_in f) told) e ∙ early_answer p steps outputs amounts old n s so,
+                    ends.scratch_is ∙ ap (λ (v : Verdict). on_fine v (over (replicate top 0) l) l) e ∙ stands.untouched (omega arith)
+                        ∙ early_scratch p steps outputs amounts old n s so,
                   )
 
-              pub checked-answer : r ≡ verify_answer p steps outputs amounts (length old)
-              checked-answer = (answered (found_by t₃) refl).0
+              pub checked_answer : r ≡ verify_answer p steps outputs amounts (length old)
+              checked_answer = (answered (found_by t₃) refl).0
 
-              pub checked-scratch : l' ≡ verify_scratch p steps outputs amounts old
-              checked-scratch = (answered (found_by t₃) refl).1
+              pub checked_scratch : l' ≡ verify_scratch p steps outputs amounts old
+              checked_scratch = (answered (found_by t₃) refl).1

@@ -21,7 +21,7 @@ use denote.Triple.Clauses.{ensured, lasts}
 use Rattle.chain.specs.Verdict.{on_fine}
 use Rattle.pairs.specs.Inner.{found_by}
 use Rattle.pairs.specs.declared.Task.{Task}
-use Rattle.pairs.proofs.Machine.{task_vals, TaskIs, has-task}
+use Rattle.pairs.proofs.Machine.{task_vals, TaskIs, has_task}
 use Rattle.pairs.specs.contracts.turns as turns
 
 module _ {M : Type 1} {𝓤 : Ura M} (𝓛 : Logic 𝓤) (at_mem : Memory → SProp 𝓤) (run : Routine → Fun 𝓤) where
@@ -33,7 +33,7 @@ module _ {M : Type 1} {𝓤 : Ura M} (𝓛 : Logic 𝓤) (at_mem : Memory → SP
 
   pub asks_turns : (t : Task) (n : ℕ) → TaskIs t → n < 2 ^ 64 → ent 𝓤 (emp 𝓤) (Turns.pre (to_turns t n))
   asks_turns t n is n-fits =
-      qed 𝓛 [] ∵ nothing ! $ owned ! usize (Is usize) (uint_Makes 𝓛 w64) n _ (refl, n-fits) $ fjoin ! $ has-task ! t is $ fjoin ! $
+      qed 𝓛 [] ∵ nothing ! $ owned ! usize (Is usize) (uint_Makes 𝓛 w64) n _ (refl, n-fits) $ fjoin ! $ has_task ! t is $ fjoin ! $
       nothing ! $ join ! $ frame ! $ done !
 
   pub said_turns : (t : Task) (n r : ℕ) → ent 𝓤 (ensured 𝓛 turns.ended (turns.clauses 𝓛 at_mem run) tt (t, (n, tt)) tt r) (fact 𝓤 (r ≡ on_fine (found_by t) n 0))

@@ -13,17 +13,17 @@ use Rattle.chain.specs.Verdict.{Verdict, fine, refused, on_fine}
 use Rattle.chain.specs.Chain.{most_amount, by, flat, step_rule, steps_rule, one, is_squaring}
 use Rattle.chain.specs.Inner.{step_at}
 use Rattle.chain.specs.declared.Step.{Step}
-use Rattle.chain.proofs.Pairs.{get_d_pairs, pairs-flat, length-flat}
+use Rattle.chain.proofs.Pairs.{get_d_pairs, pairs_flat, length-flat}
 use Rattle.chain.proofs.Steps.{LegalStep, steps_legal}
-use Rattle.chain.proofs.Squarings.{squarings-few, squarings-one}
+use Rattle.chain.proofs.Squarings.{squarings_few, squarings_one}
 use Rattle.pairs.specs.Inner.{unless, left, summed, after_step, after_steps, StepCells, StepsCells, Ready, Able}
 use Rattle.pairs.specs.declared.Task.{Task}
 use Rattle.pairs.specs.declared.Task.TheVariants.{Judging, Multiplying, Adding, Refused}
 
 module _ (t : Task) (l : List ℕ) (steps : List Step) where
-  pub steps-none : left t l ≡ after_steps t l steps 0
+  pub steps_none : left t l ≡ after_steps t l steps 0
   unfolding after_steps
-  steps-none = refl
+  steps_none = refl
 
   pub steps_next : (i : ℕ) → after_step (after_steps t l steps i).task (after_steps t l steps i).cells i (get_or steps i (by 0 0)) ≡ after_steps t l steps (i + 1)
   unfolding after_steps
@@ -53,7 +53,7 @@ module _ (steps : List Step) (room : ℕ) where
   step_able (Judging p squarings) l i x a = by_rule (step_rule (p + i + 1) (i + 1) x)
     where
       by_rule : (v : Verdict) → Able (unless v (Judging p (squarings + one is_squaring x))) (suc i) steps room
-      by_rule fine = (a.0, omega (arith, a.1, squarings-one x, squarings-few (x ∷ [])))
+      by_rule fine = (a.0, omega (arith, a.1, squarings_one x, squarings_few (x ∷ [])))
       by_rule (refused n s) = tt
   step_able (Multiplying p squarings m inverse) l i x a = a
   step_able (Adding p squarings) l i x a = by-sum (most_amount <? get_or l x.first 0 + get_or l x.second 0) (get_or l x.first 0 + get_or l x.second 0)
@@ -73,17 +73,17 @@ module _ (steps : List Step) (room : ℕ) where
     low : (p : ℕ) → steps_rule p 1 steps ≡ fine → LegalStep (p + (1 + i)) (get_or steps i (by 0 0))
     low p ok = steps_legal p 1 steps (by 0 0) ok i h
 
-    cells-ready : (p : ℕ) → StepsCells p steps room → StepCells p i (get_or steps i (by 0 0)) room
-    cells-ready p c =
-        let k = low p c.steps-fine in
+    cells_ready : (p : ℕ) → StepsCells p steps room → StepCells p i (get_or steps i (by 0 0)) room
+    cells_ready p c =
+        let k = low p c.steps_fine in
         let fits = c.enough in
-        record { own = omega arith; first = omega (arith, k.first-low); second = omega (arith, k.second-low) }
+        record { own = omega arith; first = omega (arith, k.first_low); second = omega (arith, k.second_low) }
 
     able_ready : (t : Task) → Able t i steps room → Ready t i (get_or steps i (by 0 0)) room
     unfolding Able Ready
     able_ready (Judging p squarings) a = (omega (arith, a.0), a.1)
-    able_ready (Multiplying p squarings m inverse) a = record { times = a.times; cells = cells-ready p a.cells }
-    able_ready (Adding p squarings) a = cells-ready p a
+    able_ready (Multiplying p squarings m inverse) a = record { times = a.times; cells = cells_ready p a.cells }
+    able_ready (Adding p squarings) a = cells_ready p a
     able_ready (Refused n s) a = tt
 
     pub ready_at : (t : Task) (l : List ℕ) → Able t 0 steps room → Ready (after_steps t l steps i).task i (get_or steps i (by 0 0)) room
@@ -101,7 +101,7 @@ flat_half steps = omega (arith, length-flat steps)
 
 pub flat_step : (steps : List Step) (i : ℕ) → i < length steps → get_or steps i (by 0 0) ≡ step_at (flat steps) i
 unfolding step_at
-flat_step steps i h = ap (λ (l : List Step). get_or l i (by 0 0)) (sym (pairs-flat steps)) ∙ get_d_pairs (flat steps) i (omega (arith, length-flat steps))
+flat_step steps i h = ap (λ (l : List Step). get_or l i (by 0 0)) (sym (pairs_flat steps)) ∙ get_d_pairs (flat steps) i (omega (arith, length-flat steps))
 
 -- a task that found something does nothing more
 pub none_gone : (n s k j : ℕ) (l : List ℕ) (steps : List Step) → after_steps (Refused n s) l steps (on_fine (refused k j) (length steps) 0) ≡ left (Refused n s) l

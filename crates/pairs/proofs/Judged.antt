@@ -10,16 +10,16 @@ use Rattle.chain.specs.Verdict.{Verdict, fine, refused, ◌then◌, on_fine}
 use Rattle.chain.specs.Chain.{most_columns, by, step_rule, steps_rule, one, is_squaring, squarings_of}
 use Rattle.chain.specs.declared.Step.{Step}
 use Rattle.chain.proofs.Steps.{steps-append}
-use Rattle.chain.proofs.Squarings.{squarings-append, squarings-one}
+use Rattle.chain.proofs.Squarings.{squarings-append, squarings_one}
 use Rattle.pairs.specs.Inner.{found_by, squarings_in, unless, Left, left, after_step, after_steps, Able}
 use Rattle.pairs.specs.declared.Task.{Task}
 use Rattle.pairs.specs.declared.Task.TheVariants.{Judging}
 use Rattle.pairs.proofs.Folded.{none_gone}
 
 -- what a task has found, where it began with nothing found
-pub found-unless : (v : Verdict) (t : Task) → found_by t ≡ fine → found_by (unless v t) ≡ v
-found-unless fine t e = e
-found-unless (refused n s) t e = refl
+pub found_unless : (v : Verdict) (t : Task) → found_by t ≡ fine → found_by (unless v t) ≡ v
+found_unless fine t e = e
+found_unless (refused n s) t e = refl
 
 then_nothing : (v : Verdict) → (v then fine) ≡ v
 unfolding ◌then◌
@@ -32,10 +32,10 @@ unfolding on_fine ◌then◌
 keeps_count fine w k begins = refl
 keeps_count (refused n s) w k begins = refl
 
-squarings-unless : (v : Verdict) (t : Task) → squarings_in (unless v t) ≡ on_fine v (squarings_in t) 0
+squarings_unless : (v : Verdict) (t : Task) → squarings_in (unless v t) ≡ on_fine v (squarings_in t) 0
 unfolding on_fine
-squarings-unless fine t = refl
-squarings-unless (refused n s) t = refl
+squarings_unless fine t = refl
+squarings_unless (refused n s) t = refl
 
 module _ (p : ℕ) (l : List ℕ) (steps : List Step) where
   judge_one : (v : Verdict) (k i : ℕ) (x : Step)
@@ -71,7 +71,7 @@ module _ (p : ℕ) (l : List ℕ) (steps : List Step) where
           ∙ ap (λ (v : Verdict). steps_rule p 1 (take i steps) then v) (then_nothing (step_rule (p + i + 1) (i + 1) x))
 
       counted : squarings_of (take (suc i) steps) ≡ squarings_of (take i steps) + one is_squaring x
-      counted = ap squarings_of next ∙ squarings-append (take i steps) (x ∷ []) ∙ ap (λ (k : ℕ). squarings_of (take i steps) + k) (squarings-one x)
+      counted = ap squarings_of next ∙ squarings-append (take i steps) (x ∷ []) ∙ ap (λ (k : ℕ). squarings_of (take i steps) + k) (squarings_one x)
 
   -- judged after a verdict v
   judged : (v : Verdict) → after_steps (unless v (Judging p 0)) l steps (on_fine (found_by (unless v (Judging p 0))) (length steps) 0)
@@ -85,30 +85,30 @@ module _ (p : ℕ) (l : List ℕ) (steps : List Step) where
 module _ (p : ℕ) (steps : List Step) (zs : List ℕ) (opening : Verdict) (t₁ : Task) (opened : t₁ ≡ unless opening (Judging p 0)) where
   pub judge_able : (opening ≡ fine → p ≤ most_columns) → (room : ℕ) → Able t₁ 0 steps room
   unfolding Able
-  judge_able low room = subst (λ (t : Task). Able t 0 steps room) (sym opened) (by-verdict opening refl)
+  judge_able low room = subst (λ (t : Task). Able t 0 steps room) (sym opened) (by_verdict opening refl)
     where
-      by-verdict : (v : Verdict) → opening ≡ v → Able (unless v (Judging p 0)) 0 steps room
-      by-verdict fine e = (low e, le_refl 0)
-      by-verdict (refused n s) e = tt
+      by_verdict : (v : Verdict) → opening ≡ v → Able (unless v (Judging p 0)) 0 steps room
+      by_verdict fine e = (low e, le_refl 0)
+      by_verdict (refused n s) e = tt
 
   module _ (t₂ : Task) (l₂ : List ℕ) (passed : left t₂ l₂ ≡ after_steps t₁ zs steps (on_fine (found_by t₁) (length steps) 0)) where
-    judged-is : left t₂ l₂ ≡ left (unless (opening then steps_rule p 1 steps) (Judging p (squarings_of steps))) zs
-    judged-is = passed ∙ ap (λ (t : Task). after_steps t zs steps (on_fine (found_by t) (length steps) 0)) opened ∙ judged p zs steps opening
+    judged_is : left t₂ l₂ ≡ left (unless (opening then steps_rule p 1 steps) (Judging p (squarings_of steps))) zs
+    judged_is = passed ∙ ap (λ (t : Task). after_steps t zs steps (on_fine (found_by t) (length steps) 0)) opened ∙ judged p zs steps opening
 
-    pub judged-found : found_by t₂ ≡ (opening then steps_rule p 1 steps)
-    judged-found =
-        ap (λ (s : Left). found_by s.task) judged-is ∙ found-unless (opening then steps_rule p 1 steps) (Judging p (squarings_of steps)) refl
+    pub judged_found : found_by t₂ ≡ (opening then steps_rule p 1 steps)
+    judged_found =
+        ap (λ (s : Left). found_by s.task) judged_is ∙ found_unless (opening then steps_rule p 1 steps) (Judging p (squarings_of steps)) refl
 
-    judged-squarings : squarings_in t₂ ≡ on_fine (found_by t₂) (squarings_of steps) 0
-    judged-squarings =
-        ap (λ (s : Left). squarings_in s.task) judged-is
-        ∙ squarings-unless (opening then steps_rule p 1 steps) (Judging p (squarings_of steps))
-        ∙ ap (λ (v : Verdict). on_fine v (squarings_of steps) 0) (sym judged-found)
+    judged_squarings : squarings_in t₂ ≡ on_fine (found_by t₂) (squarings_of steps) 0
+    judged_squarings =
+        ap (λ (s : Left). squarings_in s.task) judged_is
+        ∙ squarings_unless (opening then steps_rule p 1 steps) (Judging p (squarings_of steps))
+        ∙ ap (λ (v : Verdict). on_fine v (squarings_of steps) 0) (sym judged_found)
 
     -- the task that comes next has the squarings of all steps
-    pub judged-counted : (w : Verdict) (begins : ℕ → Task) → unless (found_by t₂ then w) (begins (squarings_in t₂)) ≡ unless (found_by t₂ then w) (begins (squarings_of steps))
-    judged-counted w begins =
-        ap (λ (k : ℕ). unless (found_by t₂ then w) (begins k)) judged-squarings ∙ keeps_count (found_by t₂) w (squarings_of steps) begins
+    pub judged_counted : (w : Verdict) (begins : ℕ → Task) → unless (found_by t₂ then w) (begins (squarings_in t₂)) ≡ unless (found_by t₂ then w) (begins (squarings_of steps))
+    judged_counted w begins =
+        ap (λ (k : ℕ). unless (found_by t₂ then w) (begins k)) judged_squarings ∙ keeps_count (found_by t₂) w (squarings_of steps) begins
 
-    pub judged-kept : l₂ ≡ zs
-    judged-kept = ap (λ (s : Left). s.cells) judged-is
+    pub judged_kept : l₂ ≡ zs
+    judged_kept = ap (λ (s : Left). s.cells) judged_is

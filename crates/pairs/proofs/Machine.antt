@@ -35,12 +35,12 @@ task_tells = EL.tells E.the_type E'.the_laws
 unfoldable pub TaskIs : Task → Type 0
 TaskIs t = Is E.the_row t (task_vals t)
 
-pub task-told : (t : Task) (w : Val) → Is E.the_row t (w ∷ []) → w ≡ task_val t
-task-told t w is = ap only (task_tells t (w ∷ []) is)
+pub task_told : (t : Task) (w : Val) → Is E.the_row t (w ∷ []) → w ≡ task_val t
+task_told t w is = ap only (task_tells t (w ∷ []) is)
 
-pub task-is : (t : Task) (w : Val) → Is E.the_row t (w ∷ []) → TaskIs t
+pub task_is : (t : Task) (w : Val) → Is E.the_row t (w ∷ []) → TaskIs t
 unfolding TaskIs
-task-is t w is = subst (λ (u : Val). Is E.the_row t (u ∷ [])) (task-told t w is) is
+task_is t w is = subst (λ (u : Val). Is E.the_row t (u ∷ [])) (task_told t w is) is
 
 module _ {M : Type 1} {𝓤 : Ura M} (𝓛 : Logic 𝓤) where
   pub task_typed : (t : Task) → TaskIs t → Holds (has_ty E'.mir (task_val t)) × WT (task_val t)
@@ -48,9 +48,9 @@ module _ {M : Type 1} {𝓤 : Ura M} (𝓛 : Logic 𝓤) where
   task_typed t is = ((EL.lawful E.the_type E'.the_laws 𝓛 tt).typed t (task_vals t) is).0
 
 module _ {M : Type 1} {𝓤 : Ura M} {𝓛 : Logic 𝓤} {K : Type 0} {Γ : List (Item 𝓤)} {G : Goal 𝓤 𝓛.H} where
-  pub has-task : K → (t : Task) → TaskIs t → Step K 𝓛 (‵ ((E.the_row).own_val t (task_vals t)) ∷ Γ) G Γ G
+  pub has_task : K → (t : Task) → TaskIs t → Step K 𝓛 (‵ ((E.the_row).own_val t (task_vals t)) ∷ Γ) G Γ G
   unfolding TaskIs
-  has-task k t is = owned k E.the_row (Is E.the_row) (EL.makes E.the_type E'.the_plain 𝓛) t (task_vals t) is
+  has_task k t is = owned k E.the_row (Is E.the_row) (EL.makes E.the_type E'.the_plain 𝓛) t (task_vals t) is
 
 abbrev pub found_val : Found → Val
 found_val f = F'.lowered f
@@ -64,9 +64,9 @@ FoundIs f = Is F.the_row f (found_vals f)
 pub found_tells : Tells F.the_row (Is F.the_row) found_vals
 found_tells = LL.tells F.the_type F'.the_laws
 
-pub found-is : (f : Found) → Is F.the_row f (found_vals f) → FoundIs f
+pub found_is : (f : Found) → Is F.the_row f (found_vals f) → FoundIs f
 unfolding FoundIs
-found-is f is = is
+found_is f is = is
 
 pub none_is : FoundIs (record { large = 0; other = 0 })
 unfolding FoundIs
@@ -78,6 +78,6 @@ module _ {M : Type 1} {𝓤 : Ura M} (𝓛 : Logic 𝓤) where
   found_typed f is = ((LL.lawful F.the_type F'.the_laws 𝓛).typed f (found_vals f) is).0
 
 module _ {M : Type 1} {𝓤 : Ura M} {𝓛 : Logic 𝓤} {K : Type 0} {Γ : List (Item 𝓤)} {G : Goal 𝓤 𝓛.H} where
-  pub has-found : K → (f : Found) → FoundIs f → Step K 𝓛 (‵ ((F.the_row).own_val f (found_vals f)) ∷ Γ) G Γ G
+  pub has_found : K → (f : Found) → FoundIs f → Step K 𝓛 (‵ ((F.the_row).own_val f (found_vals f)) ∷ Γ) G Γ G
   unfolding FoundIs
-  has-found k f is = owned k F.the_row (Is F.the_row) (LL.makes F.the_type F'.the_plain 𝓛) f (found_vals f) is
+  has_found k f is = owned k F.the_row (Is F.the_row) (LL.makes F.the_type F'.the_plain 𝓛) f (found_vals f) is

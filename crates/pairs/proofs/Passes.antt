@@ -36,7 +36,7 @@ use Rattle.pairs.specs.declared.Task.{Task}
 use Rattle.pairs.specs.contracts.Task as E
 use Rattle.pairs.proofs.Again.{LentAgain}
 use Rattle.pairs.proofs.Calls.{cells_at, Cells, Leaves, calls_lent}
-use Rattle.pairs.proofs.Machine.{task_val, task_vals, TaskIs, task_tells, task-is, has-task}
+use Rattle.pairs.proofs.Machine.{task_val, task_vals, TaskIs, task_tells, task_is, has_task}
 use Rattle.pairs.specs.contracts.pass as pass
 use Rattle.pairs.proofs.pass.Symbol.{name as #pairs·pass}
 
@@ -71,7 +71,7 @@ module _ {M : Type 1} {𝓤 : Ura M} (𝓛 : Logic 𝓤) (mem : Memory → SProp
     asks_pass is able =
         qed 𝓛 (‵ (flft (ν ∷ []) full_share) ∷ Cells (named 1) (ν ∷ []) at δ n l ∷ ‵ (flft κ q) ∷ Steps κ x ∷ []) ∵ says ! able $
         nothing ! $ move ! (1 ∷ 0 ∷ []) $ join ! $ move ! (2 ∷ 0 ∷ []) $ join ! $ frame ! $
-        nothing ! $ move ! (1 ∷ 0 ∷ []) $ fjoin ! $ move ! (1 ∷ 0 ∷ []) $ fjoin ! $ has-task ! t is $ fjoin ! $ done !
+        nothing ! $ move ! (1 ∷ 0 ∷ []) $ fjoin ! $ move ! (1 ∷ 0 ∷ []) $ fjoin ! $ has_task ! t is $ fjoin ! $ done !
 
     leaves_pass : length l ≡ n → (w : Val) → ent 𝓤 ((Pass 𝓛 mem run).post to_pass w)
         (mean 𝓛 (later (some (λ (r : Task). some (λ (l' : List ℕ). Leaves 𝓤 ν δ n (‵ (flft κ q)) E.the_row (Gone t x.now l) w r l')))))
@@ -100,4 +100,4 @@ module _ {M : Type 1} {𝓤 : Ura M} (𝓛 : Logic 𝓤) (mem : Memory → SProp
         → Seq K 𝓛 (Cells ℓ κ₂ at γ n l ∷ ‵ (flft κ₂ q₂) ∷ (‵ (flft κ q) ⊛ Steps κ x) ∷ Γ) (runs C Λ Ev (seq (call #pairs·pass xs d) rest) p)
     passes k fm known ℓ κ₂ q₂ γ here room is able os next =
         calls_lent k fm (Pass 𝓛 mem run) known E.the_row task_val task_tells ℓ κ₂ q₂ at γ n l here room (named 1) to_pass (‵ (flft κ q) ⊛ Steps κ x) (‵ (flft κ q))
-        (Gone t x.now l) (λ ν δ. asks_pass ν δ is able) (λ ν δ. leaves_pass ν δ here) os (λ r l' is'. next r l' (task-is r _ is'))
+        (Gone t x.now l) (λ ν δ. asks_pass ν δ is able) (λ ν δ. leaves_pass ν δ here) os (λ r l' is'. next r l' (task_is r _ is'))

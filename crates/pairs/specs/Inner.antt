@@ -68,7 +68,7 @@ pub record StepCells (p i : ℕ) (x : Step) (room : ℕ) : Type 0 where
 
 -- among so many cells there is one for each value of steps that are in order
 pub record StepsCells (p : ℕ) (steps : List Step) (room : ℕ) : Type 0 where
-  pub steps-fine : steps_rule p 1 steps ≡ fine
+  pub steps_fine : steps_rule p 1 steps ≡ fine
   pub enough : p + length steps < room
 
 -- a task that multiplies asks for cells, and what a product asks
@@ -94,12 +94,12 @@ Able (Refused n s) i steps room = Unit {0}
 pub record RunAble (p n m : ℕ) (bases : List ℕ) : Type 0 where
   pub end : EndAsked p n
   pub modulus : 0 < m
-  pub bases-are-p : length bases ≡ p
+  pub bases_are_p : length bases ≡ p
 
 -- a run that begins to multiply where v is fine: value 0 and the bases stand over the front of the values
 pub record RunStarted (v : Verdict) (p squarings m : ℕ) (bases old new : List ℕ) (r : Task) : Type 0 where
-  pub task-is : r ≡ unless v (Multiplying p squarings m (inverse_of m))
-  pub values-are : new ≡ on_fine v (over (1 % m ∷ bases) old) old
+  pub task_is : r ≡ unless v (Multiplying p squarings m (inverse_of m))
+  pub values_are : new ≡ on_fine v (over (1 % m ∷ bases) old) old
 
 -- what is told of n steps, so many of them squarings
 abbrev pub counts_of : ℕ → ℕ → List ℕ
@@ -107,14 +107,14 @@ counts_of n squarings = n ∷ squarings ∷ (n - squarings) ∷ []
 
 -- what a run whose n steps are multiplied may rely on
 pub record RunEndAble (n squarings : ℕ) (outputs : List ℕ) (values figures : ℕ) : Type 0 where
-  pub squarings-few : squarings ≤ n
+  pub squarings_few : squarings ≤ n
   pub shown : FiguresAble outputs values figures
 
 -- a run that ends after n steps, so many of them squarings: the figures are the outputs' values where v is fine
 pub record RunEnded (v : Verdict) (n squarings : ℕ) (outputs values values' old new : List ℕ) (r : Answer) : Type 0 where
   pub answered : r ≡ answer v (counts_of n squarings)
-  pub values-kept : values' ≡ values
-  pub figures-are : new ≡ on_fine v (over (pick values outputs) old) old
+  pub values_kept : values' ≡ values
+  pub figures_are : new ≡ on_fine v (over (pick values outputs) old) old
 
 -- the place that a verdict tells, 0 for none
 abbrev pub place_in : Verdict → ℕ
@@ -123,10 +123,10 @@ place_in (refused n s) = s
 
 -- column c taken up, of which the sums gave a place; the scratch is only looked at
 pub record ColumnTaken (f : Found) (place p c : ℕ) (outputs amounts old new : List ℕ) (r : Found) : Type 0 where
-  pub found-is : r ≡ taken_up f place p c amounts old outputs
-  pub scratch-kept : new ≡ old
+  pub found_is : r ≡ taken_up f place p c amounts old outputs
+  pub scratch_kept : new ≡ old
 
 -- a check of n steps, so many of them squarings, that ends: where v is fine the cells below `top` are cleared, and what was found of the columns is told
 pub record CheckEnded (v : Verdict) (f : Found) (n squarings top : ℕ) (old new : List ℕ) (r : Answer) : Type 0 where
   pub answered : r ≡ answer (v then found_in f) (counts_of n squarings)
-  pub scratch-is : new ≡ on_fine v (over (replicate top 0) old) old
+  pub scratch_is : new ≡ on_fine v (over (replicate top 0) old) old

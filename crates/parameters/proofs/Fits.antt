@@ -4,11 +4,11 @@ use Prim.Native.Nat.{ℕ, ◌*◌, ◌≤◌}
 use native.Mathlib.Decide.{ℕ_discrete}
 use native.Mathlib.Omega.{arith}
 use Rattle.chain.specs.Verdict.{fine}
-use Rattle.chain.proofs.Rules.{not_fine, refuse_if-fine, refuse_yes, neither, not_lt}
+use Rattle.chain.proofs.Rules.{not_fine, refuse_if_fine, refuse_yes, neither, not_lt}
 use Rattle.straus.specs.Straus.{straus_most, straus_most_bits}
 use Rattle.yao.specs.Yao.{yao_most}
 use Rattle.parameters.specs.Parameters.{method_rule}
-use Rattle.parameters.proofs.Method.{is_one, is-more, is_none}
+use Rattle.parameters.proofs.Method.{is_one, is_more, is_none}
 
 -- the parameter is in the range of its method
 pub record Fits (p method k : ℕ) : Type 0 where
@@ -20,13 +20,13 @@ method_fits p method k e = record { one = ranged_one; more = λ other. by_number
   where
     ranged_one : method ≡ 1 → (1 ≤ k) × (k ≤ straus_most) × (p * k ≤ straus_most_bits)
     ranged_one is =
-        let t = neither _ _ (refuse_if-fine _ 3 0 (sym (is_one p method k is) ∙ e)) in
+        let t = neither _ _ (refuse_if_fine _ 3 0 (sym (is_one p method k is) ∙ e)) in
         let u = neither _ _ t.0 in
         (not_lt _ _ u.0, not_lt _ _ u.1, not_lt _ _ t.1)
 
     ranged : 2 ≤ method → method ≤ 3 → (2 ≤ method) × (method ≤ 3) × (1 ≤ k) × (k ≤ yao_most)
     ranged h g =
-        let u = neither _ _ (refuse_if-fine _ 3 0 (sym (is-more p method k h g) ∙ e)) in
+        let u = neither _ _ (refuse_if_fine _ 3 0 (sym (is_more p method k h g) ∙ e)) in
         (h, g, not_lt _ _ u.0, not_lt _ _ u.1)
 
     by_number : (method ≡ 1 → ⊥) → Dec (method ≡ 2) → Dec (method ≡ 3) → (2 ≤ method) × (method ≤ 3) × (1 ≤ k) × (k ≤ yao_most)

@@ -14,7 +14,7 @@ use Rattle.methods.specs.declared.Quote.{Quote}
 use Rattle.groups.specs.declared.Grouping.{Grouping}
 use Rattle.groups.specs.Groups.{most_inputs, tables_count}
 use Rattle.groups.specs.Inner.{Grouped, GroupedFor, part_numbers}
-use Rattle.groups.proofs.Measured.{as_given, grouped-count, numbers_at, numbers-long}
+use Rattle.groups.proofs.Measured.{as_given, grouped_count, numbers_at, numbers_long}
 use Rattle.partition.specs.Partition.{join_count, partition_count, partition_ceiling}
 use Rattle.partition.specs.Method.{partition_method}
 
@@ -44,7 +44,7 @@ pub joins_told : (s : Grouping) (amounts : List ℕ) (i : ℕ) (old cells : List
     → (r : ℕ) → r ≡ signs_to (take s.groups cells) (length (take s.groups cells)) - 1 → r ≡ join_count s.p s.q amounts s.c s.groups i
 joins_told s amounts i old cells e r is =
     is
-    ∙ ap (λ (n : ℕ). signs_to (take s.groups cells) n - 1) (sym (numbers-long s amounts i old cells e))
+    ∙ ap (λ (n : ℕ). signs_to (take s.groups cells) n - 1) (sym (numbers_long s amounts i old cells e))
     ∙ ap (λ (n : ℕ). n - 1) (sum_same s.groups _ _ (λ g h. ap sign (numbers_at s amounts i old cells e g h)))
 
 -- the squarings, the tables and the payslips of a grouped sheet; for the ceiling a payslip has a part of every group
@@ -53,16 +53,16 @@ pub quote_all : (s : Grouping) (amounts bits : List ℕ) → Grouped s amounts b
     → QuoteOf (record { count = s.squarings + b + r; ceiling = s.squarings + b + s.q * l }) (partition_method s.p s.q amounts s.c)
 unfolding partition_count partition_ceiling
 quote_all s amounts bits grouped b r l tables joins most =
-    let G = grouped-count grouped in
-    let before = ap₂ ◌+◌ grouped.squarings-are (tables ∙ ap₂ (tables_count s.c) grouped.inputs_are G) in
+    let G = grouped_count grouped in
+    let before = ap₂ ◌+◌ grouped.squarings_are (tables ∙ ap₂ (tables_count s.c) grouped.inputs_are G) in
     record {
-      count-is = ap₂ ◌+◌ before (joins ∙ ap (λ (n : ℕ). sum_to s.q (join_count s.p s.q amounts s.c n)) G);
-      ceiling-is = ap₂ ◌+◌ before (ap (λ (n : ℕ). s.q * n) (most ∙ ap (λ (n : ℕ). n - 1) G));
+      count_is = ap₂ ◌+◌ before (joins ∙ ap (λ (n : ℕ). sum_to s.q (join_count s.p s.q amounts s.c n)) G);
+      ceiling_is = ap₂ ◌+◌ before (ap (λ (n : ℕ). s.q * n) (most ∙ ap (λ (n : ℕ). n - 1) G));
     }
 
 -- few payslips with few parts each
-pub most-fits : (s : Grouping) (amounts bits : List ℕ) → Grouped s amounts bits → (l : ℕ) → l ≡ s.groups - 1 → s.q * l ≤ most_payslips * most_inputs
-most-fits s amounts bits grouped l e =
+pub most_fits : (s : Grouping) (amounts bits : List ℕ) → Grouped s amounts bits → (l : ℕ) → l ≡ s.groups - 1 → s.q * l ≤ most_payslips * most_inputs
+most_fits s amounts bits grouped l e =
     let low : l ≤ most_inputs = omega (arith, grouped.cuts.groups_few) in
     mul-le-mul grouped.sheet.q_low low
 

@@ -14,15 +14,15 @@ use Rattle.products.proofs.Product.{times_begins}
 use Rattle.products.proofs.Emitted.{emits_room, emits_on}
 use Rattle.tables.specs.Table.{entry}
 use Rattle.methods.specs.Powers.{counts_of}
-use Rattle.methods.proofs.Powers.{squarings-count}
+use Rattle.methods.proofs.Powers.{squarings_count}
 use Rattle.groups.specs.declared.Grouping.{Grouping}
 use Rattle.groups.specs.Groups.{column_squarings, group, group_count, input_count, inputs, selection, sheet_squarings, weigh}
 use Rattle.groups.specs.Inner.{table_at}
-use Rattle.groups.proofs.Measured.{grouped-count, numbers-long}
-use Rattle.groups.proofs.Members.{members-count, selection_two}
+use Rattle.groups.proofs.Measured.{grouped_count, numbers_long}
+use Rattle.groups.proofs.Members.{members_count, selection_two}
 use Rattle.groups.proofs.Parts.{part_number}
-use Rattle.groups.proofs.Prepared.{selection-long}
-use Rattle.subsets.proofs.Places.{table-place}
+use Rattle.groups.proofs.Prepared.{selection_long}
+use Rattle.subsets.proofs.Places.{table_place}
 use Rattle.partition_emit.specs.Inner.{Numbered, Ready, parts_by, payslip_of}
 use Rattle.partition.specs.Partition.{partition_payslip, parts}
 use Rattle.partition.proofs.Parts.{parts_begin}
@@ -49,9 +49,9 @@ module _ (s : Grouping) (members : List ℕ) (number : ℕ → ℕ) (before : Li
         → Emitted old cells' m' v' (parts_by s members number before (g + 1))
     part_on cells' m' v' f = rw (add-one g, ← next) (emits_on (λ r. times s.p r y) e (times_begins s.p _ y) f)
 
-  pub parts-end : (old cells : List ℕ) (m : Progress) (v g : ℕ) → Emitted old cells m v (parts_by s members number before g) → g ≤ s.groups → s.groups ≤ g
+  pub parts_end_lem : (old cells : List ℕ) (m : Progress) (v g : ℕ) → Emitted old cells m v (parts_by s members number before g) → g ≤ s.groups → s.groups ≤ g
       → Emitted old cells m v (parts_by s members number before s.groups)
-  parts-end old cells m v g e h k =
+  parts_end_lem old cells m v g e h k =
       let last : g ≡ s.groups = omega arith in
       subst (λ (n : ℕ). Emitted old cells m v (parts_by s members number before n)) last e
 
@@ -60,11 +60,11 @@ module _ {s : Grouping} {amounts bits members cells : List ℕ} (ready : Ready s
   abbrev squares : List Step
   squares = sheet_squarings s.p s.q amounts
 
-  pub members-long : length members ≡ s.inputs
-  members-long = ap length ready.members-are ∙ members-count s.p s.q amounts ∙ sym ready.grouped.inputs_are
+  pub members_long : length members ≡ s.inputs
+  members_long = ap length ready.members_are ∙ members_count s.p s.q amounts ∙ sym ready.grouped.inputs_are
 
   squared : length squares ≡ s.squarings
-  squared = squarings-count s.p (column_squarings s.p s.q amounts) s.p ∙ sym ready.grouped.squarings-are
+  squared = squarings_count s.p (column_squarings s.p s.q amounts) s.p ∙ sym ready.grouped.squarings_are
 
   module _ (i : ℕ) (numbers : List ℕ)
       (at : (g : ℕ) → g < s.groups → get_or numbers g 0 ≡ weigh (group s.c g (selection s.p s.q amounts i))) where
@@ -75,21 +75,21 @@ module _ {s : Grouping} {amounts bits members cells : List ℕ} (ready : Ready s
         → parts_by s members (counts_of numbers) before g ≡ parts s.p s.c members squares own before g
     parts_same before zero h = refl
     parts_same before (suc g) h =
-        let there = table-place s ready.grouped.cuts members squares members-long squared g h in
+        let there = table_place s ready.grouped.cuts members squares members_long squared g h in
         ap₂ (times s.p) (parts_same before g (omega arith)) (ap₂ (entry 1 (group s.c g members)) (sym there) (at g h))
 
-    pub payslip-is : (before : List Step) → parts_by s members (counts_of numbers) before s.groups ≡ payslip_of s amounts i before
-    payslip-is before =
+    pub payslip_is : (before : List Step) → parts_by s members (counts_of numbers) before s.groups ≡ payslip_of s amounts i before
+    payslip_is before =
         parts_same before s.groups (omega arith)
-        ∙ ap₂ (λ (m : List ℕ) (g : ℕ). parts s.p s.c m squares own before g) ready.members-are (grouped-count ready.grouped)
+        ∙ ap₂ (λ (m : List ℕ) (g : ℕ). parts s.p s.c m squares own before g) ready.members_are (grouped_count ready.grouped)
 
     pub payslip_numbered : length numbers ≡ s.groups → Numbered s members numbers
-    payslip_numbered long = record { cuts = ready.grouped.cuts; members-long = members-long; numbers-long = long; numbers-low = low }
+    payslip_numbered long = record { cuts = ready.grouped.cuts; members_long = members_long; numbers_long = long; numbers_low = low }
       where
         low : (g : ℕ) → g < s.groups → get_or numbers g 0 < 2 ^ (1 * length (group s.c g members))
         low g h =
-            rw (at g h, ready.members-are)
-            (part_number s.c (inputs s.p s.q amounts) own (selection-long s.p s.q amounts i) (selection_two s.p s.q amounts i) g)
+            rw (at g h, ready.members_are)
+            (part_number s.c (inputs s.p s.q amounts) own (selection_long s.p s.q amounts i) (selection_two s.p s.q amounts i) g)
 
 -- a payslip only appends steps
 pub payslip_begins : (p q : ℕ) (amounts : List ℕ) (c i : ℕ) (before : List Step) → Begins before (partition_payslip p q amounts c i before).steps

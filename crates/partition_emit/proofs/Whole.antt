@@ -9,14 +9,14 @@ use Rattle.products.specs.Inner.{steps_in, StepsStored}
 use Rattle.products.specs.declared.Progress.{Progress}
 use Rattle.products.proofs.Sound.{Begins, begins_length}
 use Rattle.methods.specs.Inner.{ChainRoom, ChainStored, PayslipsRoom}
-use Rattle.methods.proofs.Paying.{begin_room, payslips-room, chain-stored, paid_begins}
+use Rattle.methods.proofs.Paying.{begin_room, payslips_room, chain_stored, paid_begins}
 use Rattle.groups.specs.declared.Grouping.{Grouping}
 use Rattle.groups.specs.Groups.{most_inputs, sheet_tables}
 use Rattle.groups.specs.Inner.{Grouped, GroupedFor, GroupsMade, GroupsRoom}
-use Rattle.groups.proofs.Measured.{as_given, groups_room, sheet-stored}
+use Rattle.groups.proofs.Measured.{as_given, groups_room, sheet_stored}
 use Rattle.partition_emit.specs.Inner.{payslip_of, payslips_of}
 use Rattle.partition.specs.Partition.{partition, partition_count}
-use Rattle.partition.proofs.Partition.{partition-count}
+use Rattle.partition.proofs.Partition.{partition_count_lem}
 use Rattle.partition_emit.proofs.Paying.{payslip_begins}
 
 -- a grouped sheet and room for its chain
@@ -27,7 +27,7 @@ module _ {s : Grouping} {amounts bits : List ℕ} (grouped : Grouped s amounts b
 
   counted : length (payslips_of s amounts tables).steps ≡ partition_count s.p s.q amounts s.c
   unfolding partition
-  counted = partition-count s.p s.q amounts s.c
+  counted = partition_count_lem s.p s.q amounts s.c
 
   each : (i : ℕ) (before : List Step) → Begins before (payslip_of s amounts i before).steps
   each = payslip_begins s.p s.q amounts s.c
@@ -42,21 +42,21 @@ module _ {s : Grouping} {amounts bits : List ℕ} (grouped : Grouped s amounts b
   -- the payslips
   module _ {members₀ members cells : List ℕ} {r : Progress} (made : GroupsMade s bits members₀ old members cells r) where
     tabled : StepsStored old cells r tables
-    tabled = sheet-stored grouped made
+    tabled = sheet_stored grouped made
 
     pub slips_room : PayslipsRoom s.p s.q cells r (payslips_of s amounts (steps_in cells r.steps)).steps outputs
-    slips_room = payslips-room (payslip_of s amounts) each tables s.q grouped.cuts.columns fits counted tabled
+    slips_room = payslips_room (payslip_of s amounts) each tables s.q grouped.cuts.columns fits counted tabled
 
-    pub chain-whole : {cells' outputs' : List ℕ} {r' : Progress} → ChainStored cells outputs cells' outputs' r' (payslips_of s amounts (steps_in cells r.steps))
+    pub chain_whole : {cells' outputs' : List ℕ} {r' : Progress} → ChainStored cells outputs cells' outputs' r' (payslips_of s amounts (steps_in cells r.steps))
         → ChainStored old outputs cells' outputs' r' (partition s.p s.q amounts s.c)
     unfolding partition
-    chain-whole stored = chain-stored (payslip_of s amounts) each tables s.q tabled stored
+    chain_whole stored = chain_stored (payslip_of s amounts) each tables s.q tabled stored
 
 -- a sheet's grouping stands for what was given
 module _ {p q : ℕ} {amounts : List ℕ} {c : ℕ} {bits : List ℕ} {s : Grouping} (told : GroupedFor p q amounts c bits s) where
   pub room_given : {steps outputs : List ℕ} → ChainRoom q (partition_count p q amounts c) steps outputs
       → ChainRoom s.q (partition_count s.p s.q amounts s.c) steps outputs
-  room_given room = rw (told.same-p, told.same_q, told.same_c) room
+  room_given room = rw (told.same_p, told.same_q, told.same_c) room
 
   pub chain_given : {steps₀ outputs₀ steps outputs : List ℕ} {r' : Progress}
       → ChainStored steps₀ outputs₀ steps outputs r' (partition s.p s.q amounts s.c)

@@ -22,14 +22,14 @@ parts_by s members number before (suc g) =
 -- numbers of a payslip's parts, one for each group of these inputs
 pub record Numbered (s : Grouping) (members numbers : List ℕ) : Type 0 where
   pub cuts : Cuts s
-  pub members-long : length members ≡ s.inputs
-  pub numbers-long : length numbers ≡ s.groups
-  pub numbers-low : (g : ℕ) → g < s.groups → counts_of numbers g < 2 ^ (1 * length (group s.c g members))
+  pub members_long : length members ≡ s.inputs
+  pub numbers_long : length numbers ≡ s.groups
+  pub numbers_low : (g : ℕ) → g < s.groups → counts_of numbers g < 2 ^ (1 * length (group s.c g members))
 
 -- a grouped sheet, its inputs' value numbers, and a cell for each part of a payslip
 pub record Ready (s : Grouping) (amounts bits members cells : List ℕ) : Type 0 where
   pub grouped : Grouped s amounts bits
-  pub members-are : members ≡ inputs s.p s.q amounts
+  pub members_are : members ≡ inputs s.p s.q amounts
   pub room : most_inputs ≤ length cells
 
 -- payslip i of a grouped sheet, and all of them
@@ -48,6 +48,6 @@ pub record PayslipRoom (s : Grouping) (amounts bits members cells steps : List �
 -- a grouped sheet, cells for its inputs and for the parts of a payslip, and room for its chain
 pub record SheetRoom (s : Grouping) (amounts bits members cells steps outputs : List ℕ) : Type 0 where
   pub grouped : Grouped s amounts bits
-  pub members-room : most_inputs ≤ length members
-  pub cells-room : most_inputs ≤ length cells
+  pub members_room : most_inputs ≤ length members
+  pub cells_room : most_inputs ≤ length cells
   pub fits : ChainRoom s.q (partition_count s.p s.q amounts s.c) steps outputs

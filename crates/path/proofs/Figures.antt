@@ -14,10 +14,10 @@ use Rattle.run.proofs.Runnable.{runnable}
 use Rattle.run.proofs.Residues.{figure_law}
 
 -- figure i of the run is the product of the bases raised to payslip i's amounts, reduced by the modulus
-pub checked-figures : (p : ℕ) (steps : List Step) (outputs amounts : List ℕ) (scratch m : ℕ) (bases : List ℕ) (room places : ℕ)
+pub checked_figures : (p : ℕ) (steps : List Step) (outputs amounts : List ℕ) (scratch m : ℕ) (bases : List ℕ) (room places : ℕ)
     → verify_rule p steps outputs amounts scratch ≡ fine → run_rule p steps outputs m bases room places ≡ fine
     → (i : ℕ) → i < length outputs → get_or (pick (residues m bases steps) outputs) i 0 ≡ figure p m bases amounts i
-checked-figures p steps outputs amounts scratch m bases room places passed runs i h =
+checked_figures p steps outputs amounts scratch m bases room places passed runs i h =
     let a = runnable p steps outputs m bases room places runs in
-    figure_law p m bases steps a.bases-are-p a.bases-low a.steps-fine outputs amounts i h
+    figure_law p m bases steps a.bases_are_p a.bases_low a.steps_fine outputs amounts i h
     ((verify_passes p steps outputs amounts scratch passed).made i h)

@@ -8,13 +8,13 @@ use Rattle.chain.specs.Verdict.{fine}
 use Rattle.chain.specs.Chain.{Chain, most_amount, most_steps, Legal, pick}
 use Rattle.chain.proofs.Rules.{pass, refuse_no, or_none, lt_no}
 use Rattle.chain.proofs.Sizes.{Sizes}
-use Rattle.chain.proofs.Limits.{outputs-low}
-use Rattle.chain.proofs.Legal.{parts_legal, parts-chain}
+use Rattle.chain.proofs.Limits.{outputs_low}
+use Rattle.chain.proofs.Legal.{parts_legal, parts_chain}
 use Rattle.residue.specs.Residue.{figure}
 use Rattle.verify.specs.Verify.{scratch_size, verify_rule}
 use Rattle.verify.proofs.Passing.{Passing, passes_verify}
 use Rattle.run.specs.Run.{residues, run_rule}
-use Rattle.run.proofs.Runnable.{runs-fine}
+use Rattle.run.proofs.Runnable.{runs_fine}
 use Rattle.run.proofs.Residues.{figure_law}
 use Rattle.layout.specs.Layout.{edition1}
 use Rattle.layout.specs.File.{byte_count, file_of, Held, write_rule, read_rule}
@@ -66,7 +66,7 @@ module _ (p q : ℕ) (amounts : List ℕ) (method k : ℕ) (low : (j : ℕ) → 
   legal : Legal p c.steps c.outputs
   legal =
       parts_legal p c.steps c.outputs
-      (record { sizes = sizes; few = few; chain = parts-chain p c.steps c.outputs right.steps_legal right.outputs_legal })
+      (record { sizes = sizes; few = few; chain = parts_chain p c.steps c.outputs right.steps_legal right.outputs_legal })
 
   held : Held edition1 p c.steps c.outputs
   held = legal_held p c.steps c.outputs legal
@@ -93,14 +93,14 @@ module _ (p q : ℕ) (amounts : List ℕ) (method k : ℕ) (low : (j : ℕ) → 
         passes = λ x h. passes_verify p c.steps c.outputs amounts x made (omega (arith, right.counted));
         runs =
             λ m bases some len under room places h g.
-            runs-fine p c.steps c.outputs m bases room places
+            runs_fine p c.steps c.outputs m bases room places
             (record {
               sizes = sizes;
               modulus = some;
-              bases-are-p = len;
-              bases-low = under;
-              steps-fine = right.steps_legal;
-              outputs-within = outputs-low (p + length c.steps) 1 c.outputs right.outputs_legal;
+              bases_are_p = len;
+              bases_low = under;
+              steps_fine = right.steps_legal;
+              outputs_within = outputs_low (p + length c.steps) 1 c.outputs right.outputs_legal;
               values_fit = omega (arith, right.counted);
               figures_fit = omega (arith, right.outputs);
             })

@@ -7,8 +7,8 @@ use Rattle.chain.specs.Verdict.{Verdict, fine, refused, ◌then◌, Answer, done
 use Rattle.chain.specs.Chain.{Chain, most_amount}
 use Rattle.chain.specs.Chain as spec
 use Rattle.chain.specs.declared.Step.{Step}
-use Rattle.chain.proofs.Rules.{stop, pass, then_fine, then_assoc, answer-refused, answer-done, kept, renewed}
-use Rattle.chain.proofs.Told.{verdict_in, told, told-values}
+use Rattle.chain.proofs.Rules.{stop, pass, then_fine, then_assoc, answer_refused, answer_done, kept, renewed}
+use Rattle.chain.proofs.Told.{verdict_in, told, told_values_lem}
 use Rattle.answers.specs.Answers.{ran_of, read_of}
 use Rattle.answers.specs.declared.Counts.{Counts}
 use Rattle.answers.specs.declared.Ran.{Ran}
@@ -21,20 +21,20 @@ use Rattle.reading.proofs.Told.{ChainTaken, taken}
 use Rattle.quote.specs.ByMethod.{count}
 use Rattle.compile.specs.Compile.{compile_steps, compile_outputs}
 use Rattle.dispatch.specs.Inner.{dispatch_answer, dispatch_steps, dispatch_outputs, Dispatched}
-use Rattle.dispatch.proofs.Dispatching.{after-answer}
+use Rattle.dispatch.proofs.Dispatching.{after_answer}
 use Rattle.receive.specs.Inner.{receive_answer, receive_values, receive_figures, Received}
 use Rattle.path.specs.Path.{Lent, lent, compiled, written, compiles, writes, reads, checks, runs, path_answer, path_leaves}
 use Rattle.path.specs.Demand3.{Demand3}
 use Rattle.path.proofs.Demand3.{demand_3}
 
 -- the slices are those of another list of eight
-same-lent : {a b c d e f g h a' b' c' d' e' f' g' h' : List ℕ}
+same_lent : {a b c d e f g h a' b' c' d' e' f' g' h' : List ℕ}
     → a ≡ a' → b ≡ b' → c ≡ c' → d ≡ d' → e ≡ e' → f ≡ f' → g ≡ g' → h ≡ h' → lent a b c d e f g h ≡ lent a' b' c' d' e' f' g' h'
-same-lent ea eb ec ed ee ef eg eh = rw (ea, eb, ec, ed, ee, ef, eg, eh)
+same_lent ea eb ec ed ee ef eg eh = rw (ea, eb, ec, ed, ee, ef, eg, eh)
 
 -- a slice that a call leaves by its verdict, which is another's too
-by-verdict : (v w : Verdict) (new old t : List ℕ) → v ≡ w → t ≡ on_fine v new old → t ≡ on_fine w new old
-by-verdict v w new old t e f = f ∙ ap (λ (x : Verdict). on_fine x new old) e
+by_verdict : (v w : Verdict) (new old t : List ℕ) → v ≡ w → t ≡ on_fine v new old → t ≡ on_fine w new old
+by_verdict v w new old t e f = f ∙ ap (λ (x : Verdict). on_fine x new old) e
 
 module _ (p q : ℕ) (amounts : List ℕ) (method k : ℕ) (low : (j : ℕ) → get_or amounts j 0 ≤ most_amount) (l : Lent) (m : ℕ) (bases : List ℕ) where
   -- what the function promises
@@ -66,8 +66,8 @@ module _ (p q : ℕ) (amounts : List ℕ) (method k : ℕ) (low : (j : ℕ) → 
   abbrev checking : Verdict
   checking = checks p q amounts method k l
 
-  abbrev ran-last : Verdict
-  ran-last = runs p q amounts method k l m bases
+  abbrev ran_last : Verdict
+  ran_last = runs p q amounts method k l m bases
 
   module _ (steps' outputs' : List ℕ) (es : steps' ≡ compile_steps p q amounts method k (length l.outputs) l.steps)
       (eo : outputs' ≡ compile_outputs p q amounts method k (length l.steps / 2) l.outputs) where
@@ -75,8 +75,8 @@ module _ (p q : ℕ) (amounts : List ℕ) (method k : ℕ) (low : (j : ℕ) → 
         → Fulfilled (refusal n s) (lent steps' outputs' l.bytes l.steps_read l.outputs_read l.scratch l.values l.figures)
     unfolding path_answer path_leaves
     not_compiled n s v =
-        fulfilled _ _ (answer-refused _ _ n s (stop _ _ n s v))
-        (same-lent es eo (kept _ _ l.bytes n s v) (kept _ _ l.steps_read n s (stop _ _ n s v)) (kept _ _ l.outputs_read n s (stop _ _ n s v))
+        fulfilled _ _ (answer_refused _ _ n s (stop _ _ n s v))
+        (same_lent es eo (kept _ _ l.bytes n s v) (kept _ _ l.steps_read n s (stop _ _ n s v)) (kept _ _ l.outputs_read n s (stop _ _ n s v))
         (kept _ _ l.scratch n s (stop _ _ n s v))
         (kept _ _ l.values n s (stop _ _ n s v))
         (kept _ _ l.figures n s (stop _ _ n s v)))
@@ -101,14 +101,14 @@ module _ (p q : ℕ) (amounts : List ℕ) (method k : ℕ) (low : (j : ℕ) → 
       not_dispatched n c e =
           let d : refused n c ≡ (writing then file_read) = sym (ap (λ (x : Reading). verdict_in (read_of x)) e) ∙ found in
           let later : (x : Verdict) → refused n c ≡ (compiling then writing then file_read then x) = λ x. pass _ _ _ v (stop _ x n c d ∙ then_assoc _ _ x) in
-          fulfilled _ _ (answer-refused _ _ n c (later _))
-          (same-lent es eo bytes_left (by-verdict _ _ _ _ _ (pass _ _ _ v refl) sent.steps-left)
-          (by-verdict _ _ _ _ _ (pass _ _ _ v refl) sent.outputs-left)
+          fulfilled _ _ (answer_refused _ _ n c (later _))
+          (same_lent es eo bytes_left (by_verdict _ _ _ _ _ (pass _ _ _ v refl) sent.steps_left_lem)
+          (by_verdict _ _ _ _ _ (pass _ _ _ v refl) sent.outputs_left)
           (kept _ _ l.scratch n c (pass _ _ _ v d))
           (kept _ _ l.values n c (later _))
           (kept _ _ l.figures n c (later _)))
 
-      module _ (columns payslips : ℕ) (read-counts : Counts) (is : r ≡ reading.Chain columns payslips read-counts) where
+      module _ (columns payslips : ℕ) (read_counts : Counts) (is : r ≡ reading.Chain columns payslips read_counts) where
         both : fine ≡ (writing then file_read)
         both = sym (ap (λ (x : Reading). verdict_in (read_of x)) is) ∙ found
 
@@ -119,14 +119,14 @@ module _ (p q : ℕ) (amounts : List ℕ) (method k : ℕ) (low : (j : ℕ) → 
         was_read = sym (then_fine _ _ (sym both)).1
 
         -- what reading the file would have answered and left by itself
-        pub read_alone : ChainTaken edition1 file stepsRead' outputsRead' columns payslips read-counts.steps
+        pub read_alone : ChainTaken edition1 file stepsRead' outputsRead' columns payslips read_counts.steps
         unfolding dispatch_answer dispatch_steps dispatch_outputs read_answer
         read_alone =
             taken edition1 file l.steps_read l.outputs_read r
-            (sent.answered ∙ sym (after-answer _ _ _ wrote))
-            columns payslips read-counts is stepsRead' outputsRead'
-            (sent.steps-left ∙ sym (renewed _ _ l.steps_read _ wrote refl))
-            (sent.outputs-left ∙ sym (renewed _ _ l.outputs_read _ wrote refl))
+            (sent.answered ∙ sym (after_answer _ _ _ wrote))
+            columns payslips read_counts is stepsRead' outputsRead'
+            (sent.steps_left_lem ∙ sym (renewed _ _ l.steps_read _ wrote refl))
+            (sent.outputs_left ∙ sym (renewed _ _ l.outputs_read _ wrote refl))
 
         -- after the calls that found nothing
         three_calls : (x y : Verdict) → x ≡ y → x ≡ (compiling then writing then file_read then y)
@@ -140,34 +140,34 @@ module _ (p q : ℕ) (amounts : List ℕ) (method k : ℕ) (low : (j : ℕ) → 
               scratch' values' figures'
           got = rw (p-is, s-is', o-is') at received
 
-          last_two : verdict_in (ran_of a) ≡ (checking then ran-last)
+          last_two : verdict_in (ran_of a) ≡ (checking then ran_last)
           unfolding receive_answer
           last_two = told _ _ _ got.answered
 
           all_left : lent steps' outputs' bytes' stepsRead' outputsRead' scratch' values' figures' ≡ path_leaves p q amounts method k l m bases
           unfolding path_leaves dispatch_steps dispatch_outputs receive_values receive_figures
           all_left =
-              same-lent es eo bytes_left (by-verdict _ _ _ _ _ (pass _ _ _ v refl) sent.steps-left)
-              (by-verdict _ _ _ _ _ (pass _ _ _ v refl) sent.outputs-left)
-              (renewed _ _ l.scratch scratch' (pass _ _ _ v both) got.scratch-left)
-              (by-verdict _ _ _ _ _ (three_calls _ _ refl) got.values-left)
-              (by-verdict _ _ _ _ _ (three_calls _ _ refl) got.figures-left)
+              same_lent es eo bytes_left (by_verdict _ _ _ _ _ (pass _ _ _ v refl) sent.steps_left_lem)
+              (by_verdict _ _ _ _ _ (pass _ _ _ v refl) sent.outputs_left)
+              (renewed _ _ l.scratch scratch' (pass _ _ _ v both) got.scratch_left)
+              (by_verdict _ _ _ _ _ (three_calls _ _ refl) got.values_left)
+              (by_verdict _ _ _ _ _ (three_calls _ _ refl) got.figures_left_lem)
 
           pub not_received : (number place : ℕ) → a ≡ ran.Refused number place
               → Fulfilled (refusal number place) (lent steps' outputs' bytes' stepsRead' outputsRead' scratch' values' figures')
           unfolding path_answer
           not_received number place e =
               fulfilled _ _
-              (answer-refused _ _ number place (three_calls _ _ (sym (ap (λ (x : Ran). verdict_in (ran_of x)) e) ∙ last_two)))
+              (answer_refused _ _ number place (three_calls _ _ (sym (ap (λ (x : Ran). verdict_in (ran_of x)) e) ∙ last_two)))
               all_left
 
           pub all_done : (made : Counts) → a ≡ ran.Multiplications made
-              → Fulfilled (done (compiled' ∷ read-counts.steps ∷ made.steps ∷ [])) (lent steps' outputs' bytes' stepsRead' outputsRead' scratch' values' figures')
+              → Fulfilled (done (compiled' ∷ read_counts.steps ∷ made.steps ∷ [])) (lent steps' outputs' bytes' stepsRead' outputsRead' scratch' values' figures')
           unfolding path_answer receive_answer spec.counts
           all_done made e =
-              let long : read-counts.steps ≡ length_of edition1 file = read_alone.long in
-              let told-made = told-values _ _ _ (sym (ap ran_of e) ∙ got.answered) in
+              let long : read_counts.steps ≡ length_of edition1 file = read_alone.long in
+              let told-made = told_values_lem _ _ _ (sym (ap ran_of e) ∙ got.answered) in
               let said : made.steps ≡ length (steps_of edition1 file) = ap (λ (x : List ℕ). get_or x 0 0) told-made in
               fulfilled _ _
-              (rw (counted, long, said) (answer-done _ _ (three_calls _ _ (sym (ap (λ (x : Ran). verdict_in (ran_of x)) e) ∙ last_two))))
+              (rw (counted, long, said) (answer_done _ _ (three_calls _ _ (sym (ap (λ (x : Ran). verdict_in (ran_of x)) e) ∙ last_two))))
               all_left

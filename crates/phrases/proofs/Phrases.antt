@@ -30,10 +30,10 @@ starts_rise [] n h = absurd (omega arith)
 starts_rise (l ∷ r) zero h = omega arith
 starts_rise (l ∷ r) (suc n) h = omega (arith, starts_rise r n (omega arith))
 
-pub starts-within : (ls : List (List ℕ)) (n : ℕ) → start_of ls n ≤ length (in_aRow ls)
-starts-within ls zero = omega arith
-starts-within [] (suc n) = omega arith
-starts-within (l ∷ r) (suc n) = omega (arith, length-append l (in_aRow r), starts-within r n)
+pub starts_within : (ls : List (List ℕ)) (n : ℕ) → start_of ls n ≤ length (in_aRow ls)
+starts_within ls zero = omega arith
+starts_within [] (suc n) = omega arith
+starts_within (l ∷ r) (suc n) = omega (arith, length-append l (in_aRow r), starts_within r n)
 
 -- all starts as a list, the first one being k
 abbrev pub starts_from : ℕ → List (List ℕ) → List ℕ
@@ -57,33 +57,33 @@ module _ (number : ℕ) where
   unfolding place_of
   place_known h = search choosing
 
-  place-between : length phrases ≤ number → number < first_fault → 0 ≡ place_of number
+  place_between : length phrases ≤ number → number < first_fault → 0 ≡ place_of number
   unfolding place_of
-  place-between h g = search choosing
+  place_between h g = search choosing
 
   place_fault : first_fault ≤ number → number < first_fault + length fault_phrases → number - first_fault + length phrases ≡ place_of number
   unfolding place_of
   place_fault h g = let k : length phrases ≤ number = omega arith in search choosing
 
-  place-past : first_fault + length fault_phrases ≤ number → 0 ≡ place_of number
+  place_past : first_fault + length fault_phrases ≤ number → 0 ≡ place_of number
   unfolding place_of
-  place-past h = let k : length phrases ≤ number = omega arith in let j : first_fault ≤ number = omega arith in search choosing
+  place_past h = let k : length phrases ≤ number = omega arith in let j : first_fault ≤ number = omega arith in search choosing
 
-  pub place-low : place_of number < length all_phrases
-  place-low = by_size (dec_lt number (length phrases)) (dec_lt number first_fault) (dec_lt number (first_fault + length fault_phrases))
+  pub place_low : place_of number < length all_phrases
+  place_low = by_size (dec_lt number (length phrases)) (dec_lt number first_fault) (dec_lt number (first_fault + length fault_phrases))
     where
       by_size : Dec (number < length phrases) → Dec (number < first_fault) → Dec (number < first_fault + length fault_phrases) → place_of number < length all_phrases
       by_size (yes h) g k = omega (arith, place_known h)
-      by_size (no h) (yes g) k = omega (arith, place-between (omega arith) g)
+      by_size (no h) (yes g) k = omega (arith, place_between (omega arith) g)
       by_size (no h) (no g) (yes k) = omega (arith, place_fault (omega arith) k)
-      by_size (no h) (no g) (no k) = omega (arith, place-past (omega arith))
+      by_size (no h) (no g) (no k) = omega (arith, place_past (omega arith))
 
   there : (d : List ℕ) (n : ℕ) → n ≡ place_of number → get_or all_phrases n no_phrase ≡ d → get_or all_phrases (place_of number) no_phrase ≡ d
   there d n e f = rw e at f
 
-  phrase-there : get_or all_phrases (place_of number) no_phrase ≡ phrase number
+  phrase_there : get_or all_phrases (place_of number) no_phrase ≡ phrase number
   unfolding phrase
-  phrase-there = by_size (dec_lt number (length phrases)) (dec_lt number first_fault) (dec_lt number (first_fault + length fault_phrases))
+  phrase_there = by_size (dec_lt number (length phrases)) (dec_lt number first_fault) (dec_lt number (first_fault + length fault_phrases))
     where
       known : number < first_fault → get_or phrases number no_phrase ≡ phrase number
       known g = rw (lt_yes number first_fault g)
@@ -95,41 +95,41 @@ module _ (number : ℕ) where
       by_size (yes h) g k =
           there (phrase number) number (place_known h) (get_or-append phrases fault_phrases no_phrase number h ∙ known (omega arith))
       by_size (no h) (yes g) k =
-          there (phrase number) 0 (place-between (omega arith) g) (sym (get_or-eq_default phrases no_phrase {n = number} (omega arith)) ∙ known g)
+          there (phrase number) 0 (place_between (omega arith) g) (sym (get_or-eq_default phrases no_phrase {n = number} (omega arith)) ∙ known g)
       by_size (no h) (no g) (yes k) =
           there (phrase number) (number - first_fault + length phrases) (place_fault (omega arith) k)
           (second phrases fault_phrases (number - first_fault) no_phrase ∙ fault (omega arith))
       by_size (no h) (no g) (no k) =
-          there (phrase number) 0 (place-past (omega arith))
+          there (phrase number) 0 (place_past (omega arith))
           (sym (get_or-eq_default fault_phrases no_phrase {n = number - first_fault} (omega arith)) ∙ fault (omega arith))
 
   -- cut by the numbers that the code has
   module _ (n from end : ℕ) (is : n ≡ place_of number) (begins : from ≡ start_of all_phrases n) (ends : end ≡ start_of all_phrases (n + 1)) where
-    pub phrase-cut : take (end - from) (drop from (in_aRow all_phrases)) ≡ phrase number
-    phrase-cut = rw (begins, ends, is, add-one (place_of number)) (cut all_phrases (place_of number) no_phrase place-low) ∙ phrase-there
+    pub phrase_cut : take (end - from) (drop from (in_aRow all_phrases)) ≡ phrase number
+    phrase_cut = rw (begins, ends, is, add-one (place_of number)) (cut all_phrases (place_of number) no_phrase place_low) ∙ phrase_there
 
-    pub phrase-rises : from ≤ end
-    phrase-rises = rw (begins, ends, is, add-one (place_of number)) (starts_rise all_phrases (place_of number) place-low)
+    pub phrase_rises : from ≤ end
+    phrase_rises = rw (begins, ends, is, add-one (place_of number)) (starts_rise all_phrases (place_of number) place_low)
 
-    pub phrase-within : end ≤ length (in_aRow all_phrases)
-    phrase-within = rw ends (starts-within all_phrases (n + 1))
+    pub phrase_within : end ≤ length (in_aRow all_phrases)
+    phrase_within = rw ends (starts_within all_phrases (n + 1))
 
     pub phrase-length : end - from ≡ length (phrase number)
     phrase-length =
-        let rise = phrase-rises in
-        let within = phrase-within in
-        rw (← phrase-cut) (omega (arith, length-take (end - from) (drop from (in_aRow all_phrases)), length-drop from (in_aRow all_phrases)))
+        let rise = phrase_rises in
+        let within = phrase_within in
+        rw (← phrase_cut) (omega (arith, length-take (end - from) (drop from (in_aRow all_phrases)), length-drop from (in_aRow all_phrases)))
 
 -- the phrase fits, or not: what is returned, told and written
 module _ (number : ℕ) (text : List ℕ) where
   module _ (short : length text < length (phrase number)) where
-    pub phrase-refused : (5 ≡ phrase_number number (length text)) ×
+    pub phrase_refused : (5 ≡ phrase_number number (length text)) ×
         ((0 ∷ 0 ∷ 0 ∷ 0 ∷ 0 ∷ 0 ∷ 0 ∷ 0 ∷ [] ≡ phrase_words number (length text)) × (text ≡ phrase_text number text))
     unfolding phrase_number phrase_words phrase_text lacks
-    phrase-refused = (search choosing, (search choosing, search choosing))
+    phrase_refused = (search choosing, (search choosing, search choosing))
 
   module _ (n : ℕ) (text' : List ℕ) (room : length (phrase number) ≤ length text) (long : n ≡ length (phrase number)) (put : text' ≡ over (phrase number) text) where
-    pub phrase-told : (0 ≡ phrase_number number (length text)) ×
+    pub phrase_told : (0 ≡ phrase_number number (length text)) ×
         ((n ∷ 0 ∷ 0 ∷ 0 ∷ 0 ∷ 0 ∷ 0 ∷ 0 ∷ [] ≡ phrase_words number (length text)) × (text' ≡ phrase_text number text))
     unfolding phrase_number phrase_words phrase_text lacks
-    phrase-told = (search choosing, (rw long (search choosing), search choosing))
+    phrase_told = (search choosing, (rw long (search choosing), search choosing))

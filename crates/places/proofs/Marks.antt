@@ -12,9 +12,9 @@ use Rattle.chain.proofs.Rules.{ne_yes, or_right}
 use Rattle.places.specs.Places.{mark_length, body_of}
 
 module _ (text : List ℕ) where
-  pub mark-short : length text < 3 → 0 ≡ mark_length text
+  pub mark_short : length text < 3 → 0 ≡ mark_length text
   unfolding mark_length
-  mark-short h =
+  mark_short h =
       let none : get_or text 2 0 ≡ 0 = get_or-eq_default text 0 (omega arith) in
       let no : get_or text 2 0 ≡ 191 → ⊥ = λ e. omega arith in
       rw (or_right (get_or text 0 0 ≠? 239) _ (or_right (get_or text 1 0 ≠? 187) _ (ne_yes _ _ no)))
@@ -27,16 +27,16 @@ module _ (text : List ℕ) where
       by_test true = omega arith
       by_test false = omega arith
 
-  pub mark-within : mark_length text ≤ length text
-  mark-within = by_size (dec_lt (length text) 3)
+  pub mark_within : mark_length text ≤ length text
+  mark_within = by_size (dec_lt (length text) 3)
     where
       by_size : Dec (length text < 3) → mark_length text ≤ length text
-      by_size (yes h) = omega (arith, mark-short h)
+      by_size (yes h) = omega (arith, mark_short h)
       by_size (no h) = omega (arith, most)
 
   -- where the mark ends, as the code has it, and the text from there on
   pub start_within : (start : ℕ) → start ≡ mark_length text → start ≤ length text
-  start_within start e = omega (arith, mark-within)
+  start_within start e = omega (arith, mark_within)
 
   pub body_part : (start : ℕ) → start ≡ mark_length text → take (length text - start) (drop start text) ≡ body_of text
   body_part start e = rw e (take_all (length text - mark_length text) (drop (mark_length text) text) (omega (arith, length-drop (mark_length text) text)))

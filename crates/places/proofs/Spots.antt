@@ -22,8 +22,8 @@ module _ (text : List ℕ) (place : ℕ) where
   spot_start = refl
 
   module _ (spot : Spot) (i : ℕ) (w : Spot) (e : w ≡ spot_left text place spot i) where
-    pub spot-next : (s : Spot) → i < length text → i + 1 < place → s ≡ after_byte spot (get_or text i 0) → w ≡ spot_left text place s (i + 1)
-    spot-next s h g f =
+    pub spot_next : (s : Spot) → i < length text → i + 1 < place → s ≡ after_byte spot (get_or text i 0) → w ≡ spot_left text place s (i + 1)
+    spot_next s h g f =
         let short : i < length (take (place - 1) text) = simp length-take (omega arith) in
         let part : List ℕ = take (place - 1) text in
         let byte : get_or part i 0 ≡ get_or text i 0 = get_or-take (place - 1) text i 0 (omega arith) in
@@ -31,14 +31,14 @@ module _ (text : List ℕ) (place : ℕ) where
         rw (add-one i) (drop-cons part i 0 short ∙ ap (λ (b : ℕ). b ∷ drop (suc i) part) byte) in
         e ∙ ap (after_bytes spot) n ∙ ap (λ (t : Spot). after_bytes t (drop (i + 1) (take (place - 1) text))) (sym f)
 
-    spot-end : length (take (place - 1) text) ≤ i → spot ≡ w
-    spot-end h = ap (after_bytes spot) (sym (drop_of_length-le (take (place - 1) text) h)) ∙ sym e
+    spot_end : length (take (place - 1) text) ≤ i → spot ≡ w
+    spot_end h = ap (after_bytes spot) (sym (drop_of_length-le (take (place - 1) text) h)) ∙ sym e
 
     pub spot_past : length text ≤ i → spot ≡ w
-    spot_past h = spot-end (simp length-take (omega arith))
+    spot_past h = spot_end (simp length-take (omega arith))
 
     pub spot_reached : place ≤ i + 1 → spot ≡ w
-    spot_reached h = spot-end (simp length-take (omega arith))
+    spot_reached h = spot_end (simp length-take (omega arith))
 
 -- a byte moves the line and the column by 1 at most
 module _ (spot s : Spot) (b : ℕ) (e : s ≡ after_byte spot b) where

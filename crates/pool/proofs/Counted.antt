@@ -6,18 +6,18 @@ use Rattle.chain.proofs.Rules.{not_fine}
 use Rattle.pool.specs.Pool.{counted}
 
 module _ (k : ℕ) (v : Verdict) where
-  pub counted-refused : (n s : ℕ) → refused n s ≡ v → refused n (k + s) ≡ counted k v
+  pub counted_refused : (n s : ℕ) → refused n s ≡ v → refused n (k + s) ≡ counted k v
   unfolding counted
-  counted-refused n s e = rw (← e)
+  counted_refused n s e = rw (← e)
 
-  pub counted-passed : fine ≡ v → fine ≡ counted k v
+  pub counted_passed : fine ≡ v → fine ≡ counted k v
   unfolding counted
-  counted-passed e = rw (← e)
+  counted_passed e = rw (← e)
 
-pub counted-fine : (k : ℕ) (v : Verdict) → counted k v ≡ fine → v ≡ fine
+pub counted_fine : (k : ℕ) (v : Verdict) → counted k v ≡ fine → v ≡ fine
 unfolding counted
-counted-fine k fine e = refl
-counted-fine k (refused n s) e = absurd (not_fine e)
+counted_fine k fine e = refl
+counted_fine k (refused n s) e = absurd (not_fine e)
 
 -- `v` is what was told of the second part, `u` what is told on
 pub counted_on : (k : ℕ) (v w u : Verdict) → v ≡ w → u ≡ counted k v → u ≡ counted k w

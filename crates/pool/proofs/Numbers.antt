@@ -19,15 +19,15 @@ module _ (p n : ℕ) where
   renumbered_step_lem v h = rw (lt_yes p v h)
 
 -- where nothing is added, all numbers stay
-pub renumbered-none : (p : ℕ) (l : List ℕ) → map (renumbered p 0) l ≡ l
-renumbered-none p [] = refl
-renumbered-none p (v ∷ l) = ap₂ (λ (x : ℕ) (r : List ℕ). x ∷ r) (by_size (dec_lt p v)) (renumbered-none p l)
+pub renumbered_none : (p : ℕ) (l : List ℕ) → map (renumbered p 0) l ≡ l
+renumbered_none p [] = refl
+renumbered_none p (v ∷ l) = ap₂ (λ (x : ℕ) (r : List ℕ). x ∷ r) (by_size (dec_lt p v)) (renumbered_none p l)
   where
     by_size : Dec (p < v) → renumbered p 0 v ≡ v
     by_size (yes made) = renumbered_step_lem p 0 v made ∙ omega arith
     by_size (no start) = renumbered_start p 0 v (omega arith)
 
 -- renumbered steps in turn are the numbers renumbered
-pub flat-renumbered : (p n : ℕ) (steps : List Step) → flat (map (renumbered_step p n) steps) ≡ map (renumbered p n) (flat steps)
-flat-renumbered p n [] = refl
-flat-renumbered p n (x ∷ r) = ap (λ (l : List ℕ). renumbered p n x.first ∷ renumbered p n x.second ∷ l) (flat-renumbered p n r)
+pub flat_renumbered : (p n : ℕ) (steps : List Step) → flat (map (renumbered_step p n) steps) ≡ map (renumbered p n) (flat steps)
+flat_renumbered p n [] = refl
+flat_renumbered p n (x ∷ r) = ap (λ (l : List ℕ). renumbered p n x.first ∷ renumbered p n x.second ∷ l) (flat_renumbered p n r)

@@ -3,7 +3,7 @@ use mathlib.Core.Path.{◌≡◌}
 use Prim.Native.Nat.{ℕ, ◌+◌, ◌≤◌}
 use Rattle.chain.specs.Verdict.{fine}
 use Rattle.chain.specs.Chain.{most_payslips, most_steps}
-use Rattle.chain.proofs.Rules.{then_fine, refuse_if-fine, not_lt}
+use Rattle.chain.proofs.Rules.{then_fine, refuse_if_fine, not_lt}
 use Rattle.chain.proofs.Sizes.{Sizes, sizes_fit, length-fits}
 use Rattle.pool.specs.Pool.{both_sizes_rule, both_lengths_rule}
 
@@ -17,7 +17,7 @@ unfolding both_sizes_rule
 both_sizes_fit p q p' q' e =
     let a = then_fine _ _ e in
     let b = then_fine _ _ a.1 in
-    record { first = sizes_fit p q a.0; second = sizes_fit p' q' b.0; together = not_lt _ _ (refuse_if-fine _ 1 0 b.1) }
+    record { first = sizes_fit p q a.0; second = sizes_fit p' q' b.0; together = not_lt _ _ (refuse_if_fine _ 1 0 b.1) }
 
 pub record BothLengths (n n' : ℕ) : Type 0 where
   pub first : n ≤ most_steps

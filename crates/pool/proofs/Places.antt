@@ -25,17 +25,17 @@ place_step : (k v s : ℕ) (x : Step) → s ≤ k → place_in (step_rule v s x)
 unfolding step_rule
 place_step k v s x h = place_then k _ _ (place_if k _ 9 s h) (place_then k _ _ (place_if k _ 10 s h) (place_if k _ 11 s h))
 
-place-steps : (k p s : ℕ) (l : List Step) → s + length l ≤ k + 1 → place_in (steps_rule p s l) ≤ k
-place-steps k p s [] h = omega arith
-place-steps k p s (x ∷ l) h = place_then k _ _ (place_step k (p + s) s x (omega arith)) (place-steps k p (suc s) l (omega arith))
+place_steps : (k p s : ℕ) (l : List Step) → s + length l ≤ k + 1 → place_in (steps_rule p s l) ≤ k
+place_steps k p s [] h = omega arith
+place_steps k p s (x ∷ l) h = place_then k _ _ (place_step k (p + s) s x (omega arith)) (place_steps k p (suc s) l (omega arith))
 
-place-outputs : (k top i : ℕ) (l : List ℕ) → i + length l ≤ k + 1 → place_in (outputs_rule top i l) ≤ k
-place-outputs k top i [] h = omega arith
-place-outputs k top i (o ∷ l) h = place_then k _ _ (place_if k _ 12 i (omega arith)) (place-outputs k top (suc i) l (omega arith))
+place_outputs : (k top i : ℕ) (l : List ℕ) → i + length l ≤ k + 1 → place_in (outputs_rule top i l) ≤ k
+place_outputs k top i [] h = omega arith
+place_outputs k top i (o ∷ l) h = place_then k _ _ (place_if k _ 12 i (omega arith)) (place_outputs k top (suc i) l (omega arith))
 
 -- `v` is the verdict that was told
-pub steps-place-low : (p : ℕ) (l : List ℕ) (v : Verdict) → v ≡ steps_rule p 1 (pairs l) → length l / 2 ≤ most_steps → place_in v ≤ most_steps
-steps-place-low p l v e h = rw e (place-steps most_steps p 1 (pairs l) (omega (arith, length_pairs l)))
+pub steps_place_low : (p : ℕ) (l : List ℕ) (v : Verdict) → v ≡ steps_rule p 1 (pairs l) → length l / 2 ≤ most_steps → place_in v ≤ most_steps
+steps_place_low p l v e h = rw e (place_steps most_steps p 1 (pairs l) (omega (arith, length_pairs l)))
 
-pub outputs-place-low : (top : ℕ) (l : List ℕ) (v : Verdict) → v ≡ outputs_rule top 1 l → length l ≤ most_payslips → place_in v ≤ most_steps
-outputs-place-low top l v e h = rw e (place-outputs most_steps top 1 l (omega arith))
+pub outputs_place_low : (top : ℕ) (l : List ℕ) (v : Verdict) → v ≡ outputs_rule top 1 l → length l ≤ most_payslips → place_in v ≤ most_steps
+outputs_place_low top l v e h = rw e (place_outputs most_steps top 1 l (omega arith))

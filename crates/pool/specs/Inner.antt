@@ -10,14 +10,14 @@ place_in (refused n s) = s
 
 -- what counting a place on asks: neither part is longer than a chain may be
 pub record CountAsked (before : ℕ) (found : Verdict) : Type 0 where
-  pub before-low : before ≤ most_steps
-  pub place-low : place_in found ≤ most_steps
+  pub before_low : before ≤ most_steps
+  pub place_low : place_in found ≤ most_steps
 
 -- what judging the steps of both parts asks
 pub record StepsAsked (p n p' n' : ℕ) : Type 0 where
-  pub p-low : p ≤ most_columns
+  pub p_low : p ≤ most_columns
   pub p'_low : p' ≤ most_columns
-  pub n-low : n ≤ most_steps
+  pub n_low : n ≤ most_steps
   pub n'_low : n' ≤ most_steps
 
 -- and their outputs

@@ -14,7 +14,7 @@ use Rattle.pool.specs.Pool.{Part, renumbered, counted, pooled_steps, poolable_ru
 use Rattle.pool.proofs.Poolable.{poolable}
 use Rattle.pool.proofs.Numbers.{renumbered_step_lem}
 use Rattle.pool_laws.proofs.Renumbered.{joined_steps}
-use Rattle.pool_laws.proofs.Values.{pooled-value}
+use Rattle.pool_laws.proofs.Values.{pooled_value}
 use Rattle.pool_laws.proofs.Findings.{finding, told_finding, both_parts, in_same}
 
 module _ (p : ℕ) (steps steps' : List Step) (ok : steps_rule p 1 steps' ≡ fine) where
@@ -23,11 +23,11 @@ module _ (p : ℕ) (steps steps' : List Step) (ok : steps_rule p 1 steps' ≡ fi
 
   pub exponent_second : (c v : ℕ) → v ≤ p + length steps' → exponent_of p all_steps c (renumbered p (length steps) v) ≡ exponent_of p steps' c v
   unfolding exponents
-  exponent_second c v h = pooled-value ◌+◌ p _ steps steps' (start_length p c) ok v (omega (arith, start_length p c))
+  exponent_second c v h = pooled_value ◌+◌ p _ steps steps' (start_length p c) ok v (omega (arith, start_length p c))
 
-  exponents-pooled : exponents_rule p all_steps ≡ (exponents_rule p steps then counted (length steps) (exponents_rule p steps'))
+  exponents_pooled : exponents_rule p all_steps ≡ (exponents_rule p steps then counted (length steps) (exponents_rule p steps'))
   unfolding exponents_rule
-  exponents-pooled =
+  exponents_pooled =
       told_finding 13 (length all_steps) (TooLarge p all_steps) _ (refused_13 p all_steps)
       (simp (length-append, length-map)
       (both_parts 13 (length steps) (length steps') (TooLarge p steps) (TooLarge p steps') (TooLarge p all_steps)
@@ -41,8 +41,8 @@ module _ (p : ℕ) (steps steps' : List Step) (ok : steps_rule p 1 steps' ≡ fi
           let e : renumbered p (length steps) (p + t) ≡ p + (length steps + t) = renumbered_step_lem p (length steps) (p + t) (omega arith) ∙ omega arith in
           ap (exponent_of p all_steps c) (sym e) ∙ exponent_second c (p + t) (omega arith)
 
-pub pool-exponents : (a b : Part) → poolable_rule a b ≡ fine
+pub pool_exponents : (a b : Part) → poolable_rule a b ≡ fine
     → exponents_rule a.p (pooled_steps a b) ≡ (exponents_rule a.p a.steps then counted (length a.steps) (exponents_rule b.p b.steps))
-pool-exponents a b e =
+pool_exponents a b e =
     let both = poolable a b e in
-    rw both.columns (exponents-pooled b.p a.steps b.steps both.steps_fine')
+    rw both.columns (exponents_pooled b.p a.steps b.steps both.steps_fine')

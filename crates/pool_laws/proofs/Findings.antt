@@ -46,9 +46,9 @@ module _ (number count : ℕ) (B : ℕ → Type 0) where
 -- two lists of places in a row
 module _ (number count count' : ℕ) (B B' P : ℕ → Type 0) (first_part : (t : ℕ) → 1 ≤ t → t ≤ count → P t ↔ B t)
     (second-part : (t : ℕ) → 1 ≤ t → t ≤ count' → P (count + t) ↔ B' t) where
-  neither-part : (limit : ℕ) → ((t : ℕ) → 1 ≤ t → t ≤ count → B t → ⊥) → ((t : ℕ) → 1 ≤ t → t < limit → B' t → ⊥)
+  neither_part : (limit : ℕ) → ((t : ℕ) → 1 ≤ t → t ≤ count → B t → ⊥) → ((t : ℕ) → 1 ≤ t → t < limit → B' t → ⊥)
       → (t : ℕ) → 1 ≤ t → t < count + limit → t ≤ count + count' → P t → ⊥
-  neither-part limit none none' t h g l x = by_place (dec_le t count)
+  neither_part limit none none' t h g l x = by_place (dec_le t count)
     where
       by_place : Dec (t ≤ count) → ⊥
       by_place (yes le) = none t h le ((first_part t h le).0 x)
@@ -73,10 +73,10 @@ module _ (number count count' : ℕ) (B B' P : ℕ → Type 0) (first_part : (t 
         some = omega (arith, f.some);
         inside = omega (arith, f.inside);
         here = (second-part s f.some f.inside).1 f.here;
-        before = λ t h g. neither-part s none f.before t h g (omega (arith, f.inside));
+        before = λ t h g. neither_part s none f.before t h g (omega (arith, f.inside));
       })
   both_parts (nothing none) (nothing none') =
-      nothing (λ t h g. neither-part (suc count') none (λ u i j. none' u i (omega arith)) t h (omega arith) g)
+      nothing (λ t h g. neither_part (suc count') none (λ u i j. none' u i (omega arith)) t h (omega arith) g)
 
 -- what holds of two numbers in some column holds of equal ones
 pub in_same : (p : ℕ) (R : ℕ → ℕ → Type 0) (x y x' y' : ℕ → ℕ) → ((c : ℕ) → c < p → x c ≡ x' c) → ((c : ℕ) → c < p → y c ≡ y' c)

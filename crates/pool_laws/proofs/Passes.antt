@@ -15,8 +15,8 @@ use Rattle.pool.specs.Pool.{Part, pooled_outputs, poolable_rule}
 use Rattle.pool.proofs.Poolable.{poolable, both_fine}
 use Rattle.pool_laws.specs.Pooled.{pooled, Passes}
 use Rattle.pool_laws.proofs.Legal.{pool_legal}
-use Rattle.pool_laws.proofs.Exponents.{pool-exponents}
-use Rattle.pool_laws.proofs.Payslips.{pool-payslips}
+use Rattle.pool_laws.proofs.Exponents.{pool_exponents}
+use Rattle.pool_laws.proofs.Payslips.{pool_payslips}
 
 -- a legal chain with as many amounts as it is to have passes exactly if 13 and 14 do not apply
 passes_rules : (x : Part) (amounts : List ℕ) → Legal x.p x.steps x.outputs → length amounts ≡ x.p * length x.outputs
@@ -38,8 +38,8 @@ pub pool_passes : (a b : Part) (amounts amounts' : List ℕ) → poolable_rule a
     → length amounts' ≡ b.p * length b.outputs → Passes (pooled a b) (amounts ++ amounts') ↔ (Passes a amounts × Passes b amounts')
 pool_passes a b amounts amounts' e fit fit' =
     let both = poolable a b e in
-    let exponents = pool-exponents a b e in
-    let payslips = pool-payslips a b amounts amounts' e fit in
+    let exponents = pool_exponents a b e in
+    let payslips = pool_payslips a b amounts amounts' e fit in
     let whole = passes_rules (pooled a b) (amounts ++ amounts') (pool_legal a b e) (amounts_pooled a b amounts amounts' both.columns fit fit') in
     let first = passes_rules a amounts both.legal fit in
     let second = passes_rules b amounts' both.legal' fit' in (

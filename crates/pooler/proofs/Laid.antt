@@ -6,9 +6,9 @@ use native.Mathlib.Omega.{arith}
 use lib.ListN.{length, get_or, take, length-map}
 use lib.Seq.{length-take-le}
 use Rattle.chain.specs.Written.{over, laid}
-use Rattle.chain.proofs.Written.{over-laid, laid-laid}
+use Rattle.chain.proofs.Written.{over_laid, laid_laid}
 use Rattle.pool.specs.Pool.{renumbered}
-use Rattle.pool.proofs.Numbers.{renumbered-none}
+use Rattle.pool.proofs.Numbers.{renumbered_none}
 
 module _ (p n : ℕ) where
   pub length-laid : (count : ℕ) (numbers : List ℕ) → count ≤ length numbers → length (map (renumbered p n) (take count numbers)) ≡ count
@@ -26,6 +26,6 @@ module _ (p n : ℕ) where
       → w ≡ laid a (map (renumbered p n) (take b second)) m → w ≡ over (take a first ++ map (renumbered p n) (take b second)) old
   both_laid a b first second old m w h e f =
       f
-      ∙ ap (laid a (map (renumbered p n) (take b second))) (e ∙ ap (λ (l : List ℕ). laid 0 l old) (renumbered-none p (take a first)))
-      ∙ laid-laid 0 a (take a first) (map (renumbered p n) (take b second)) old (omega (arith, length-take-le a first h)) zero-le
-      ∙ sym (over-laid (take a first ++ map (renumbered p n) (take b second)) old)
+      ∙ ap (laid a (map (renumbered p n) (take b second))) (e ∙ ap (λ (l : List ℕ). laid 0 l old) (renumbered_none p (take a first)))
+      ∙ laid_laid 0 a (take a first) (map (renumbered p n) (take b second)) old (omega (arith, length-take-le a first h)) zero-le
+      ∙ sym (over_laid (take a first ++ map (renumbered p n) (take b second)) old)

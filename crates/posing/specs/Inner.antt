@@ -12,9 +12,9 @@ use Rattle.clumping.specs.Clumping.{nonzero, wanted, used_values}
 -- a grouped sheet, its inputs' value numbers, its nonzero payslips, a cell for each part of a payslip, and room for the problem
 pub record PoseAsked (g : Grouping) (amounts bits members slips cells s : List ℕ) : Type 0 where
   pub grouped : Grouped g amounts bits
-  pub members-are : members ≡ inputs g.p g.q amounts
+  pub members_are : members ≡ inputs g.p g.q amounts
   pub slips_are : slips ≡ nonzero g.p g.q amounts g.c g.q
-  pub cells-room : most_inputs ≤ length cells
+  pub cells_room : most_inputs ≤ length cells
   pub room : lists_from + g.q + 1 + 2 * (g.q * g.groups) + g.groups * 2 ^ g.c ≤ length s
   pub small : length s < 2 ^ 24
 
@@ -27,4 +27,4 @@ pub record Posed (g : Grouping) (amounts : List ℕ) (t : Problem) (old new : Li
   pub rows_from_lem : t.outs ≡ lists_from
   pub values_from : t.ins ≡ get_or new (t.outs + t.m) 0 + g.groups * 2 ^ g.c
   pub rows_are : rows_at new t.outs t.m ≡ wanted g.p g.q amounts g.c
-  pub values-are : slice t.ins (t.ins + t.n) new ≡ used_values g.p g.q amounts g.c
+  pub values_are : slice t.ins (t.ins + t.n) new ≡ used_values g.p g.q amounts g.c

@@ -9,9 +9,9 @@ use Rattle.chain.specs.Chain.{by, pairs, flat, one, is_squaring, squarings_of}
 use Rattle.chain.specs.Written.{over, laid}
 use Rattle.chain.specs.Inner.{SquaringCounted}
 use Rattle.chain.specs.declared.Step.{Step}
-use Rattle.chain.proofs.Pairs.{length_pairs, pairs-flat, length-flat, flat_append, flat-pairs}
-use Rattle.chain.proofs.Squarings.{squarings-append, squarings-few, squarings-one}
-use Rattle.chain.proofs.Written.{laid_nil, laid_pair, over-length, take-over, over-take, over-over}
+use Rattle.chain.proofs.Pairs.{length_pairs, pairs_flat, length-flat, flat_append, flat_pairs}
+use Rattle.chain.proofs.Squarings.{squarings-append, squarings_few, squarings_one}
+use Rattle.chain.proofs.Written.{laid_nil, laid_pair, over-length, take-over, over-take, over_over}
 use Rattle.products.specs.Product.{Made, made, ordered}
 use Rattle.products.specs.Inner.{steps_in, begun, SoFar, MoreRoom, StepsRoom, StepsStored, Emitted}
 use Rattle.products.specs.declared.Progress.{Progress}
@@ -22,17 +22,17 @@ pub length_in : (cells : List ℕ) (n : ℕ) → 2 * n ≤ length cells → leng
 length_in cells n fits = length_pairs (take (2 * n) cells) ∙ omega (arith, length-take-le (2 * n) cells fits)
 
 flat_in : (cells : List ℕ) (n : ℕ) → 2 * n ≤ length cells → flat (steps_in cells n) ≡ take (2 * n) cells
-flat_in cells n fits = flat-pairs n (take (2 * n) cells) (length-take-le (2 * n) cells fits)
+flat_in cells n fits = flat_pairs n (take (2 * n) cells) (length-take-le (2 * n) cells fits)
 
 module _ (cells : List ℕ) (r : Progress) (so_far : SoFar cells r) where
   pub length-steps_in : length (steps_in cells r.steps) ≡ r.steps
   length-steps_in = length_in cells r.steps so_far.fits
 
-  pub squarings-within : r.squarings ≤ r.steps
-  squarings-within = omega (arith, so_far.counted, squarings-few (steps_in cells r.steps), length-steps_in)
+  pub squarings_within : r.squarings ≤ r.steps
+  squarings_within = omega (arith, so_far.counted, squarings_few (steps_in cells r.steps), length-steps_in)
 
-  pub stored-own : StepsStored cells cells r (steps_in cells r.steps)
-  stored-own =
+  pub stored_own : StepsStored cells cells r (steps_in cells r.steps)
+  stored_own =
       record {
         cells_are = sym (rw (flat_in cells r.steps so_far.fits) (over-take (2 * r.steps) cells so_far.fits));
         count = sym length-steps_in;
@@ -41,7 +41,7 @@ module _ (cells : List ℕ) (r : Progress) (so_far : SoFar cells r) where
 
 pub emitted_own : (p : ℕ) (cells : List ℕ) (r : Progress) (v : ℕ) (steps : List Step) → StepsRoom p cells r steps
     → Emitted cells cells r v (made (steps_in cells r.steps) v)
-emitted_own p cells r v steps room = record { stored = stored-own cells r room.so_far; value = refl }
+emitted_own p cells r v steps room = record { stored = stored_own cells r room.so_far; value = refl }
 
 -- nothing stands before the first step
 pub so_far_none : (cells : List ℕ) → SoFar cells begun
@@ -52,7 +52,7 @@ so_far_none cells = record { fits = omega arith; counted = refl }
 pub stored_is : {old cells : List ℕ} {r : Progress} {steps : List Step} → StepsStored old cells r steps → steps_in cells r.steps ≡ steps
 stored_is {old} {cells} {r} {steps} s =
     let long : length (flat steps) ≡ 2 * r.steps = omega (arith, length-flat steps, s.count) in
-    rw s.cells_are (ap pairs (take-over (2 * r.steps) (flat steps) old long) ∙ pairs-flat steps)
+    rw s.cells_are (ap pairs (take-over (2 * r.steps) (flat steps) old long) ∙ pairs_flat steps)
 
 pub stored-length : {old cells : List ℕ} {r : Progress} {steps : List Step} → StepsStored old cells r steps → 2 * length steps ≤ length old → length cells ≡ length old
 stored-length {old} {cells} {r} {steps} s h = ap length s.cells_are ∙ over-length (flat steps) old (omega (arith, length-flat steps))
@@ -68,16 +68,16 @@ pub emitted_is : {old cells : List ℕ} {r : Progress} {v : ℕ} {m : Made} → 
 emitted_is e = ap₂ made (stored_is e.stored) e.value
 
 -- a list after a slice's own front
-over-front : (n : ℕ) (t l : List ℕ) → n ≤ length l → over (take n l ++ t) l ≡ laid n t l
+over_front : (n : ℕ) (t l : List ℕ) → n ≤ length l → over (take n l ++ t) l ≡ laid n t l
 unfolding over laid
-over-front n t l h =
+over_front n t l h =
     let long : length (take n l ++ t) ≡ n + length t = length-append (take n l) t ∙ omega (arith, length-take-le n l h) in
     rw (long, append_assoc)
 
 -- the step of two values, by their order
 module _ (a b : ℕ) where
-  pub ordered-rising : a < b → by b a ≡ ordered a b
-  ordered-rising lt = ap₂ by (omega arith) (omega arith)
+  pub ordered_rising : a < b → by b a ≡ ordered a b
+  ordered_rising lt = ap₂ by (omega arith) (omega arith)
 
   pub ordered_falling : b ≤ a → by a b ≡ ordered a b
   ordered_falling ge = ap₂ by (omega arith) (omega arith)
@@ -87,30 +87,30 @@ module _ (cells : List ℕ) (r : Progress) (room : MoreRoom cells r 1) where
   abbrev one_more : ℕ → Progress
   one_more k = record { steps = r.steps + 1; squarings = k }
 
-  stored-put : (a b k : ℕ) → k ≡ r.squarings + one is_squaring (by a b)
+  stored_put : (a b k : ℕ) → k ≡ r.squarings + one is_squaring (by a b)
       → StepsStored cells (set (set cells (2 * r.steps) a) (2 * r.steps + 1) b) (one_more k) (steps_in cells r.steps ++ by a b ∷ [])
-  stored-put a b k is =
+  stored_put a b k is =
       let n = r.steps in
       let enough = room.enough in
       record {
         cells_are =
             sym (laid_nil (2 * n + 2) _)
             ∙ laid_pair (2 * n) a b [] cells (omega arith)
-            ∙ sym (over-front (2 * n) (a ∷ b ∷ []) cells (omega arith))
+            ∙ sym (over_front (2 * n) (a ∷ b ∷ []) cells (omega arith))
             ∙ ap (λ (l : List ℕ). over l cells)
             (sym (flat_append (steps_in cells n) (by a b ∷ []) ∙ ap (λ (l : List ℕ). l ++ a ∷ b ∷ []) (flat_in cells n room.so_far.fits)));
         count = sym (length-append (steps_in cells n) _ ∙ omega (arith, length-steps_in cells r room.so_far));
         squarings =
-            omega (arith, is, room.so_far.counted, squarings-append (steps_in cells n) (by a b ∷ []), squarings-one (by a b));
+            omega (arith, is, room.so_far.counted, squarings-append (steps_in cells n) (by a b ∷ []), squarings_one (by a b));
       }
 
   -- x is the step that multiplies a and b
-  pub put-ordered : (a b d : ℕ) (x : Step) → x ≡ ordered a b → SquaringCounted (by x.first x.second) d
+  pub put_ordered : (a b d : ℕ) (x : Step) → x ≡ ordered a b → SquaringCounted (by x.first x.second) d
       → StepsStored cells (set (set cells (2 * r.steps) x.first) (2 * r.steps + 1) x.second) (one_more (r.squarings + d))
       (steps_in cells r.steps ++ ordered a b ∷ [])
-  put-ordered a b d x is counted =
+  put_ordered a b d x is counted =
       let c = rw is at counted.is in
-      rw is (stored-put (max a b) (min a b) (r.squarings + d) (ap (λ (k : ℕ). r.squarings + k) (c (omega arith))))
+      rw is (stored_put (max a b) (min a b) (r.squarings + d) (ap (λ (k : ℕ). r.squarings + k) (c (omega arith))))
 
 -- steps stored after others, which they begin with
 pub stored_on : {old cells cells' : List ℕ} {r r' : Progress} {a b : List Step} → StepsStored old cells r a → Begins a b → StepsStored cells cells' r' b
@@ -120,7 +120,7 @@ stored_on {old} {cells} {cells'} {r} {r'} {a} {b} s f t =
       cells_are =
           t.cells_are
           ∙ ap (over (flat b)) s.cells_are
-          ∙ over-over (flat a) (flat b) old (omega (arith, length-flat a, length-flat b, begins_length f));
+          ∙ over_over (flat a) (flat b) old (omega (arith, length-flat a, length-flat b, begins_length f));
       count = t.count;
       squarings = t.squarings;
     }
@@ -128,8 +128,8 @@ stored_on {old} {cells} {cells'} {r} {r'} {a} {b} s f t =
 -- An emitter is called with the slice as it stands and keeps to its contract; f is what it does to the steps, or to a product.
 -- There is room for the whole, of which its steps are the beginning.
 module _ {p : ℕ} {old : List ℕ} {r₀ : Progress} {whole : List Step} (room : StepsRoom p old r₀ whole) where
-  pub stored-room : {cells : List ℕ} {r : Progress} {a b : List Step} → StepsStored old cells r a → Begins a b → Begins b whole → StepsRoom p cells r b
-  stored-room {cells} {r} {a} {b} s f g =
+  pub stored_room : {cells : List ℕ} {r : Progress} {a b : List Step} → StepsStored old cells r a → Begins a b → Begins b whole → StepsRoom p cells r b
+  stored_room {cells} {r} {a} {b} s f g =
       let la = begins_length f in
       let lb = begins_length g in
       let hold = room.cells_hold in
@@ -139,7 +139,7 @@ module _ {p : ℕ} {old : List ℕ} {r₀ : Progress} {whole : List Step} (room 
 
   pub emits_room : (f : Made → Made) {cells : List ℕ} {r : Progress} {v : ℕ} {m : Made} → Emitted old cells r v m → Begins m.steps (f m).steps
       → Begins (f m).steps whole → StepsRoom p cells r (f (made (steps_in cells r.steps) v)).steps
-  emits_room f e b c = rw (emitted_is e) (stored-room e.stored b c)
+  emits_room f e b c = rw (emitted_is e) (stored_room e.stored b c)
 
 pub emits_on : (f : Made → Made) {old cells cells' : List ℕ} {r r' : Progress} {v v' : ℕ} {m : Made} → Emitted old cells r v m
     → Begins m.steps (f m).steps → Emitted cells cells' r' v' (f (made (steps_in cells r.steps) v)) → Emitted old cells' r' v' (f m)

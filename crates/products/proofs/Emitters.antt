@@ -9,7 +9,7 @@ use Rattle.products.specs.Product.{Made, made, ordered, times, squared}
 use Rattle.products.specs.Inner.{steps_in, MoreRoom, StepsRoom, StepsStored, Emitted}
 use Rattle.products.specs.declared.Progress.{Progress}
 use Rattle.products.proofs.Product.{times_start, times_copy, times_new, times_begins, squared_begins}
-use Rattle.products.proofs.Emitted.{length-steps_in, stored-own, emitted_own, emits_room, emits_on}
+use Rattle.products.proofs.Emitted.{length-steps_in, stored_own, emitted_own, emits_room, emits_on}
 
 -- a product times a value: a copy of it, a copy of the product, and a step
 module _ (p : ℕ) (cells : List ℕ) (r : Progress) (v y : ℕ) where
@@ -17,10 +17,10 @@ module _ (p : ℕ) (cells : List ℕ) (r : Progress) (v y : ℕ) where
   so_far = made (steps_in cells r.steps) v
 
   pub emitted_start : StepsRoom p cells r (times p so_far y).steps → v ≡ 0 → Emitted cells cells r y (times p so_far y)
-  emitted_start room e = rw (times_start p so_far y e) (record { stored = stored-own cells r room.so_far; value = refl })
+  emitted_start room e = rw (times_start p so_far y e) (record { stored = stored_own cells r room.so_far; value = refl })
 
   pub emitted_copy : StepsRoom p cells r (times p so_far y).steps → (v ≡ 0 → ⊥) → y ≡ 0 → Emitted cells cells r v (times p so_far y)
-  emitted_copy room h e = rw (times_copy p so_far y (omega arith) e) (record { stored = stored-own cells r room.so_far; value = refl })
+  emitted_copy room h e = rw (times_copy p so_far y (omega arith) e) (record { stored = stored_own cells r room.so_far; value = refl })
 
   pub emitted_new : (cells' : List ℕ) (r' : Progress) → StepsRoom p cells r (times p so_far y).steps → (v ≡ 0 → ⊥) → (y ≡ 0 → ⊥)
       → StepsStored cells cells' r' (steps_in cells r.steps ++ ordered v y ∷ []) → Emitted cells cells' r' (p + r.steps + 1) (times p so_far y)
@@ -52,17 +52,17 @@ module _ (p k : ℕ) (old : List ℕ) (r₀ : Progress) (m : Made) (room : Steps
   next : squared p (i + 1) m ≡ squared p (suc i) m
   next = ap (λ (j : ℕ). squared p j m) (add-one i)
 
-  pub squared-room : StepsRoom p cells r (times p (made (steps_in cells r.steps) v) v).steps
-  squared-room = emits_room room square e (times_begins p (squared p i m) _) (squared_begins p m (suc i) k (omega arith))
+  pub squared_room : StepsRoom p cells r (times p (made (steps_in cells r.steps) v) v).steps
+  squared_room = emits_room room square e (times_begins p (squared p i m) _) (squared_begins p m (suc i) k (omega arith))
 
   pub squared_on : (cells' : List ℕ) (r' : Progress) (v' : ℕ) → Emitted cells cells' r' v' (times p (made (steps_in cells r.steps) v) v)
       → Emitted old cells' r' v' (squared p (i + 1) m)
   squared_on cells' r' v' t = rw next (emits_on square e (times_begins p (squared p i m) _) t)
 
-pub squared-end : (p k : ℕ) (old cells : List ℕ) (r : Progress) (v i : ℕ) (m : Made) → i ≤ k → k ≤ i → Emitted old cells r v (squared p i m)
+pub squared_end : (p k : ℕ) (old cells : List ℕ) (r : Progress) (v i : ℕ) (m : Made) → i ≤ k → k ≤ i → Emitted old cells r v (squared p i m)
     → Emitted old cells r v (squared p k m)
-squared-end p k old cells r v i m h g e =
+squared_end p k old cells r v i m h g e =
     let last : k ≡ i = omega arith in
     rw last e
 
-pub ruleset squaring = (emitted_own, squared-room, squared_on, squared-end)
+pub ruleset squaring = (emitted_own, squared_room, squared_on, squared_end)

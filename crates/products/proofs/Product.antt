@@ -10,9 +10,9 @@ use Rattle.chain.specs.declared.Step.{Step}
 use Rattle.chain.proofs.Rules.{eq_yes, eq_no}
 use Rattle.chain.proofs.Exponents.{exponent_zero, Makes, makes_zero, makes_like}
 use Rattle.digits.specs.Range.{sign}
-use Rattle.digits.proofs.Range.{sign_low, sign-some, sign_pos, sign-add}
+use Rattle.digits.proofs.Range.{sign_low, sign_some, sign_pos, sign-add}
 use Rattle.products.specs.Product.{Made, made, ordered, times, squared}
-use Rattle.products.proofs.Sound.{Begins, begins_own, begins_more, begins_on, begins_rise, Sound, makes_ordered, sound-ordered}
+use Rattle.products.proofs.Sound.{Begins, begins_own, begins_more, begins_on, begins_rise, Sound, makes_ordered, sound_ordered}
 
 -- the three cases of a product: an empty one, an empty factor, and a step
 module _ (p : ℕ) (m : Made) (y : ℕ) where
@@ -67,33 +67,33 @@ times_spent p m y =
     let r = times_cost p m y in
     omega (arith, r.count, r.value, sign_both m.value y)
 
-sign-square : (x : ℕ) → sign x * sign x ≡ sign x
-sign-square zero = refl
-sign-square (suc x) = refl
+sign_square : (x : ℕ) → sign x * sign x ≡ sign x
+sign_square zero = refl
+sign_square (suc x) = refl
 
 sign_double : (x : ℕ) → sign (x + x) ≡ sign x
 sign_double x = omega (arith, sign-add x x)
 
 -- squaring k times: k steps, unless the product is empty
-pub squared-sign : (p k : ℕ) (m : Made) → sign (squared p k m).value ≡ sign m.value
-squared-sign p zero m = refl
-squared-sign p (suc k) m =
+pub squared_sign : (p k : ℕ) (m : Made) → sign (squared p k m).value ≡ sign m.value
+squared_sign p zero m = refl
+squared_sign p (suc k) m =
     let r = squared p k m in
-    (times_cost p r r.value).value ∙ sign_double r.value ∙ squared-sign p k m
+    (times_cost p r r.value).value ∙ sign_double r.value ∙ squared_sign p k m
 
-pub squared-count : (p k : ℕ) (m : Made) → length (squared p k m).steps ≡ length m.steps + sign m.value * k
-squared-count p zero m = omega (arith, mul-zero (sign m.value))
-squared-count p (suc k) m =
+pub squared_count : (p k : ℕ) (m : Made) → length (squared p k m).steps ≡ length m.steps + sign m.value * k
+squared_count p zero m = omega (arith, mul-zero (sign m.value))
+squared_count p (suc k) m =
     let r = squared p k m in
-    omega (arith, squared-count p k m, (times_cost p r r.value).count, squared-sign p k m, sign-square r.value, mul-suc (sign m.value) k)
+    omega (arith, squared_count p k m, (times_cost p r r.value).count, squared_sign p k m, sign_square r.value, mul-suc (sign m.value) k)
 
 -- the last of k squarings makes the last value
-pub squared-last : (p k : ℕ) (m : Made) → 0 < m.value → (squared p (suc k) m).value ≡ p + length m.steps + suc k
-squared-last p k m h =
+pub squared_last : (p k : ℕ) (m : Made) → 0 < m.value → (squared p (suc k) m).value ≡ p + length m.steps + suc k
+squared_last p k m h =
     let r = squared p k m in
-    let some : 0 < r.value = sign_pos r.value (squared-sign p k m ∙ sign-some m.value h) in
+    let some : 0 < r.value = sign_pos r.value (squared_sign p k m ∙ sign_some m.value h) in
     rw (times_new p r r.value some some)
-    (omega (arith, squared-count p k m, ap (λ (n : ℕ). n * k) (sign-some m.value h), one-mul k))
+    (omega (arith, squared_count p k m, ap (λ (n : ℕ). n * k) (sign_some m.value h), one-mul k))
 
 -- fewer squarings are made on the way
 pub squared_begins : (p : ℕ) (m : Made) (j k : ℕ) → j ≤ k → Begins (squared p j m).steps (squared p k m).steps
@@ -138,7 +138,7 @@ module _ {p limit : ℕ} where
       by_value (suc a) ea (suc b) eb =
           rw (times_new p m y (omega arith) (omega arith))
           (record {
-            sound = sound-ordered p m.steps m.value y limit r.sound (omega arith) (omega arith) r.makes n low;
+            sound = sound_ordered p m.steps m.value y limit r.sound (omega arith) (omega arith) r.makes n low;
             begins = begins_on r.begins (begins_more m.steps _);
             makes = makes_ordered p m.steps m.value y r.makes n;
           })

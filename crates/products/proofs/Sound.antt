@@ -51,11 +51,11 @@ makes_on {p} {a} {b} {v} {x} f m = rw f.whole (makes_keep p a f.rest v x m)
 
 -- a base is the unit of its column
 pub makes_base : (p : ℕ) (steps : List Step) (b : ℕ) → b < p → Makes p steps (b + 1) (λ c. delta b c)
-makes_base p steps b h = record { there = omega arith; exponent = λ c g. by-column c g (ℕ_discrete b c) }
+makes_base p steps b h = record { there = omega arith; exponent = λ c g. by_column c g (ℕ_discrete b c) }
   where
-    by-column : (c : ℕ) → c < p → Dec (b ≡ c) → exponent_of p steps c (b + 1) ≡ delta b c
-    by-column c g (yes e) = rw e (exponent_unit p c steps g ∙ sym (delta_same c))
-    by-column c g (no ne) = exponent_other p c steps b h ne ∙ sym (delta_other b c ne)
+    by_column : (c : ℕ) → c < p → Dec (b ≡ c) → exponent_of p steps c (b + 1) ≡ delta b c
+    by_column c g (yes e) = rw e (exponent_unit p c steps g ∙ sym (delta_same c))
+    by_column c g (no ne) = exponent_other p c steps b h ne ∙ sym (delta_other b c ne)
 
 -- legal steps, none of whose values has an exponent above the limit
 pub record Sound (p limit : ℕ) (steps : List Step) : Type 0 where
@@ -86,13 +86,13 @@ module _ (p : ℕ) (steps : List Step) (a b : ℕ) {x y : ℕ → ℕ} where
           let v : min a b ≡ b = omega arith in
           rw (u, v) (makes_new p steps a b x y m n)
 
-  pub sound-ordered : (limit : ℕ) → Sound p limit steps → 0 < a → 0 < b → Makes p steps a x → Makes p steps b y → ((c : ℕ) → c < p → x c + y c ≤ limit)
+  pub sound_ordered : (limit : ℕ) → Sound p limit steps → 0 < a → 0 < b → Makes p steps a x → Makes p steps b y → ((c : ℕ) → c < p → x c + y c ≤ limit)
       → Sound p limit (steps ++ ordered a b ∷ [])
-  sound-ordered limit s ha hb m n low =
+  sound_ordered limit s ha hb m n low =
       let la = m.there in
       let lb = n.there in
       record {
         legal = steps_snoc p steps (ordered a b) s.legal
-            (record { first_some = omega arith; second-some = omega arith; first-low = omega arith; second-low = omega arith; in_order = omega arith });
+            (record { first_some = omega arith; second_some = omega arith; first_low = omega arith; second_low = omega arith; in_order = omega arith });
         within = within_new p steps (ordered a b) limit _ s.within (makes_ordered m n) low;
       }

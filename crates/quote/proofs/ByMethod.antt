@@ -13,17 +13,17 @@ use Rattle.partition.specs.Method.{partition_method}
 use Rattle.quote.specs.ByMethod.{method_of}
 
 module _ (p q : ℕ) (amounts : List ℕ) (method k : ℕ) where
-  pub is-straus : method ≡ 1 → method_of p q amounts method k ≡ straus_method p q amounts k
+  pub is_straus : method ≡ 1 → method_of p q amounts method k ≡ straus_method p q amounts k
   unfolding method_of
-  is-straus e = rw (eq_yes method 1 e)
+  is_straus e = rw (eq_yes method 1 e)
 
-  pub is-yao : method ≡ 2 → method_of p q amounts method k ≡ yao_method p q amounts k
+  pub is_yao : method ≡ 2 → method_of p q amounts method k ≡ yao_method p q amounts k
   unfolding method_of
-  is-yao e = rw (eq_no method 1 (omega arith), eq_yes method 2 e)
+  is_yao e = rw (eq_no method 1 (omega arith), eq_yes method 2 e)
 
-  pub is-partition : (method ≡ 1 → ⊥) → (method ≡ 2 → ⊥) → method_of p q amounts method k ≡ partition_method p q amounts k
+  pub is_partition : (method ≡ 1 → ⊥) → (method ≡ 2 → ⊥) → method_of p q amounts method k ≡ partition_method p q amounts k
   unfolding method_of
-  is-partition e f = rw (eq_no method 1 e, eq_no method 2 f)
+  is_partition e f = rw (eq_no method 1 e, eq_no method 2 f)
 
 pub same_count : {m n : Method} → m ≡ n → m.count ≡ n.count
 same_count = ap (λ (m : Method). m.count)

@@ -31,12 +31,12 @@ in_range p q amounts method k e =
 -- what the functions of the methods ask of their callers
 module _ {p q : ℕ} {amounts : List ℕ} {method k : ℕ} (r : InRange p q amounts method k) where
   sized : SheetSized p q amounts
-  sized = record { p-some = r.sizes.p-some; p-low = r.sizes.p-low; q_low = r.sizes.q_low; amounts_are = r.amounts_are }
+  sized = record { p_some = r.sizes.p_some; p_low = r.sizes.p_low; q_low = r.sizes.q_low; amounts_are = r.amounts_are }
 
   pub first_asks : method ≡ 1 → StrausAsked p q amounts k
   first_asks e =
       let f = r.fits.one e in
-      record { ranges = record { sheet = sized; k_some = f.0; k_low = f.1 }; bits-low = f.2 }
+      record { ranges = record { sheet = sized; k_some = f.0; k_low = f.1 }; bits_low = f.2 }
 
   pub other_asks : {cells : List ℕ} → MeasuredFor method p q amounts cells → (method ≡ 1 → ⊥) → AskedByLargest yao_most p q amounts k cells
   other_asks m e =

@@ -11,7 +11,7 @@ use Rattle.yao.proofs.Yao.{yao_right}
 use Rattle.partition.proofs.Right.{partition_right}
 use Rattle.quote.specs.ByMethod.{method_of}
 use Rattle.parameters.proofs.Fits.{Fits}
-use Rattle.quote.proofs.ByMethod.{is-straus, is-yao, is-partition}
+use Rattle.quote.proofs.ByMethod.{is_straus, is_yao, is_partition}
 
 pub compiled_right : (p q : ℕ) (amounts : List ℕ) (method k : ℕ) → ((j : ℕ) → get_or amounts j 0 ≤ most_amount) → Fits p method k
     → Right p q amounts (method_of p q amounts method k)
@@ -20,7 +20,7 @@ compiled_right p q amounts method k low fits = by_number (ℕ_discrete method 1)
     by_number : Dec (method ≡ 1) → Dec (method ≡ 2) → Right p q amounts (method_of p q amounts method k)
     by_number (yes one) two =
         let f = fits.one one in
-        rw (is-straus p q amounts method k one) (straus_right p q amounts k f.0 f.1 low)
-    by_number (no one) (yes two) = rw (is-yao p q amounts method k two) (yao_right p q amounts k (fits.more one).2 low)
+        rw (is_straus p q amounts method k one) (straus_right p q amounts k f.0 f.1 low)
+    by_number (no one) (yes two) = rw (is_yao p q amounts method k two) (yao_right p q amounts k (fits.more one).2 low)
     by_number (no one) (no two) =
-        rw (is-partition p q amounts method k one two) (partition_right p q amounts k (fits.more one).2 low)
+        rw (is_partition p q amounts method k one two) (partition_right p q amounts k (fits.more one).2 low)

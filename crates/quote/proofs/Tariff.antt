@@ -8,25 +8,25 @@ use Rattle.chain.specs.Verdict.{fine}
 use Rattle.methods.specs.Method.{Method}
 use Rattle.partition.specs.Partition.{partition, partition_ceiling}
 use Rattle.partition.specs.Method.{partition_method}
-use Rattle.partition.proofs.Ceiling.{ceiling-none, ceiling-some, ceiling-low}
-use Rattle.partition.proofs.Partition.{partition-ceiling, partition-count}
+use Rattle.partition.proofs.Ceiling.{ceiling_none, ceiling_some, ceiling_low}
+use Rattle.partition.proofs.Partition.{partition_ceiling_lem, partition_count_lem}
 use Rattle.parameters.specs.Parameters.{method_rule}
 use Rattle.parameters.proofs.Fits.{method_fits}
 use Rattle.quote.specs.ByMethod.{method_of, chain_of, ceiling}
 use Rattle.quote.specs.Tariff.{Tariff}
-use Rattle.quote.proofs.ByMethod.{is-partition}
+use Rattle.quote.proofs.ByMethod.{is_partition}
 
 pub tariff : (p q : ℕ) (amounts : List ℕ) (c : ℕ) → method_rule p 3 c ≡ fine → Tariff p q amounts c
 tariff p q amounts c fits =
     record {
-      summed = same ∙ ceiling-some p q amounts c;
-      none = λ e. same ∙ ceiling-none p q amounts c some e;
-      kept = omega (arith, made, same, partition-count p q amounts c, partition-ceiling p q amounts c);
-      lowered = omega (arith, same, ceiling-low p q amounts c);
+      summed = same ∙ ceiling_some p q amounts c;
+      none = λ e. same ∙ ceiling_none p q amounts c some e;
+      kept = omega (arith, made, same, partition_count_lem p q amounts c, partition_ceiling_lem p q amounts c);
+      lowered = omega (arith, same, ceiling_low p q amounts c);
     }
   where
     is : method_of p q amounts 3 c ≡ partition_method p q amounts c
-    is = is-partition p q amounts 3 c (λ e. omega arith) (λ e. omega arith)
+    is = is_partition p q amounts 3 c (λ e. omega arith) (λ e. omega arith)
 
     same : ceiling p q amounts 3 c ≡ partition_ceiling p q amounts c
     same = ap (λ (m : Method). m.ceiling) is

@@ -9,21 +9,21 @@ use native.Mathlib.Omega.{arith}
 use lib.ListN.{length, get_or, set, length-append, length-map, length-set}
 use lib.Seq.{slice, ext_get_or, get_or-set_same, get_or_set_other}
 use Rattle.chain.specs.Written.{laid as laidAt}
-use Rattle.chain.proofs.Written.{laid-laid, laid-length}
+use Rattle.chain.proofs.Written.{laid_laid, laid-length}
 use Rattle.digits.specs.Range.{sum_to}
 use Rattle.digits.proofs.Range.{sum_more, sum_same}
 use Rattle.digits.proofs.Listed.{list_same}
 use Rattle.rows.specs.Inner.{row_at, Formed, Apart, RowsLaid, RowsOver}
 use Rattle.rows.proofs.Lists.{slice_cell, slice_same}
 use Rattle.rows.proofs.Laid.{cell_before, cell_within, cell_behind}
-use Rattle.rows.proofs.Rows.{place-above, row_inside, row_long, row_kept, rows-kept}
-use Rattle.rows.proofs.Laying.{over-more, over-all}
+use Rattle.rows.proofs.Rows.{place_above, row_inside, row_long, row_kept, rows_kept}
+use Rattle.rows.proofs.Laying.{over_more, over_all}
 use Rattle.cuts.specs.Inner.{CopyAsked, Copied}
 use Rattle.raising.specs.Inner.{raised_row, RaiseAsked, Raised, RowAsked, RowRaised}
 
 -- what stands in the only cells that changed is laid there
-laid-is : (r e : ℕ) (l old new : List ℕ) → Apart r e old new → e ≡ r + length l → e ≤ length old → slice r e new ≡ l → new ≡ laidAt r l old
-laid-is r e l old new apart end inside is =
+laid_is : (r e : ℕ) (l old new : List ℕ) → Apart r e old new → e ≡ r + length l → e ≤ length old → slice r e new ≡ l → new ≡ laidAt r l old
+laid_is r e l old new apart end inside is =
     ext_get_or 0 new (laidAt r l old) (apart.size ∙ sym (laid-length r l old room)) (λ c h. by_place c (dec_lt c r) (dec_lt c e))
   where
     room : r + length l ≤ length old
@@ -44,17 +44,17 @@ module _ (s : List ℕ) (front back m k to : ℕ) (asked : RaiseAsked s front ba
   abbrev f : ℕ → List ℕ
   f j = raised_row s front back k j
 
-  joined-long : (j : ℕ) → j < m
+  joined_long : (j : ℕ) → j < m
       → length (f j) ≡ get_or s (front + j + 1) 0 - get_or s (front + j) 0 + (get_or s (back + j + 1) 0 - get_or s (back + j) 0)
-  joined-long j h =
+  joined_long j h =
       length-append (row_at s front j) (map (λ i. k + i) (row_at s back j))
-      ∙ omega (arith, length-map (row_at s back j) (λ i. k + i), row_long s front m _ asked.front-formed j h, row_long s back m _ asked.back_formed j h)
+      ∙ omega (arith, length-map (row_at s back j) (λ i. k + i), row_long s front m _ asked.front_formed j h, row_long s back m _ asked.back_formed j h)
 
   rows-sum : (j : ℕ) → j ≤ m → sum_to j (λ i. length (f i)) ≡ get_or s (front + j) 0 - (front + m + 1) + (get_or s (back + j) 0 - (back + m + 1))
   rows-sum zero h =
       let q : front + 0 ≡ front = omega arith in
       let p : back + 0 ≡ back = omega arith in
-      rw (q, p) (omega (arith, asked.front-formed.first, asked.back_formed.first))
+      rw (q, p) (omega (arith, asked.front_formed.first, asked.back_formed.first))
   rows-sum (suc j) h =
       let q : front + suc j ≡ front + j + 1 = omega arith in
       let p : back + suc j ≡ back + j + 1 = omega arith in
@@ -62,10 +62,10 @@ module _ (s : List ℕ) (front back m k to : ℕ) (asked : RaiseAsked s front ba
       (omega (
         arith,
         rows-sum j (omega arith),
-        joined-long j (omega arith),
-        place-above s front m _ asked.front-formed j (omega arith),
-        place-above s back m _ asked.back_formed j (omega arith),
-        asked.front-formed.rises j (omega arith),
+        joined_long j (omega arith),
+        place_above s front m _ asked.front_formed j (omega arith),
+        place_above s back m _ asked.back_formed j (omega arith),
+        asked.front_formed.rises j (omega arith),
         asked.back_formed.rises j (omega arith),
       ))
 
@@ -76,8 +76,8 @@ module _ (s : List ℕ) (front back m k to : ℕ) (asked : RaiseAsked s front ba
     -- the places are there
     pub there : (front + j + 1 < length cells) × (back + j + 1 < length cells)
     there = (
-      omega (arith, place-above s front m _ asked.front-formed m (omega arith), asked.front-formed.inside, d.apart.size),
-      omega (arith, place-above s back m _ asked.back_formed m (omega arith), asked.back_formed.inside, d.apart.size),
+      omega (arith, place_above s front m _ asked.front_formed m (omega arith), asked.front_formed.inside, d.apart.size),
+      omega (arith, place_above s back m _ asked.back_formed m (omega arith), asked.back_formed.inside, d.apart.size),
     )
 
     row_room : e + length (f j) ≤ length cells
@@ -88,11 +88,11 @@ module _ (s : List ℕ) (front back m k to : ℕ) (asked : RaiseAsked s front ba
     place_is : (at : ℕ) → Formed s at m (get_or s (at + m) 0) → get_or s (at + m) 0 ≤ to
         → (get_or cells (at + j) 0 ≡ get_or s (at + j) 0) × (get_or cells (at + j + 1) 0 ≡ get_or s (at + j + 1) 0)
     place_is at formed low =
-        let above = place-above s at m _ formed m (omega arith) in
+        let above = place_above s at m _ formed m (omega arith) in
         (d.apart.before (at + j) (omega (arith, above)), d.apart.before (at + j + 1) (omega (arith, above)))
 
-    front-is : (get_or cells (front + j) 0 ≡ get_or s (front + j) 0) × (get_or cells (front + j + 1) 0 ≡ get_or s (front + j + 1) 0)
-    front-is = place_is front asked.front-formed asked.front-before
+    front_is : (get_or cells (front + j) 0 ≡ get_or s (front + j) 0) × (get_or cells (front + j + 1) 0 ≡ get_or s (front + j + 1) 0)
+    front_is = place_is front asked.front_formed asked.front_before
 
     back_is : (get_or cells (back + j) 0 ≡ get_or s (back + j) 0) × (get_or cells (back + j + 1) 0 ≡ get_or s (back + j + 1) 0)
     back_is = place_is back asked.back_formed asked.back_before
@@ -105,18 +105,18 @@ module _ (s : List ℕ) (front back m k to : ℕ) (asked : RaiseAsked s front ba
 
     pub copy_asked : CopyAsked cells (get_or cells (front + j) 0) (get_or cells (front + j + 1) 0) e
     copy_asked =
-        let inside = row_inside s front m _ asked.front-formed j h in
-        rw (front-is.0, front-is.1)
+        let inside = row_inside s front m _ asked.front_formed j h in
+        rw (front_is.0, front_is.1)
         (record {
-          order = asked.front-formed.rises j h;
-          inside = omega (arith, inside.1, asked.front-formed.inside, d.apart.size);
-          room = omega (arith, row_room, joined-long j h);
-          away = inl (omega (arith, inside.1, asked.front-before, head));
+          order = asked.front_formed.rises j h;
+          inside = omega (arith, inside.1, asked.front_formed.inside, d.apart.size);
+          room = omega (arith, row_room, joined_long j h);
+          away = inl (omega (arith, inside.1, asked.front_before, head));
         })
 
     module _ (end : ℕ) (mid : List ℕ) (copied : Copied (get_or cells (front + j) 0) (get_or cells (front + j + 1) 0) e end cells mid) where
       mid_end : end ≡ e + (get_or s (front + j + 1) 0 - get_or s (front + j) 0)
-      mid_end = omega (arith, copied.end, front-is.0, front-is.1)
+      mid_end = omega (arith, copied.end, front_is.0, front_is.1)
 
       back_low : get_or s (back + j + 1) 0 ≤ to
       back_low = omega (arith, (row_inside s back m _ asked.back_formed j h).1, asked.back_before)
@@ -128,16 +128,16 @@ module _ (s : List ℕ) (front back m k to : ℕ) (asked : RaiseAsked s front ba
           (record {
             order = asked.back_formed.rises j h;
             before = omega (arith, back_low, head, mid_end);
-            low = λ i a b. low-is i (omega (arith, inside.0)) (omega (arith, inside.1)) (omega (arith, back_low));
-            room = omega (arith, row_room, joined-long j h, mid_end, copied.apart.size);
+            low = λ i a b. low_is i (omega (arith, inside.0)) (omega (arith, inside.1)) (omega (arith, back_low));
+            room = omega (arith, row_room, joined_long j h, mid_end, copied.apart.size);
           })
         where
-          low-is : (i : ℕ) → back + m + 1 ≤ i → i < get_or s (back + m) 0 → i < to → k + get_or mid i 0 < 2 ^ 32
-          low-is i a b g = rw (copied.apart.before i (omega (arith, head)) ∙ d.apart.before i g) (asked.low i a b)
+          low_is : (i : ℕ) → back + m + 1 ≤ i → i < get_or s (back + m) 0 → i < to → k + get_or mid i 0 < 2 ^ 32
+          low_is i a b g = rw (copied.apart.before i (omega (arith, head)) ∙ d.apart.before i g) (asked.low i a b)
 
       module _ (last : ℕ) (new : List ℕ) (raised : RowRaised (get_or cells (back + j) 0) (get_or cells (back + j + 1) 0) k end last mid new) where
         row_end : last ≡ e + length (f j)
-        row_end = omega (arith, raised.end, back_is.0, back_is.1, mid_end, joined-long j h)
+        row_end = omega (arith, raised.end, back_is.0, back_is.1, mid_end, joined_long j h)
 
         pub row_fits : (last < 2 ^ 32) × (to + j + 1 < length new)
         row_fits = (
@@ -145,10 +145,10 @@ module _ (s : List ℕ) (front back m k to : ℕ) (asked : RaiseAsked s front ba
           omega (arith, row_room, head, raised.apart.size, copied.apart.size),
         )
 
-        first-laid : mid ≡ laidAt e (row_at s front j) cells
-        first-laid =
-            laid-is e end (row_at s front j) cells mid copied.apart (omega (arith, mid_end, row_long s front m _ asked.front-formed j h))
-            (omega (arith, mid_end, row_room, joined-long j h)) (copied.are ∙ row_is front asked.front-formed asked.front-before)
+        first_laid : mid ≡ laidAt e (row_at s front j) cells
+        first_laid =
+            laid_is e end (row_at s front j) cells mid copied.apart (omega (arith, mid_end, row_long s front m _ asked.front_formed j h))
+            (omega (arith, mid_end, row_room, joined_long j h)) (copied.are ∙ row_is front asked.front_formed asked.front_before)
 
         abbrev behind : List ℕ
         behind = map (λ i. k + i) (row_at s back j)
@@ -159,20 +159,20 @@ module _ (s : List ℕ) (front back m k to : ℕ) (asked : RaiseAsked s front ba
             (λ c a b. copied.apart.before c (omega (arith, back_is.1, back_low, head)))
             ∙ row_is back asked.back_formed asked.back_before
 
-        second-laid : new ≡ laidAt end behind mid
-        second-laid =
-            laid-is end last behind mid new raised.apart
+        second_laid : new ≡ laidAt end behind mid
+        second_laid =
+            laid_is end last behind mid new raised.apart
             (omega (arith, raised.end, back_is.0, back_is.1, length-map (row_at s back j) (λ i. k + i), row_long s back m _ asked.back_formed j h))
             (omega (arith, row_end, row_room, copied.apart.size)) (raised.are ∙ ap (map (λ i. k + i)) source_is)
 
         row_laid : new ≡ laidAt e (f j) cells
         row_laid =
-            second-laid
-            ∙ ap (laidAt end behind) first-laid
-            ∙ laid-laid e end (row_at s front j) behind cells (omega (arith, mid_end, row_long s front m _ asked.front-formed j h)) (omega (arith, row_room))
+            second_laid
+            ∙ ap (laidAt end behind) first_laid
+            ∙ laid_laid e end (row_at s front j) behind cells (omega (arith, mid_end, row_long s front m _ asked.front_formed j h)) (omega (arith, row_room))
 
         pub row_on : RowsOver to m (j + 1) last f s (set new (to + j + 1) last)
-        row_on = rw row_end (over-more to m f j e s cells new d h row_laid row_room)
+        row_on = rw row_end (over_more to m f j e s cells new d h row_laid row_room)
 
   -- with their first place stored before
   abbrev first : List ℕ
@@ -181,46 +181,46 @@ module _ (s : List ℕ) (front back m k to : ℕ) (asked : RaiseAsked s front ba
   first_cell : (c : ℕ) → c < to → get_or first c 0 ≡ get_or s c 0
   first_cell c h = get_or_set_other s to c (to + m + 1) 0 (λ q. omega arith)
 
-  first-long : length first ≡ length s
-  first-long = length-set s to (to + m + 1)
+  first_long : length first ≡ length s
+  first_long = length-set s to (to + m + 1)
 
   module _ (at : ℕ) (formed : Formed s at m (get_or s (at + m) 0)) (low : get_or s (at + m) 0 ≤ to) where
-    first-end : get_or first (at + m) 0 ≡ get_or s (at + m) 0
-    first-end = first_cell (at + m) (omega (arith, place-above s at m _ formed m (omega arith)))
+    first_end : get_or first (at + m) 0 ≡ get_or s (at + m) 0
+    first_end = first_cell (at + m) (omega (arith, place_above s at m _ formed m (omega arith)))
 
-    first-formed : Formed first at m (get_or first (at + m) 0)
-    first-formed =
-        rw first-end (rows-kept s at m _ formed first (λ c a b. first_cell c (omega arith)) (omega (arith, formed.inside, first-long))).0
+    first_formed : Formed first at m (get_or first (at + m) 0)
+    first_formed =
+        rw first_end (rows_kept s at m _ formed first (λ c a b. first_cell c (omega arith)) (omega (arith, formed.inside, first_long))).0
 
     first_row : (j : ℕ) → j < m → row_at first at j ≡ row_at s at j
-    first_row = row_kept s at m _ formed first (λ c a b. first_cell c (omega arith)) (omega (arith, formed.inside, first-long))
+    first_row = row_kept s at m _ formed first (λ c a b. first_cell c (omega arith)) (omega (arith, formed.inside, first_long))
 
   first_raised : (j : ℕ) → j < m → raised_row first front back k j ≡ f j
   first_raised j h =
-      rw (first_row front asked.front-formed asked.front-before j h, first_row back asked.back_formed asked.back_before j h)
+      rw (first_row front asked.front_formed asked.front_before j h, first_row back asked.back_formed asked.back_before j h)
 
-  pub first-asked : RaiseAsked first front back m k to × (get_or first to 0 ≡ to + m + 1)
-  first-asked =
-      let front-end = first-end front asked.front-formed asked.front-before in
-      let back_end = first-end back asked.back_formed asked.back_before in (
+  pub first_asked : RaiseAsked first front back m k to × (get_or first to 0 ≡ to + m + 1)
+  first_asked =
+      let front-end = first_end front asked.front_formed asked.front_before in
+      let back_end = first_end back asked.back_formed asked.back_before in (
         record {
-          front-formed = first-formed front asked.front-formed asked.front-before;
-          back_formed = first-formed back asked.back_formed asked.back_before;
-          front-before = rw front-end asked.front-before;
+          front_formed = first_formed front asked.front_formed asked.front_before;
+          back_formed = first_formed back asked.back_formed asked.back_before;
+          front_before = rw front-end asked.front_before;
           back_before = rw back_end asked.back_before;
-          low = λ i a b. low-is i a (omega (arith, back_end));
-          room = omega (arith, front-end, back_end, first-long, asked.room);
-          fits = rw first-long asked.fits;
+          low = λ i a b. low_is i a (omega (arith, back_end));
+          room = omega (arith, front-end, back_end, first_long, asked.room);
+          fits = rw first_long asked.fits;
         },
         get_or-set_same s to (to + m + 1) 0 (omega (arith, asked.room)),
       )
     where
-      low-is : (i : ℕ) → back + m + 1 ≤ i → i < get_or s (back + m) 0 → k + get_or first i 0 < 2 ^ 32
-      low-is i a b = rw (first_cell i (omega (arith, asked.back_before))) (asked.low i a b)
+      low_is : (i : ℕ) → back + m + 1 ≤ i → i < get_or s (back + m) 0 → k + get_or first i 0 < 2 ^ 32
+      low_is i a b = rw (first_cell i (omega (arith, asked.back_before))) (asked.low i a b)
 
   pub rows_raised : (e : ℕ) (new : List ℕ) → RowsOver to m m e (raised_row first front back k) first new → Raised front back m k to e s new
   rows_raised e new d =
       record {
-        laid = subst (λ (l : List (List ℕ)). RowsLaid to e l s new) (list_same m _ f first_raised) (over-all to m _ e s first new refl d);
+        laid = subst (λ (l : List (List ℕ)). RowsLaid to e l s new) (list_same m _ f first_raised) (over_all to m _ e s first new refl d);
         end = omega (arith, d.end, sum_same m _ _ (λ j h. ap length (first_raised j h)), rows-sum m (omega arith));
       }

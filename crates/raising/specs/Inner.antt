@@ -10,9 +10,9 @@ raised_row s front back k j = row_at s front j ++ map (λ i. k + i) (row_at s ba
 
 -- m rows of each kind before cell `to`, and room for the rows of both together from there on
 pub record RaiseAsked (s : List ℕ) (front back m k to : ℕ) : Type 0 where
-  pub front-formed : Formed s front m (get_or s (front + m) 0)
+  pub front_formed : Formed s front m (get_or s (front + m) 0)
   pub back_formed : Formed s back m (get_or s (back + m) 0)
-  pub front-before : get_or s (front + m) 0 ≤ to
+  pub front_before : get_or s (front + m) 0 ≤ to
   pub back_before : get_or s (back + m) 0 ≤ to
   pub low : (i : ℕ) → back + m + 1 ≤ i → i < get_or s (back + m) 0 → k + get_or s i 0 < 2 ^ 32
   pub room : to + m + 1 + (get_or s (front + m) 0 - (front + m + 1)) + (get_or s (back + m) 0 - (back + m + 1)) ≤ length s

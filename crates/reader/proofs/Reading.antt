@@ -86,11 +86,11 @@ module _ {M : Type 1} {𝓤 : Ura M} (𝓛 : Logic 𝓤) (mem : Memory → SProp
   Found r new = FieldsTaken s.now at w n x.now new r.cursor.at × (r.bytes ≡ s)
 
   -- the contract leaves one result, and one list in the cells
-  is-past : (r : BitReader) (new : List ℕ) → Found r new → r ≡ reader_at s (at + n * w)
-  is-past r new (taken, same) = ap₂ reader_at same taken.moved
+  is_past : (r : BitReader) (new : List ℕ) → Found r new → r ≡ reader_at s (at + n * w)
+  is_past r new (taken, same) = ap₂ reader_at same taken.moved
 
-  is-taken : (r : BitReader) (new : List ℕ) → Found r new → new ≡ list
-  is-taken r new (taken, same) = taken.is
+  is_taken : (r : BitReader) (new : List ℕ) → Found r new → new ≡ list
+  is_taken r new (taken, same) = taken.is
 
   module _ {K : Type 0} {Γ : List (Item 𝓤)} {E : Env 𝓤 H} {C : Calls 𝓤 H} {Λ : Loops 𝓤 H} {xs : List Operand} {d : Place} {rest : Body} {p : Post 𝓤 H} where
     pub reads : K → FmC 𝓤 H 𝓛.laws C → Triple 𝓤 (C #reader·read-fields) (Read 𝓛 mem run) → w < 2 ^ 64 → n < 2 ^ 64 → FieldsRoom s.now at w n x.now
@@ -115,7 +115,7 @@ module _ {M : Type 1} {𝓤 : Ura M} (𝓛 : Logic 𝓤) (mem : Memory → SProp
         (shows 𝓛 (B.the_row (lifetime κ))) r (u ∷ []) (λ is. drop t $
         split t $ move t (1 ∷ []) $ split t $ move t (1 ∷ []) $ drop t $ move t (3 ∷ []) $ drop t $
         -- [κ₁'s token; κ's; the last list; the bytes'; …]
-        move t (3 ∷ 1 ∷ 0 ∷ 2 ∷ []) $ rewrite t 3 (λ (l : List ℕ). ‵ (Last x l)) (is-taken r ws.1.1.1.0 e) refl $
+        move t (3 ∷ 1 ∷ 0 ∷ 2 ∷ []) $ rewrite t 3 (λ (l : List ℕ). ‵ (Last x l)) (is_taken r ws.1.1.1.0 e) refl $
         subst (λ (v : Val). Seq K 𝓛 (‵ (Bytes κ s) ∷ ‵ (flft κ q) ∷ ‵ (flft κ₁ q₁) ∷ ‵ (Last x list) ∷ Γ) (lands C Λ E d v rest p))
-        (sym (ap only (LL.tells (B.the_type (lifetime κ)) (B'.the_laws (lifetime κ)) r _ is) ∙ ap B'.lowered (is-past r ws.1.1.1.0 e)))
-        (z (sym (ap length (is-taken r ws.1.1.1.0 e)) ∙ len))))))))
+        (sym (ap only (LL.tells (B.the_type (lifetime κ)) (B'.the_laws (lifetime κ)) r _ is) ∙ ap B'.lowered (is_past r ws.1.1.1.0 e)))
+        (z (sym (ap length (is_taken r ws.1.1.1.0 e)) ∙ len))))))))

@@ -12,7 +12,7 @@ use Rattle.answers.specs.declared.Counts.{Counts}
 use Rattle.answers.specs.declared.Reading.{Reading}
 use Rattle.answers.specs.declared.Reading.TheVariants as reading
 use Rattle.layout.proofs.Lent.{read_any}
-use Rattle.reading.proofs.Told.{ChainTaken, taken, read-stops, read_passes}
+use Rattle.reading.proofs.Told.{ChainTaken, taken, read_stops, read_passes}
 
 -- a file that reads, with what it leaves in the two slices
 pub record Good (L : Layout) (bytes steps outputs : List ℕ) (p q n : ℕ) : Type 0 where
@@ -21,13 +21,13 @@ pub record Good (L : Layout) (bytes steps outputs : List ℕ) (p q n : ℕ) : Ty
 
 module _ (L : Layout) (bytes steps outputs : List ℕ) (hs : L.limit ≤ length steps / 2) (ho : most_payslips ≤ length outputs) (r : Reading)
     (answered : read_of r ≡ read_answer L bytes (length steps / 2) (length outputs)) where
-  pub read-refused : (k s : ℕ) → r ≡ reading.Refused k s → refused k s ≡ read_rule L bytes L.limit most_payslips
-  read-refused k s e = read-stops L bytes steps outputs r answered k s e ∙ read_any L bytes _ _ hs ho
+  pub read_refused : (k s : ℕ) → r ≡ reading.Refused k s → refused k s ≡ read_rule L bytes L.limit most_payslips
+  read_refused k s e = read_stops L bytes steps outputs r answered k s e ∙ read_any L bytes _ _ hs ho
 
-  pub read-good : (p q : ℕ) (c : Counts) → r ≡ reading.Chain p q c → (steps' outputs' : List ℕ)
+  pub read_good : (p q : ℕ) (c : Counts) → r ≡ reading.Chain p q c → (steps' outputs' : List ℕ)
       → steps' ≡ read_steps L bytes (length outputs) steps → outputs' ≡ read_outputs L bytes (length steps / 2) outputs
       → Good L bytes steps' outputs' p q c.steps
-  read-good p q c is steps' outputs' es eo =
+  read_good p q c is steps' outputs' es eo =
       record {
         reads = read_passes L bytes steps outputs r answered p q c is ∙ read_any L bytes _ _ hs ho;
         taken = taken L bytes steps outputs r answered p q c is steps' outputs' es eo;

@@ -14,11 +14,11 @@ use Rattle.chain.specs.Chain.{by, pairs, step_rule, steps_rule, outputs_rule, sq
 use Rattle.chain.specs.Inner.{SquaringCounted}
 use Rattle.chain.specs.declared.Judgement.{Judgement}
 use Rattle.chain.specs.declared.Judgement.TheVariants.{Fine, Refused}
-use Rattle.chain.proofs.Squarings.{counted-one}
-use Rattle.chain.proofs.Rules.{stop, pass, told-fine, told-refused, refuse_yes, refuse_no, lt_yes, lt_no}
+use Rattle.chain.proofs.Squarings.{counted_one}
+use Rattle.chain.proofs.Rules.{stop, pass, told_fine, told_refused_lem, refuse_yes, refuse_no, lt_yes, lt_no}
 use Rattle.bits.specs.Bits.{fields_at}
 use Rattle.bits.specs.Inner.{FieldRoom, FieldTaken, TwoRoom, TwoTaken}
-use Rattle.bits.proofs.Lengthened.{long-length, fields-long}
+use Rattle.bits.proofs.Lengthened.{long-length, fields_long}
 use Rattle.fields.specs.Inner.{widest_number}
 use Rattle.layout.specs.declared.Extent.{Extent}
 use Rattle.reading.specs.Inner.{Contained, LongContained, chain_counted}
@@ -31,27 +31,27 @@ pub record FieldsWithin (bytes : List ℕ) (at w n : ℕ) : Type 0 where
   pub fits : at + n * w < 2 ^ 64
 
 module _ (bytes : List ℕ) (x : Extent) (ok : Contained bytes x) where
-  pub steps-within : FieldsWithin bytes x.start x.width (2 * x.n)
-  steps-within =
+  pub steps_within : FieldsWithin bytes x.start x.width (2 * x.n)
+  steps_within =
       let r = ok.proper in
       record { narrow = r.narrow; some = r.some; within = omega (arith, r.parts, ok.within); fits = omega (arith, r.parts, r.low) }
 
-  pub outputs-within : FieldsWithin bytes (x.start + 2 * x.n * x.width) x.width x.q
-  outputs-within =
+  pub outputs_within : FieldsWithin bytes (x.start + 2 * x.n * x.width) x.width x.q
+  outputs_within =
       let r = ok.proper in
       record { narrow = r.narrow; some = r.some; within = omega (arith, r.parts, ok.within); fits = omega (arith, r.parts, r.low) }
 
 -- what a list that begins with the bytes holds by the extent is what they hold
 module _ (bytes old long : List ℕ) (is : long ≡ over bytes old) (x : Extent) (ok : Contained bytes x) where
-  pub long-contained : length bytes ≤ length old → 8 ≤ length old → LongContained long x
-  long-contained fits eight =
+  pub long_contained : length bytes ≤ length old → 8 ≤ length old → LongContained long x
+  long_contained fits eight =
       let same = long-length bytes old long is fits in
       record { long = omega (arith, same); contained = record { proper = ok.proper; within = omega (arith, ok.within, same) } }
 
-  pub long-judged : (a : Answer) → a ≡ chain_counted long x → a ≡ chain_counted bytes x
-  long-judged a e =
-      let steps = ap pairs (fields-long bytes old long is _ _ _ (steps-within bytes x ok).within) in
-      let outputs = fields-long bytes old long is _ _ _ (outputs-within bytes x ok).within in
+  pub long_judged : (a : Answer) → a ≡ chain_counted long x → a ≡ chain_counted bytes x
+  long_judged a e =
+      let steps = ap pairs (fields_long bytes old long is _ _ _ (steps_within bytes x ok).within) in
+      let outputs = fields_long bytes old long is _ _ _ (outputs_within bytes x ok).within in
       e ∙ rw (steps, outputs)
 
 -- a field of w bits is taken, and n are left
@@ -63,8 +63,8 @@ within-take bytes at w n ok =
       fits = omega (arith, ok.fits, suc-mul n w);
     }
 
-within-rest : (bytes : List ℕ) (at w n v next : ℕ) → FieldsWithin bytes at w (suc n) → FieldTaken bytes at w v next → FieldsWithin bytes next w n
-within-rest bytes at w n v next ok t =
+within_rest : (bytes : List ℕ) (at w n v next : ℕ) → FieldsWithin bytes at w (suc n) → FieldTaken bytes at w v next → FieldsWithin bytes next w n
+within_rest bytes at w n v next ok t =
     record {
       narrow = ok.narrow;
       some = ok.some;
@@ -96,12 +96,12 @@ module _ (whole : Verdict) (total : ℕ) (bytes : List ℕ) (p w n c s k : ℕ) 
         let e : 2 * (n - s) ≡ 0 = omega arith in
         ap (λ (i : ℕ). pairs (fields_at bytes c w i)) e
 
-    pub steps-end : fine ≡ whole
-    steps-end = sym (inv.same ∙ ap (steps_rule p (s + 1)) none)
+    pub steps_end : fine ≡ whole
+    steps_end = sym (inv.same ∙ ap (steps_rule p (s + 1)) none)
 
-    pub squarings-end : k ≡ total
+    pub squarings_end : k ≡ total
     unfolding squarings_of
-    squarings-end = omega (arith, inv.counted, ap squarings_of none)
+    squarings_end = omega (arith, inv.counted, ap squarings_of none)
 
   module _ (h : s < n) where
     -- the steps' fields that are left after this one's two
@@ -148,16 +148,16 @@ module _ (whole : Verdict) (total : ℕ) (bytes : List ℕ) (p w n c s k : ℕ) 
             ∙ ap₂ (λ (i v : ℕ). step_rule v (s + 1) (by a b) then steps_rule p i (pairs (fields_at bytes next w after))) (sym (add-one (s + 1))) e
 
         pub step_bad : (number place : ℕ) → j ≡ Refused number place → refused number place ≡ whole
-        step_bad number place e = stop _ _ number place (told-refused j _ number place told e) ∙ sym here
+        step_bad number place e = stop _ _ number place (told_refused_lem j _ number place told e) ∙ sym here
 
         pub step_on : j ≡ Fine → (d : ℕ) → SquaringCounted (by a b) d → StepsLeft whole total bytes p w n next (s + 1) (k + d)
         unfolding rest squarings_of
         step_on e d one_more =
             record {
               some_left = omega arith;
-              room = within-rest bytes (c + w) w after b next (within-rest bytes c w (suc after) a (c + w) two t.first) t.second;
-              same = here ∙ sym (pass _ _ _ (told-fine j _ told e) refl);
-              counted = omega (arith, inv.counted, ap squarings_of one_off, counted-one _ _ _ d (told-fine j _ told e) one_more);
+              room = within_rest bytes (c + w) w after b next (within_rest bytes c w (suc after) a (c + w) two t.first) t.second;
+              same = here ∙ sym (pass _ _ _ (told_fine j _ told e) refl);
+              counted = omega (arith, inv.counted, ap squarings_of one_off, counted_one _ _ _ d (told_fine j _ told e) one_more);
               few = omega (arith, inv.few, one_more.low);
             }
 
@@ -173,9 +173,9 @@ outputs_start bytes top at w q ok =
     record { some_left = omega arith; room = rw e ok; same = rw e }
 
 module _ (whole : Verdict) (bytes : List ℕ) (top w q c i : ℕ) (inv : OutputsLeft whole bytes top w q c i) where
-  pub outputs-end : q ≤ i → fine ≡ whole
+  pub outputs_end : q ≤ i → fine ≡ whole
   unfolding fields_at
-  outputs-end h =
+  outputs_end h =
       let e : q - i ≡ 0 = omega arith in
       sym (inv.same ∙ ap (λ (k : ℕ). outputs_rule top (i + 1) (fields_at bytes c w k)) e)
 
@@ -204,6 +204,6 @@ module _ (whole : Verdict) (bytes : List ℕ) (top w q c i : ℕ) (inv : Outputs
       output_on low =
           record {
             some_left = omega arith;
-            room = within-rest bytes c w (q - (i + 1)) o next more t;
+            room = within_rest bytes c w (q - (i + 1)) o next more t;
             same = now_left ∙ sym (pass _ _ _ (refuse_no _ 12 (i + 1) (lt_no top o low)) refl);
           }

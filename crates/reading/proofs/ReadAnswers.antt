@@ -8,8 +8,8 @@ use Rattle.chain.specs.Tests.{◌<?◌, ◌≠?◌, ◌or◌}
 use Rattle.chain.specs.Verdict.{Verdict, fine, refused, ◌then◌, refuse_if, Answer, done, refusal, answer, on_fine}
 use Rattle.chain.specs.Written.{over}
 use Rattle.chain.specs.Chain.{flat, length_rule, steps_rule, outputs_rule, chain_rule, counts}
-use Rattle.chain.proofs.Rules.{stop, pass, then_fine, then_assoc, refuse_if-fine, neither, not_lt, not_ne, answer-refused, answer-done, kept, renewed}
-use Rattle.chain.proofs.Pairs.{length_pairs, flat-pairs}
+use Rattle.chain.proofs.Rules.{stop, pass, then_fine, then_assoc, refuse_if_fine, neither, not_lt, not_ne, answer_refused, answer_done, kept, renewed}
+use Rattle.chain.proofs.Pairs.{length_pairs, flat_pairs}
 use Rattle.chain.proofs.Sizes.{length-fits}
 use Rattle.bits.specs.Bits.{field_at, fields_at}
 use Rattle.bits.specs.Inner.{FieldRoom}
@@ -19,7 +19,7 @@ use Rattle.layout.specs.declared.Layout.{Layout}
 use Rattle.layout.specs.declared.Extent.{Extent}
 use Rattle.layout.specs.File.{columns_of, payslips_of, length_of, steps_of, outputs_of, read_rule, read_answer, read_steps, read_outputs}
 use Rattle.layout.specs.Inner.{SoundLayout, Sized, extent_of}
-use Rattle.layout.proofs.Lengths.{width_some, top-low, width_low, count-parts, count_fits}
+use Rattle.layout.proofs.Lengths.{width_some, top_low, width_low, count_parts, count_fits}
 use Rattle.layout.proofs.Readable.{header_sized}
 use Rattle.reading.specs.declared.Header.{Header}
 use Rattle.reading.specs.declared.Heading.{Heading}
@@ -34,12 +34,12 @@ module _ (L : Layout) (bytes : List ℕ) (h : Header) (is : h ≡ header_in byte
   unfolding header_rule
   header_is v e = e ∙ ap (λ (g : Header). refuse_if (length bytes <? 4) 6 0 then refuse_if (g.edition ≠? L.edition) 7 0 then length_rule L.limit g.n) is
 
-  pub sized-by : h.n ≤ L.limit → Sized L h.p h.q h.n
-  sized-by low =
+  pub sized_by : h.n ≤ L.limit → Sized L h.p h.q h.n
+  sized_by low =
       subst (λ (g : Header). Sized L g.p g.q g.n) (sym is) (header_sized L bytes (omega (arith, low, ap (λ (g : Header). g.n) is)))
 
-  pub extent-is : (x : Extent) → x ≡ extent_of L h.p h.q h.n → x ≡ extent_in L bytes
-  extent-is x e = e ∙ ap (λ (g : Header). extent_of L g.p g.q g.n) is
+  pub extent_is : (x : Extent) → x ≡ extent_of L h.p h.q h.n → x ≡ extent_in L bytes
+  extent_is x e = e ∙ ap (λ (g : Header). extent_of L g.p g.q g.n) is
 
 -- what the header's judge hands on
 module _ (L : Layout) (bytes : List ℕ) (r : Heading) (told : headed L bytes r) where
@@ -49,9 +49,9 @@ module _ (L : Layout) (bytes : List ℕ) (r : Heading) (told : headed L bytes r)
   pub found : (x : Extent) → r ≡ heading.Found x → (fine ≡ header_rule L bytes) × (x ≡ extent_in L bytes)
   found x e = subst (headed L bytes) e told
 
-  pub found-proper : SoundLayout L → (x : Extent) → r ≡ heading.Found x → Proper x
+  pub found_proper : SoundLayout L → (x : Extent) → r ≡ heading.Found x → Proper x
   unfolding header_rule
-  found-proper sound x e =
+  found_proper sound x e =
       let f = found x e in
       let few = length-fits L.limit (length_of L bytes) (then_fine _ _ (then_fine _ _ (sym f.0)).1).1 in
       let s = header_sized L bytes few in
@@ -59,27 +59,27 @@ module _ (L : Layout) (bytes : List ℕ) (r : Heading) (told : headed L bytes r)
       (record {
         narrow = omega (arith, width_low L sound _ _ _ s);
         some = width_some (columns_of bytes) (length_of L bytes) (omega arith);
-        parts = count-parts L (columns_of bytes) (payslips_of bytes) (length_of L bytes);
+        parts = count_parts L (columns_of bytes) (payslips_of bytes) (length_of L bytes);
         low = count_fits L sound _ _ _ s;
         whole = refl;
-        top = omega (arith, top-low L sound _ _ _ s);
+        top = omega (arith, top_low L sound _ _ _ s);
       })
 
 -- the body, by its extent
 module _ (bytes : List ℕ) (x : Extent) where
-  pub steps-count : length (file_steps bytes x) ≡ x.n
-  steps-count =
+  pub steps_count : length (file_steps bytes x) ≡ x.n
+  steps_count =
       length_pairs (fields_at bytes x.start x.width (2 * x.n)) ∙ omega (arith, length_fields_at bytes x.start x.width (2 * x.n))
 
-  flat-steps : flat (file_steps bytes x) ≡ fields_at bytes x.start x.width (2 * x.n)
-  flat-steps = flat-pairs x.n _ (length_fields_at bytes x.start x.width (2 * x.n))
+  flat_steps : flat (file_steps bytes x) ≡ fields_at bytes x.start x.width (2 * x.n)
+  flat_steps = flat_pairs x.n _ (length_fields_at bytes x.start x.width (2 * x.n))
 
   -- the chain's rules, with n as the extent has it
-  pub chain-is : (v : Verdict) → v ≡ (steps_rule x.p 1 (file_steps bytes x) then outputs_rule (x.p + x.n) 1 (file_outputs bytes x))
+  pub chain_is : (v : Verdict) → v ≡ (steps_rule x.p 1 (file_steps bytes x) then outputs_rule (x.p + x.n) 1 (file_outputs bytes x))
       → v ≡ chain_rule x.p (file_steps bytes x) (file_outputs bytes x)
   unfolding chain_rule
-  chain-is v e =
-      e ∙ ap (λ (k : ℕ). steps_rule x.p 1 (file_steps bytes x) then outputs_rule (x.p + k) 1 (file_outputs bytes x)) (sym steps-count)
+  chain_is v e =
+      e ∙ ap (λ (k : ℕ). steps_rule x.p 1 (file_steps bytes x) then outputs_rule (x.p + k) 1 (file_outputs bytes x)) (sym steps_count)
 
   module _ (ok : Proper x) where
     -- bytes of the right length hold the extent, and end in less than a byte of filling
@@ -104,7 +104,7 @@ module _ (bytes : List ℕ) (x : Extent) where
     module _ (steps outputs : List ℕ) where
       pub body_refused : (k s : ℕ) → refused k s ≡ body_rule bytes x (length steps / 2) (length outputs)
           → BodyRead bytes x steps outputs (refusal k s) steps outputs
-      body_refused k s v = record { answered = answer-refused _ _ k s v; steps-left = kept _ _ steps k s v; outputs-left = kept _ _ outputs k s v }
+      body_refused k s v = record { answered = answer_refused _ _ k s v; steps_left_lem = kept _ _ steps k s v; outputs_left = kept _ _ outputs k s v }
 
       module _ (passed : fine ≡ body_rule bytes x (length steps / 2) (length outputs)) where
         pub lists_room : FieldsRoom bytes x.start x.width (2 * x.n) steps
@@ -113,16 +113,16 @@ module _ (bytes : List ℕ) (x : Extent) where
         lists_room =
             let a = then_fine _ _ (sym passed) in
             let b = then_fine _ _ a.1 in
-            let rooms = neither _ _ (refuse_if-fine _ 5 0 b.0) in
-            let pairs-room : x.n ≤ length steps / 2 = not_lt _ _ rooms.0 in
+            let rooms = neither _ _ (refuse_if_fine _ 5 0 b.0) in
+            let pairs_room : x.n ≤ length steps / 2 = not_lt _ _ rooms.0 in
             let places : x.q ≤ length outputs = not_lt _ _ rooms.1 in
-            let c = contained (not_ne _ _ (refuse_if-fine _ 6 0 a.0)) in (
+            let c = contained (not_ne _ _ (refuse_if_fine _ 6 0 a.0)) in (
               record {
                 narrow = ok.narrow;
                 some = ok.some;
                 within = omega (arith, ok.parts, c.within);
                 fits = omega (arith, ok.parts, ok.low);
-                room = omega (arith, pairs-room);
+                room = omega (arith, pairs_room);
               },
               record {
                 narrow = ok.narrow;
@@ -138,9 +138,9 @@ module _ (bytes : List ℕ) (x : Extent) where
             → BodyRead bytes x steps outputs (done (x.p ∷ x.q ∷ told)) steps' outputs'
         body_done told steps' outputs' is t =
             record {
-              answered = ap (λ (l : List ℕ). done (x.p ∷ x.q ∷ l)) is ∙ answer-done _ _ passed;
-              steps-left = renewed _ _ steps _ passed (t.steps-taken ∙ ap (λ (l : List ℕ). over l steps) (sym flat-steps));
-              outputs-left = renewed _ _ outputs _ passed t.outputs-taken;
+              answered = ap (λ (l : List ℕ). done (x.p ∷ x.q ∷ l)) is ∙ answer_done _ _ passed;
+              steps_left_lem = renewed _ _ steps _ passed (t.steps_taken ∙ ap (λ (l : List ℕ). over l steps) (sym flat_steps));
+              outputs_left = renewed _ _ outputs _ passed t.outputs_taken;
             }
 
 -- both together
@@ -149,22 +149,22 @@ module _ (L : Layout) (bytes steps outputs : List ℕ) where
   unfolding read_rule header_rule body_rule steps_of outputs_of
   rule_is x y = sym (then_assoc _ _ _ ∙ ap (λ (v : Verdict). refuse_if (length bytes <? 4) 6 0 then v) (then_assoc _ _ _))
 
-  pub file-refused : (k s : ℕ) → refused k s ≡ header_rule L bytes → FileRead L bytes steps outputs (refusal k s) steps outputs
+  pub file_refused : (k s : ℕ) → refused k s ≡ header_rule L bytes → FileRead L bytes steps outputs (refusal k s) steps outputs
   unfolding read_answer read_steps read_outputs
-  file-refused k s e =
+  file_refused k s e =
       let v = stop _ _ k s e ∙ sym (rule_is (length steps / 2) (length outputs)) in
-      record { answered = answer-refused _ _ k s v; steps-left = kept _ _ steps k s v; outputs-left = kept _ _ outputs k s v }
+      record { answered = answer_refused _ _ k s v; steps_left_lem = kept _ _ steps k s v; outputs_left = kept _ _ outputs k s v }
 
-  pub file-read : (x : Extent) → (fine ≡ header_rule L bytes) × (x ≡ extent_in L bytes) → (a : Answer) (steps' outputs' : List ℕ)
+  pub file_read_lem : (x : Extent) → (fine ≡ header_rule L bytes) × (x ≡ extent_in L bytes) → (a : Answer) (steps' outputs' : List ℕ)
       → BodyRead bytes x steps outputs a steps' outputs' → FileRead L bytes steps outputs a steps' outputs'
   unfolding read_answer read_steps read_outputs steps_of outputs_of
-  file-read x (ok, is) a steps' outputs' b =
+  file_read_lem x (ok, is) a steps' outputs' b =
       let y = extent_in L bytes in
       let r : BodyRead bytes y steps outputs a steps' outputs' = subst (λ (z : Extent). BodyRead bytes z steps outputs a steps' outputs') is b in
       let same : body_rule bytes y (length steps / 2) (length outputs) ≡ read_rule L bytes (length steps / 2) (length outputs) =
       pass _ _ _ ok refl ∙ sym (rule_is (length steps / 2) (length outputs)) in
       record {
         answered = r.answered ∙ ap (λ (v : Verdict). answer v (columns_of bytes ∷ payslips_of bytes ∷ counts (steps_of L bytes))) same;
-        steps-left = r.steps-left ∙ ap (λ (v : Verdict). on_fine v (over (flat (steps_of L bytes)) steps) steps) same;
-        outputs-left = r.outputs-left ∙ ap (λ (v : Verdict). on_fine v (over (outputs_of L bytes) outputs) outputs) same;
+        steps_left_lem = r.steps_left_lem ∙ ap (λ (v : Verdict). on_fine v (over (flat (steps_of L bytes)) steps) steps) same;
+        outputs_left = r.outputs_left ∙ ap (λ (v : Verdict). on_fine v (over (outputs_of L bytes) outputs) outputs) same;
       }

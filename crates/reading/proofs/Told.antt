@@ -8,7 +8,7 @@ use Rattle.chain.specs.Verdict.{fine, refused}
 use Rattle.chain.specs.Written.{over}
 use Rattle.chain.specs.Chain.{flat, counts}
 use Rattle.chain.proofs.Rules.{renewed}
-use Rattle.chain.proofs.Told.{verdict_in, told, told-values}
+use Rattle.chain.proofs.Told.{verdict_in, told, told_values_lem}
 use Rattle.chain.proofs.Pairs.{length-flat}
 use Rattle.chain.proofs.Written.{take-over, over-length}
 use Rattle.layout.specs.declared.Layout.{Layout}
@@ -26,18 +26,18 @@ pub record ChainTaken (L : Layout) (bytes steps outputs : List ℕ) (p q n : ℕ
   pub payslips : q ≡ payslips_of bytes
   pub long : n ≡ length_of L bytes
   pub few : n ≤ L.limit
-  pub steps-room : 2 * n ≤ length steps
-  pub outputs-room : q ≤ length outputs
+  pub steps_room : 2 * n ≤ length steps
+  pub outputs_room : q ≤ length outputs
   pub steps_front : take (2 * n) steps ≡ flat (steps_of L bytes)
-  pub outputs-front : take q outputs ≡ outputs_of L bytes
+  pub outputs_front : take q outputs ≡ outputs_of L bytes
 
 module _ (L : Layout) (bytes steps outputs : List ℕ) (r : Reading) (answered : read_of r ≡ read_answer L bytes (length steps / 2) (length outputs)) where
   read_found : verdict_in (read_of r) ≡ read_rule L bytes (length steps / 2) (length outputs)
   unfolding read_answer
   read_found = told _ _ _ answered
 
-  pub read-stops : (k s : ℕ) → r ≡ Refused k s → refused k s ≡ read_rule L bytes (length steps / 2) (length outputs)
-  read-stops k s e = sym (ap (λ (x : Reading). verdict_in (read_of x)) e) ∙ read_found
+  pub read_stops : (k s : ℕ) → r ≡ Refused k s → refused k s ≡ read_rule L bytes (length steps / 2) (length outputs)
+  read_stops k s e = sym (ap (λ (x : Reading). verdict_in (read_of x)) e) ∙ read_found
 
   module _ (p q : ℕ) (c : Counts) (is : r ≡ Chain p q c) where
     pub read_passes : fine ≡ read_rule L bytes (length steps / 2) (length outputs)
@@ -48,10 +48,10 @@ module _ (L : Layout) (bytes steps outputs : List ℕ) (r : Reading) (answered :
 
     sizes : ◌≡◌ {A = List ℕ} (p ∷ q ∷ counts_in c) (columns_of bytes ∷ payslips_of bytes ∷ counts (steps_of L bytes))
     unfolding read_answer
-    sizes = told-values _ _ _ (sym (ap read_of is) ∙ answered)
+    sizes = told_values_lem _ _ _ (sym (ap read_of is) ∙ answered)
 
-    pub read-counts : counts_in c ≡ counts (steps_of L bytes)
-    read-counts = ap (drop 2) sizes
+    pub read_counts : counts_in c ≡ counts (steps_of L bytes)
+    read_counts = ap (drop 2) sizes
 
     module _ (steps' outputs' : List ℕ) (es : steps' ≡ read_steps L bytes (length outputs) steps)
         (eo : outputs' ≡ read_outputs L bytes (length steps / 2) outputs) where
@@ -72,15 +72,15 @@ module _ (L : Layout) (bytes steps outputs : List ℕ) (r : Reading) (answered :
           let en : n ≡ length_of L bytes = ap (λ (l : List ℕ). get_or l 2 0) sizes ∙ length_steps_of L bytes in
           let ls : length (flat (steps_of L bytes)) ≡ 2 * n = omega (arith, length-flat (steps_of L bytes), length_steps_of L bytes) in
           let lo : length (outputs_of L bytes) ≡ q = omega (arith, length-outputs_of L bytes) in
-          let room : 2 * n ≤ length steps = omega (arith, ok.pairs-room) in
-          let places : q ≤ length outputs = omega (arith, ok.outputs-room) in
+          let room : 2 * n ≤ length steps = omega (arith, ok.pairs_room) in
+          let places : q ≤ length outputs = omega (arith, ok.outputs_room) in
           record {
             columns = ep;
             payslips = eq;
             long = en;
             few = omega (arith, ok.few);
-            steps-room = omega (arith, ap length new_steps, over-length (flat (steps_of L bytes)) steps (omega arith));
-            outputs-room = omega (arith, ap length new_outputs, over-length (outputs_of L bytes) outputs (omega arith));
+            steps_room = omega (arith, ap length new_steps, over-length (flat (steps_of L bytes)) steps (omega arith));
+            outputs_room = omega (arith, ap length new_outputs, over-length (outputs_of L bytes) outputs (omega arith));
             steps_front = ap (take (2 * n)) new_steps ∙ take-over (2 * n) (flat (steps_of L bytes)) steps ls;
-            outputs-front = ap (take q) new_outputs ∙ take-over q (outputs_of L bytes) outputs lo;
+            outputs_front = ap (take q) new_outputs ∙ take-over q (outputs_of L bytes) outputs lo;
           }

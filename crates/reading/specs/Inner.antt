@@ -83,16 +83,16 @@ module _ (bytes : List ℕ) (x : Extent) where
   -- what reading by an extent answers and leaves
   pub record BodyRead (steps outputs : List ℕ) (a : Answer) (steps' outputs' : List ℕ) : Type 0 where
     pub answered : a ≡ answer (body_rule (length steps / 2) (length outputs)) (x.p ∷ x.q ∷ counts file_steps)
-    pub steps-left : steps' ≡ on_fine (body_rule (length steps / 2) (length outputs)) (over (flat file_steps) steps) steps
-    pub outputs-left : outputs' ≡ on_fine (body_rule (length steps / 2) (length outputs)) (over file_outputs outputs) outputs
+    pub steps_left_lem : steps' ≡ on_fine (body_rule (length steps / 2) (length outputs)) (over (flat file_steps) steps) steps
+    pub outputs_left : outputs' ≡ on_fine (body_rule (length steps / 2) (length outputs)) (over file_outputs outputs) outputs
 
 -- what reading in a layout answers and leaves
 pub record FileRead (L : Layout) (bytes steps outputs : List ℕ) (a : Answer) (steps' outputs' : List ℕ) : Type 0 where
   pub answered : a ≡ read_answer L bytes (length steps / 2) (length outputs)
-  pub steps-left : steps' ≡ read_steps L bytes (length outputs) steps
-  pub outputs-left : outputs' ≡ read_outputs L bytes (length steps / 2) outputs
+  pub steps_left_lem : steps' ≡ read_steps L bytes (length outputs) steps
+  pub outputs_left : outputs' ≡ read_outputs L bytes (length steps / 2) outputs
 
 -- two lists of fields that were read, one behind the other
 pub record ListsTaken (bytes : List ℕ) (at w n q : ℕ) (steps outputs steps' outputs' : List ℕ) : Type 0 where
-  pub steps-taken : steps' ≡ over (fields_at bytes at w (2 * n)) steps
-  pub outputs-taken : outputs' ≡ over (fields_at bytes (at + 2 * n * w) w q) outputs
+  pub steps_taken : steps' ≡ over (fields_at bytes at w (2 * n)) steps
+  pub outputs_taken : outputs' ≡ over (fields_at bytes (at + 2 * n * w) w q) outputs

@@ -6,7 +6,7 @@ use lib.ListN.{length}
 use Rattle.chain.specs.Verdict.{Verdict, fine, refused, Answer, refusal, answer}
 use Rattle.chain.specs.Chain.{counts}
 use Rattle.chain.specs.declared.Step.{Step}
-use Rattle.chain.proofs.Rules.{stop, pass, answer-refused, kept, renewed}
+use Rattle.chain.proofs.Rules.{stop, pass, answer_refused, kept, renewed}
 use Rattle.chain.proofs.Told.{verdict_in, told}
 use Rattle.verify.specs.Verify.{verify_rule, verify_answer, verify_scratch}
 use Rattle.answers.specs.Answers.{verified_of}
@@ -28,10 +28,10 @@ module _ (p : ℕ) (steps : List Step) (outputs amounts : List ℕ) (m : ℕ) (b
   not_passed k s e =
       let v : refused k s ≡ verify_rule p steps outputs amounts (length scratch) = found (Refused k s) e in
       record {
-        answered = answer-refused _ _ k s (stop _ _ k s v);
-        scratch-left = cleared;
-        values-left = kept _ _ values k s v;
-        figures-left = kept _ _ figures k s v;
+        answered = answer_refused _ _ k s (stop _ _ k s v);
+        scratch_left = cleared;
+        values_left = kept _ _ values k s v;
+        figures_left_lem = kept _ _ figures k s v;
       }
 
   pub then_run : (c : Counts) → w ≡ Passed c → (a : Answer) (values' figures' : List ℕ)
@@ -44,7 +44,7 @@ module _ (p : ℕ) (steps : List Step) (outputs amounts : List ℕ) (m : ℕ) (b
       let v : fine ≡ verify_rule p steps outputs amounts (length scratch) = found (Passed c) e in
       record {
         answered = ran ∙ ap (λ (x : Verdict). answer x (counts steps)) (pass _ _ _ v refl);
-        scratch-left = cleared;
-        values-left = renewed _ _ values values' v ev;
-        figures-left = renewed _ _ figures figures' v ef;
+        scratch_left = cleared;
+        values_left = renewed _ _ values values' v ev;
+        figures_left_lem = renewed _ _ figures figures' v ef;
       }

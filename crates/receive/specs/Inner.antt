@@ -22,6 +22,6 @@ module _ (p : ℕ) (steps : List Step) (outputs amounts : List ℕ) (scratch m :
 pub record Received (p : ℕ) (steps : List Step) (outputs amounts : List ℕ) (m : ℕ) (bases scratch values figures : List ℕ) (a : Answer)
     (scratch' values' figures' : List ℕ) : Type 0 where
   pub answered : a ≡ receive_answer p steps outputs amounts (length scratch) m bases (length values) (length figures)
-  pub scratch-left : scratch' ≡ verify_scratch p steps outputs amounts scratch
-  pub values-left : values' ≡ receive_values p steps outputs amounts (length scratch) m bases (length figures) values
-  pub figures-left : figures' ≡ receive_figures p steps outputs amounts (length scratch) m bases (length values) figures
+  pub scratch_left : scratch' ≡ verify_scratch p steps outputs amounts scratch
+  pub values_left : values' ≡ receive_values p steps outputs amounts (length scratch) m bases (length figures) values
+  pub figures_left_lem : figures' ≡ receive_figures p steps outputs amounts (length scratch) m bases (length values) figures

@@ -2,7 +2,7 @@
 use Rattle.std.proofs.Common.{◌≡◌, ℕ, ◌+◌, ◌-◌, ◌*◌, ◌/◌, ◌%◌, ◌^◌, ◌<◌, ◌≤◌, sym, ap, ◌∙◌, ap₂, le_trans, le_of_eq, lt_of_le_of_lt, le_of_lt, mul-le-mul_right, mul_assoc, suc-mul, mul_comm, add-mul, lt_of_mul-lt-mul_right, mul-le-mul_left, mul-add, mul_right_comm, div-mul-le_self, le_of_mul-le-mul_right, arith}
 use native.Mathlib.Nat.{lt-div-mul-add, mul-add-mod_self_left}
 use Rattle.residue.specs.Inner.{TimesAsked}
-use Rattle.residue.proofs.Width.{product-fits}
+use Rattle.residue.proofs.Width.{product_fits}
 
 module _ (B m v z : ℕ) (below : v * m < B) (close : B ≤ v * m + m) (small : z < B) where
   abbrev quotient : ℕ
@@ -62,7 +62,7 @@ pub record Taken (x y m v q : ℕ) : Type 0 where
 
 module _ {x y m v q : ℕ} (t : Taken x y m v q) where
   small : x * y < 2 ^ 64
-  small = product-fits 32 t.x_low t.y_low
+  small = product_fits 32 t.x_low t.y_low
 
   below : v * m < 2 ^ 64
   below = rw t.asked.inverse_is (omega (arith, div-mul-le_self (2 ^ 64 - 1) m))
@@ -73,8 +73,8 @@ module _ {x y m v q : ℕ} (t : Taken x y m v q) where
   pub taken_under : q * m ≤ x * y
   taken_under = rw t.taken (not_over (2 ^ 64) m v (x * y) below close small)
 
-  pub taken-fits : q * m < 2 ^ 64
-  taken-fits = lt_of_le_of_lt taken_under small
+  pub taken_fits : q * m < 2 ^ 64
+  taken_fits = lt_of_le_of_lt taken_under small
 
-  pub what_is-left : LeftOver m (x * y) (x * y - q * m)
-  what_is-left = take_off m (x * y) q taken_under (rw t.taken (nearly (2 ^ 64) m v (x * y) below close small))
+  pub what_is_left : LeftOver m (x * y) (x * y - q * m)
+  what_is_left = take_off m (x * y) q taken_under (rw t.taken (nearly (2 ^ 64) m v (x * y) below close small))

@@ -10,13 +10,13 @@ module _ (B : ℕ) (some : 0 < B) (u₁ u₀ v₁ v₀ : ℕ) where
   abbrev pub next : ℕ
   next = middle % B + u₀ * v₁
 
-  by-columns : (u₁ * B + u₀) * (v₁ * B + v₀) ≡ (u₁ * v₁ * B + (u₁ * v₀ + u₀ * v₁)) * B + u₀ * v₀
-  by-columns = simp (mul-add, add-mul, mul_assoc, mul_comm, mul_left_comm, add_assoc, add_comm, add_left_comm) refl
+  by_columns : (u₁ * B + u₀) * (v₁ * B + v₀) ≡ (u₁ * v₁ * B + (u₁ * v₀ + u₀ * v₁)) * B + u₀ * v₀
+  by_columns = simp (mul-add, add-mul, mul_assoc, mul_comm, mul_left_comm, add_assoc, add_comm, add_left_comm) refl
 
   -- the product without its last digit
   once : (u₁ * B + u₀) * (v₁ * B + v₀) / B ≡ u₁ * v₁ * B + (middle + u₀ * v₁)
   once =
-      ap (λ (n : ℕ). n / B) by-columns
+      ap (λ (n : ℕ). n / B) by_columns
       ∙ mul-add-div_right some (u₁ * v₁ * B + (u₁ * v₀ + u₀ * v₁)) (u₀ * v₀)
       ∙ carried (u₁ * v₁ * B) (u₁ * v₀) (u₀ * v₁) (u₀ * v₀ / B)
     where

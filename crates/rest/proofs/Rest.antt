@@ -8,40 +8,40 @@ use Rattle.chain.specs.Tests.{◌<?◌}
 use Rattle.chain.specs.Verdict.{Verdict, fine, ◌then◌, refuse_if}
 use Rattle.chain.specs.Chain.{most_steps, pairs, steps_rule, outputs_rule, chain_rule}
 use Rattle.chain.specs.declared.Step.{Step}
-use Rattle.chain.proofs.Rules.{then_assoc, then_fine, refuse_if-fine, not_lt}
-use Rattle.chain.proofs.Limits.{outputs-low}
+use Rattle.chain.proofs.Rules.{then_assoc, then_fine, refuse_if_fine, not_lt}
+use Rattle.chain.proofs.Limits.{outputs_low}
 use Rattle.chain.proofs.Pairs.{length_pairs}
 use Rattle.chain.proofs.Sizes.{Shape}
 use Rattle.rest.specs.Inner.{EndAsked, end_rule, rest_rule}
 
-pub rest-is : (p : ℕ) (steps : List Step) (outputs : List ℕ) (cells : ℕ)
+pub rest_is : (p : ℕ) (steps : List Step) (outputs : List ℕ) (cells : ℕ)
     → rest_rule p steps outputs cells ≡ (chain_rule p steps outputs then refuse_if (cells <? p + length steps + 1) 5 0)
 unfolding rest_rule end_rule chain_rule
-rest-is p steps outputs cells = sym (then_assoc (steps_rule p 1 steps) (outputs_rule (p + length steps) 1 outputs) _)
+rest_is p steps outputs cells = sym (then_assoc (steps_rule p 1 steps) (outputs_rule (p + length steps) 1 outputs) _)
 
-pub rest-parts : (p : ℕ) (steps : List Step) (outputs : List ℕ) (cells : ℕ)
+pub rest_parts : (p : ℕ) (steps : List Step) (outputs : List ℕ) (cells : ℕ)
     → (steps_rule p 1 steps then end_rule p (length steps) outputs cells) ≡ rest_rule p steps outputs cells
 unfolding rest_rule
-rest-parts p steps outputs cells = refl
+rest_parts p steps outputs cells = refl
 
 -- a flat list has half as many steps as numbers
-pub rest-flat : (p : ℕ) (l outputs : List ℕ) (cells : ℕ) (v : Verdict)
+pub rest_flat : (p : ℕ) (l outputs : List ℕ) (cells : ℕ) (v : Verdict)
     → v ≡ (steps_rule p 1 (pairs l) then end_rule p (length l / 2) outputs cells) → v ≡ rest_rule p (pairs l) outputs cells
 unfolding rest_rule
-rest-flat p l outputs cells v e = rw (length_pairs l) e
+rest_flat p l outputs cells v e = rw (length_pairs l) e
 
 -- a shape that is fine has what the end asks
-pub end-asked : {p q n : ℕ} → Shape most_steps p q n → EndAsked p n
-end-asked s = record { p-low = s.sizes.p-low; n-low = s.few }
+pub end_asked : {p q n : ℕ} → Shape most_steps p q n → EndAsked p n
+end_asked s = record { p_low = s.sizes.p_low; n_low = s.few }
 
 -- an end that is fine
 pub record Ended (p n : ℕ) (outputs : List ℕ) (cells : ℕ) : Type 0 where
-  pub outputs-within : (i : ℕ) → i < length outputs → get_or outputs i 0 ≤ p + n
+  pub outputs_within : (i : ℕ) → i < length outputs → get_or outputs i 0 ≤ p + n
   pub cells_fit : p + n < cells
 
 pub ended : (p n : ℕ) (outputs : List ℕ) (cells : ℕ) → end_rule p n outputs cells ≡ fine → Ended p n outputs cells
 unfolding end_rule
 ended p n outputs cells e =
     let a = then_fine _ _ e in
-    let enough = not_lt cells (p + n + 1) (refuse_if-fine _ 5 0 a.1) in
-    record { outputs-within = outputs-low (p + n) 1 outputs a.0; cells_fit = omega arith }
+    let enough = not_lt cells (p + n + 1) (refuse_if_fine _ 5 0 a.1) in
+    record { outputs_within = outputs_low (p + n) 1 outputs a.0; cells_fit = omega arith }

@@ -8,8 +8,8 @@ use Rattle.chain.specs.declared.Step.{Step}
 
 -- what it asks of the columns and the steps
 pub record EndAsked (p n : ℕ) : Type 0 where
-  pub p-low : p ≤ most_columns
-  pub n-low : n ≤ most_steps
+  pub p_low : p ≤ most_columns
+  pub n_low : n ≤ most_steps
 
 -- after n steps: 12, then 5 where fewer cells are lent than there are values
 unfoldable pub end_rule : ℕ → ℕ → List ℕ → ℕ → Verdict

@@ -14,10 +14,10 @@ use Rattle.products.specs.Inner.{steps_in, SoFar, Emitted}
 use Rattle.products.specs.declared.Progress.{Progress}
 use Rattle.products.proofs.Emitted.{length-steps_in, stored_is, stored-length}
 use Rattle.clumps.specs.Levels.{product}
-use Rattle.clumps.proofs.Bound.{product-low, payslips-length}
+use Rattle.clumps.proofs.Bound.{product_low, payslips-length}
 use Rattle.rows.proofs.Lists.{slice_cell, slice_is}
 use Rattle.row_products.specs.Inner.{lists_from, Done}
-use Rattle.row_products.proofs.Multiplying.{stored-behind}
+use Rattle.row_products.proofs.Multiplying.{stored_behind}
 
 -- the state of the loop after j products: their chain is made, and the cells behind its outputs are as they were too
 pub record Making (to : ℕ) (slip : ℕ → List Step → Made) (start : List Step) (j : ℕ) (r : Progress) (old new : List ℕ) : Type 0 where
@@ -37,7 +37,7 @@ slips_few p lists start sum m adds (suc j) h =
     omega (
       arith,
       slips_few p lists start sum m adds j (omega arith),
-      product-low p (made (payslips (slip_of p lists) start j).steps 0) (get_or lists j []),
+      product_low p (made (payslips (slip_of p lists) start j).steps 0) (get_or lists j []),
       adds j (omega arith),
       ap sum (add-one j),
     )
@@ -72,14 +72,14 @@ module _ (to : ℕ) (slip : ℕ → List Step → Made) (old : List ℕ) where
 
     module _ (far : lists_from ≤ to) (s' : List ℕ) (r' : Progress) (v : ℕ) (e : Emitted s s' r' v (slip j (steps_in s r.steps)))
         (few : 2 * length (slip j before.steps).steps ≤ lists_from) (there : to + j < length old) where
-      made-is : Emitted s s' r' v (slip j before.steps)
-      made-is = rw state.done.steps at e
+      made_is : Emitted s s' r' v (slip j before.steps)
+      made_is = rw state.done.steps at e
 
       pub making_long : length s' ≡ length old
-      making_long = stored-length made-is.stored (omega (arith, state.done.size)) ∙ state.done.size
+      making_long = stored-length made_is.stored (omega (arith, state.done.size)) ∙ state.done.size
 
       other : (c : ℕ) → lists_from ≤ c → (c ≡ to + j → ⊥) → get_or (set s' (to + j) v) c 0 ≡ get_or s c 0
-      other c h ne = get_or_set_other s' (to + j) c v 0 ne ∙ stored-behind made-is.stored c (omega arith)
+      other c h ne = get_or_set_other s' (to + j) c v 0 ne ∙ stored_behind made_is.stored c (omega arith)
 
       abbrev value : ℕ
       value = (slip j before.steps).value
@@ -106,7 +106,7 @@ module _ (to : ℕ) (slip : ℕ → List Step → Made) (old : List ℕ) where
               let last : i ≡ j = omega (arith, long) in
               rw last
               (get_or-set_same s' (to + j) v 0 (omega (arith, making_long))
-              ∙ made-is.value
+              ∙ made_is.value
               ∙ sym (get_or_at before.outputs value [] 0 j (payslips-length slip start j)))
 
       pub making_on : Making to slip start (j + 1) r' old (set s' (to + j) v)
@@ -117,10 +117,10 @@ module _ (to : ℕ) (slip : ℕ → List Step → Made) (old : List ℕ) where
                 record {
                   size = length-set s' (to + j) v ∙ making_long;
                   steps =
-                      ap pairs (take-set-le (2 * r'.steps) s' (to + j) v (omega (arith, made-is.stored.count)))
-                      ∙ stored_is made-is.stored;
-                  count = made-is.stored.count;
-                  squarings = made-is.stored.squarings;
+                      ap pairs (take-set-le (2 * r'.steps) s' (to + j) v (omega (arith, made_is.stored.count)))
+                      ∙ stored_is made_is.stored;
+                  count = made_is.stored.count;
+                  squarings = made_is.stored.squarings;
                   kept = λ c h g. other c h (λ q. omega arith) ∙ state.done.kept c h g;
                   outputs = outputs_on;
                 };

@@ -10,7 +10,7 @@ use lib.Seq.{slice, slice_empty, slice-cons, length-slice, get_or-drop}
 use Rattle.chain.specs.Chain.{flat}
 use Rattle.chain.specs.declared.Step.{Step}
 use Rattle.chain.proofs.Pairs.{length-flat}
-use Rattle.chain.proofs.Written.{past-over}
+use Rattle.chain.proofs.Written.{past_over}
 use Rattle.chain.proofs.Picked.{length-pick}
 use Rattle.products.specs.Product.{Made, made, times}
 use Rattle.products.specs.Inner.{steps_in, StepsRoom, StepsStored, Emitted}
@@ -19,14 +19,14 @@ use Rattle.products.proofs.Sound.{Begins, begins_own, begins_on, begins_length}
 use Rattle.products.proofs.Product.{times_begins}
 use Rattle.products.proofs.Emitted.{length-steps_in, stored-length, emitted_own, emits_room, emits_on}
 use Rattle.clumps.specs.Levels.{product}
-use Rattle.clumps.proofs.Bound.{product-low}
+use Rattle.clumps.proofs.Bound.{product_low}
 use Rattle.row_products.specs.Inner.{values_at, ProductAsked}
 
 -- behind the steps nothing changed
-pub stored-behind : {old cells : List ℕ} {r : Progress} {steps : List Step} → StepsStored old cells r steps → (c : ℕ) → 2 * length steps ≤ c
+pub stored_behind : {old cells : List ℕ} {r : Progress} {steps : List Step} → StepsStored old cells r steps → (c : ℕ) → 2 * length steps ≤ c
     → get_or cells c 0 ≡ get_or old c 0
-stored-behind {old} {cells} {r} {steps} s c h =
-    let past : drop c cells ≡ drop c old = ap (drop c) s.cells_are ∙ past-over c (flat steps) old (omega (arith, length-flat steps)) in
+stored_behind {old} {cells} {r} {steps} s c h =
+    let past : drop c cells ≡ drop c old = ap (drop c) s.cells_are ∙ past_over c (flat steps) old (omega (arith, length-flat steps)) in
     sym (first cells) ∙ ap (λ (l : List ℕ). get_or l 0 0) past ∙ first old
   where
     first : (l : List ℕ) → get_or (drop c l) 0 0 ≡ get_or l c 0
@@ -50,11 +50,11 @@ module _ (p : ℕ) (old : List ℕ) (r₀ : Progress) (v₀ values from to : ℕ
   abbrev whole : Made
   whole = product p (made (steps_in old r₀.steps) v₀) (left from)
 
-  whole-few : length whole.steps ≤ r₀.steps + (to - from)
-  whole-few =
+  whole_few : length whole.steps ≤ r₀.steps + (to - from)
+  whole_few =
       omega (
         arith,
-        product-low p (made (steps_in old r₀.steps) v₀) (left from),
+        product_low p (made (steps_in old r₀.steps) v₀) (left from),
         length-steps_in old r₀ asked.so_far,
         length-pick (drop values old) (slice from to old),
         length-slice from to old asked.inside,
@@ -64,8 +64,8 @@ module _ (p : ℕ) (old : List ℕ) (r₀ : Progress) (v₀ values from to : ℕ
   room =
       record {
         so_far = asked.so_far;
-        cells_hold = omega (arith, whole-few, asked.before-places, asked.rises, asked.inside);
-        numbers_fit = omega (arith, whole-few, asked.numbers_fit);
+        cells_hold = omega (arith, whole_few, asked.before_places, asked.rises, asked.inside);
+        numbers_fit = omega (arith, whole_few, asked.numbers_fit);
       }
 
   pub multiplied_none : Multiplied p whole old old r₀ v₀ (left from)
@@ -73,10 +73,10 @@ module _ (p : ℕ) (old : List ℕ) (r₀ : Progress) (v₀ values from to : ℕ
 
   module _ (i : ℕ) (above : from ≤ i) (cells : List ℕ) (r : Progress) (v : ℕ) (state : Multiplied p whole old cells r v (left i)) where
     so_far_few : length state.so_far.steps ≤ r₀.steps + (to - from)
-    so_far_few = omega (arith, whole-few, begins_length (product_begins p state.so_far (left i)), ap (λ (m : Made). length m.steps) state.rest)
+    so_far_few = omega (arith, whole_few, begins_length (product_begins p state.so_far (left i)), ap (λ (m : Made). length m.steps) state.rest)
 
     pub multiplied_long : length cells ≡ length old
-    multiplied_long = stored-length state.emitted.stored (omega (arith, so_far_few, asked.before-places, asked.rises, asked.inside))
+    multiplied_long = stored-length state.emitted.stored (omega (arith, so_far_few, asked.before_places, asked.rises, asked.inside))
 
     pub multiplied_all : to ≤ i → i ≤ to → Emitted old cells r v whole
     multiplied_all h g =
@@ -87,10 +87,10 @@ module _ (p : ℕ) (old : List ℕ) (r₀ : Progress) (v₀ values from to : ℕ
 
     module _ (less : i < to) where
       same : (c : ℕ) → 2 * (r₀.steps + (to - from)) ≤ c → get_or cells c 0 ≡ get_or old c 0
-      same c h = stored-behind state.emitted.stored c (omega (arith, so_far_few))
+      same c h = stored_behind state.emitted.stored c (omega (arith, so_far_few))
 
       place_same : get_or cells i 0 ≡ get_or old i 0
-      place_same = same i (omega (arith, asked.before-places))
+      place_same = same i (omega (arith, asked.before_places))
 
       pub multiplied_there : values + get_or cells i 0 < length cells
       multiplied_there = omega (arith, place_same, asked.there i above less, multiplied_long)
@@ -101,7 +101,7 @@ module _ (p : ℕ) (old : List ℕ) (r₀ : Progress) (v₀ values from to : ℕ
 
       factor_is : factor ≡ get_or (drop values old) (get_or old i 0) 0
       factor_is =
-          same (values + get_or cells i 0) (omega (arith, asked.before-values))
+          same (values + get_or cells i 0) (omega (arith, asked.before_values))
           ∙ ap (λ (k : ℕ). get_or old (values + k) 0) place_same
           ∙ sym (get_or-drop values old (get_or old i 0) 0)
 

@@ -12,7 +12,7 @@ use Rattle.products.specs.Inner.{SoFar}
 use Rattle.products.specs.declared.Progress.{Progress}
 use Rattle.rows.specs.Inner.{members_at, row_at}
 use Rattle.rows.proofs.Lists.{slice_cell}
-use Rattle.rows.proofs.Rows.{place-above, place-below, row_inside, row_long, row_kept}
+use Rattle.rows.proofs.Rows.{place_above, place_below, row_inside, row_long, row_kept}
 use Rattle.row_products.specs.Inner.{values_at, lists_from, PlacesAt, RowAsked}
 
 module _ (old : List ℕ) (at m n : ℕ) (rows : PlacesAt old at m n) where
@@ -20,21 +20,21 @@ module _ (old : List ℕ) (at m n : ℕ) (rows : PlacesAt old at m n) where
   abbrev place_of : ℕ → ℕ
   place_of j = get_or old (at + j) 0
 
-  place-next : (j : ℕ) → get_or old (at + (j + 1)) 0 ≡ get_or old (at + j + 1) 0
-  place-next j = let e : at + (j + 1) ≡ at + j + 1 = omega arith in ap (λ (c : ℕ). get_or old c 0) e
+  place_next : (j : ℕ) → get_or old (at + (j + 1)) 0 ≡ get_or old (at + j + 1) 0
+  place_next j = let e : at + (j + 1) ≡ at + j + 1 = omega arith in ap (λ (c : ℕ). get_or old c 0) e
 
   -- row j has as many numbers as there are cells from its place to the next
   pub row_adds : (j : ℕ) → j < m → length (row_at old at j) + place_of j ≡ place_of (j + 1)
-  row_adds j h = omega (arith, row_long old at m _ rows.formed j h, rows.formed.rises j h, place-next j)
+  row_adds j h = omega (arith, row_long old at m _ rows.formed j h, rows.formed.rises j h, place_next j)
 
   -- so the first j rows together have no more than all
   pub rows_few : (j : ℕ) → j ≤ m → place_of j ≤ place_of 0 + members_at old at m
-  rows_few j h = omega (arith, place-below old at m _ rows.formed j h, place-above old at m _ rows.formed 0 (omega arith))
+  rows_few j h = omega (arith, place_below old at m _ rows.formed j h, place_above old at m _ rows.formed 0 (omega arith))
 
   module _ (values : ℕ) (s : List ℕ) (size : length s ≡ length old) (same : (c : ℕ) → at ≤ c → c < get_or old (at + m) 0 → get_or s c 0 ≡ get_or old c 0) (j : ℕ)
       (less : j < m) where
     inside : at + m + 1 ≤ get_or old (at + m) 0
-    inside = place-above old at m _ rows.formed m (omega arith)
+    inside = place_above old at m _ rows.formed m (omega arith)
 
     starts : get_or s (at + j) 0 ≡ get_or old (at + j) 0
     starts = same (at + j) (omega arith) (omega (arith, inside))
@@ -44,7 +44,7 @@ module _ (old : List ℕ) (at m n : ℕ) (rows : PlacesAt old at m n) where
 
     pub row_asked : (p : ℕ) (r : Progress) → SoFar s r → p ≤ most_columns → lists_from ≤ at → lists_from ≤ values → values + n ≤ length old
         → 2 * (r.steps + length (row_at old at j)) ≤ lists_from → RowAsked p s r values at j
-    row_asked p r so_far columns rows_behind values-behind values-inside room =
+    row_asked p r so_far columns rows_behind values_behind values-inside room =
         let between = row_inside old at m _ rows.formed j less in
         let long = row_long old at m _ rows.formed j less in
         let up = rows.formed.rises j less in
@@ -57,8 +57,8 @@ module _ (old : List ℕ) (at m n : ℕ) (rows : PlacesAt old at m n) where
                 so_far = so_far;
                 rises = up;
                 inside = omega (arith, between.1);
-                before-places = omega (arith, between.0);
-                before-values = omega arith;
+                before_places = omega (arith, between.0);
+                before_values = omega arith;
                 there = λ i h g.
                     omega (
                       arith,

@@ -14,7 +14,7 @@ use Rattle.products.specs.Inner.{steps_in, Emitted}
 use Rattle.products.specs.declared.Progress.{Progress}
 use Rattle.products.proofs.Emitted.{length-steps_in}
 use Rattle.clumps.specs.Levels.{product, separately}
-use Rattle.clumps.proofs.Bound.{product-low}
+use Rattle.clumps.proofs.Bound.{product_low}
 use Rattle.rows.specs.Inner.{row_at, rows_at}
 use Rattle.rows.proofs.Rows.{row_is}
 use Rattle.row_products.specs.Inner.{values_at, lists_from, SeparatelyAsked, RowAsked, Done}
@@ -36,12 +36,12 @@ module _ (p : ℕ) (old : List ℕ) (problem : Problem) (to : ℕ) (r₀ : Progr
   abbrev values : List ℕ
   values = slice problem.ins (problem.ins + problem.n) old
 
-  factors-are : (j : ℕ) → j < problem.m → get_or (factors_in old problem) j [] ≡ pick values (row_at old problem.outs j)
-  factors-are j h =
+  factors_are : (j : ℕ) → j < problem.m → get_or (factors_in old problem) j [] ≡ pick values (row_at old problem.outs j)
+  factors_are j h =
       get_or-map (pick values) (rows_at old problem.outs problem.m) j [] ∙ ap (pick values) ((row_is old problem.outs problem.m).0 j h)
 
   far : lists_from ≤ to
-  far = omega (arith, asked.values-behind, asked.values-before)
+  far = omega (arith, asked.values_behind, asked.values_before)
 
   pub separate_none : Making to slip start 0 r₀ old old
   separate_none = making_none to slip old r₀ asked.front.so_far
@@ -63,17 +63,17 @@ module _ (p : ℕ) (old : List ℕ) (problem : Problem) (to : ℕ) (r₀ : Progr
         adds i h =
             omega (
               arith,
-              ap length (factors-are i h),
+              ap length (factors_are i h),
               length-pick values (row_at old problem.outs i),
               row_adds old problem.outs problem.m problem.n asked.rows i h,
             )
 
-    product-room : 2 * length (slip j (payslips slip start j).steps).steps ≤ lists_from
-    product-room =
+    product_room : 2 * length (slip j (payslips slip start j).steps).steps ≤ lists_from
+    product_room =
         omega (
           arith,
-          product-low p (made (payslips slip start j).steps 0) (get_or (factors_in old problem) j []),
-          ap length (factors-are j less),
+          product_low p (made (payslips slip start j).steps 0) (get_or (factors_in old problem) j []),
+          ap length (factors_are j less),
           length-pick values (row_at old problem.outs j),
           row_room,
         )
@@ -88,8 +88,8 @@ module _ (p : ℕ) (old : List ℕ) (problem : Problem) (to : ℕ) (r₀ : Progr
           (making_so_far to slip old start j r s state (omega (arith, row_room, far, asked.room)))
           asked.front.columns
           asked.rows_behind
-          asked.values-behind
-          (omega (arith, asked.values-before, asked.room))
+          asked.values_behind
+          (omega (arith, asked.values_before, asked.room))
           (omega (arith, row_room, state.done.count))
 
       module _ (s' : List ℕ) (r' : Progress) (v : ℕ)
@@ -98,15 +98,15 @@ module _ (p : ℕ) (old : List ℕ) (problem : Problem) (to : ℕ) (r₀ : Progr
         emitted =
             let is =
             row_values old problem.outs problem.m problem.n asked.rows problem.ins s state.done.size same_rows j less (λ c h g.
-            state.done.kept c (omega (arith, asked.values-behind)) (omega (arith, asked.values-before)))
-            ∙ sym (factors-are j less) in
+            state.done.kept c (omega (arith, asked.values_behind)) (omega (arith, asked.values_before)))
+            ∙ sym (factors_are j less) in
             rw is at e
 
         pub separate_long : length s' ≡ length old
-        separate_long = making_long to slip old start j r s state far s' r' v emitted product-room (omega (arith, asked.room))
+        separate_long = making_long to slip old start j r s state far s' r' v emitted product_room (omega (arith, asked.room))
 
         pub separate_on : Making to slip start (j + 1) r' old (set s' (to + j) v)
-        separate_on = making_on to slip old start j r s state far s' r' v emitted product-room (omega (arith, asked.room))
+        separate_on = making_on to slip old start j r s state far s' r' v emitted product_room (omega (arith, asked.room))
 
   pub separate_all : (j : ℕ) (r : Progress) (s : List ℕ) → j ≤ problem.m → problem.m ≤ j → Making to slip start j r old s
       → Done to r (separately p values (rows_at old problem.outs problem.m) start) old s

@@ -19,8 +19,8 @@ pub record ProductAsked (p : ℕ) (s : List ℕ) (r : Progress) (values from to 
   pub so_far : SoFar s r
   pub rises : from ≤ to
   pub inside : to ≤ length s
-  pub before-places : 2 * (r.steps + (to - from)) ≤ from
-  pub before-values : 2 * (r.steps + (to - from)) ≤ values
+  pub before_places : 2 * (r.steps + (to - from)) ≤ from
+  pub before_values : 2 * (r.steps + (to - from)) ≤ values
   pub there : (i : ℕ) → from ≤ i → i < to → values + get_or s i 0 < length s
   pub numbers_fit : p + r.steps + (to - from) < 2 ^ 32
 
@@ -48,8 +48,8 @@ pub record ProblemAt (s : List ℕ) (t : Problem) (to : ℕ) : Type 0 where
   pub rising : (j : ℕ) → j < t.m → Rising t.n (row_at s t.outs j)
   pub rows_behind : lists_from ≤ t.outs
   pub rows_before : get_or s (t.outs + t.m) 0 ≤ to
-  pub values-behind : lists_from ≤ t.ins
-  pub values-before : t.ins + t.n ≤ to
+  pub values_behind : lists_from ≤ t.ins
+  pub values_before : t.ins + t.n ≤ to
 
 -- the steps so far, and room before the rows for so many more
 pub record FrontRoom (p : ℕ) (s : List ℕ) (r : Progress) (more : ℕ) : Type 0 where
@@ -62,8 +62,8 @@ pub record SeparatelyAsked (p : ℕ) (s : List ℕ) (problem : Problem) (to : �
   pub rows : PlacesAt s problem.outs problem.m problem.n
   pub rows_behind : lists_from ≤ problem.outs
   pub rows_before : get_or s (problem.outs + problem.m) 0 ≤ to
-  pub values-behind : lists_from ≤ problem.ins
-  pub values-before : problem.ins + problem.n ≤ to
+  pub values_behind : lists_from ≤ problem.ins
+  pub values_before : problem.ins + problem.n ≤ to
   pub room : to + problem.m ≤ length s
   pub front : FrontRoom p s r (members_at s problem.outs problem.m)
 
@@ -76,13 +76,13 @@ joined s j =
 -- m rows of places of k values and m rows of places of n inputs; the inputs stand before cell `to`, all else behind the room for m outputs there
 pub record JoinAsked (p : ℕ) (s : List ℕ) (j : Joint) (to : ℕ) (r : Progress) : Type 0 where
   pub clump_rows_lem : PlacesAt s j.clumps j.m j.k
-  pub rest-rows : PlacesAt s j.rest j.m j.n
-  pub clumps-behind : to + j.m ≤ j.clumps
-  pub rest-behind : to + j.m ≤ j.rest
-  pub made-behind : to + j.m ≤ j.made
+  pub rest_rows : PlacesAt s j.rest j.m j.n
+  pub clumps_behind : to + j.m ≤ j.clumps
+  pub rest_behind : to + j.m ≤ j.rest
+  pub made_behind : to + j.m ≤ j.made
   pub made_inside : j.made + j.k ≤ length s
-  pub values-behind : lists_from ≤ j.ins
-  pub values-before : j.ins + j.n ≤ to
+  pub values_behind : lists_from ≤ j.ins
+  pub values_before : j.ins + j.n ≤ to
   pub front : FrontRoom p s r (members_at s j.clumps j.m + members_at s j.rest j.m)
 
 -- multiplying by the values that row j of those at a cell names asks for its places, and what a product of it asks

@@ -37,10 +37,10 @@ module _ (at m : ℕ) (f : ℕ → List ℕ) where
       record {
         some = omega arith;
         first = kept at (omega arith) (omega (arith, d.between 0 (omega arith))) (omega arith) ∙ d.first;
-        last = own-place;
+        last = own_place;
         inside = rw (length-set new (at + j + 1) end) inside;
-        rises = λ i g. by-place-rises i g (ℕ_discrete i j);
-        between = λ i g. by-place-between i g (ℕ_discrete i (j + 1));
+        rises = λ i g. by_place_rises i g (ℕ_discrete i j);
+        between = λ i g. by_place_between i g (ℕ_discrete i (j + 1));
         are = λ i g. by_place i g (ℕ_discrete i j);
       }
     where
@@ -53,13 +53,13 @@ module _ (at m : ℕ) (f : ℕ → List ℕ) where
       kept : (c : ℕ) → at ≤ c → c < e → (c ≡ at + j + 1 → ⊥) → get_or t c 0 ≡ get_or s c 0
       kept c a b ne = get_or_set_other new (at + j + 1) c end 0 ne ∙ same c a b
 
-      own-place : get_or t (at + (j + 1)) 0 ≡ end
-      own-place =
+      own_place : get_or t (at + (j + 1)) 0 ≡ end
+      own_place =
           let q : at + (j + 1) ≡ at + j + 1 = omega arith in
           ap (λ (c : ℕ). get_or t c 0) q ∙ get_or-set_same new (at + j + 1) end 0 (omega (arith, head))
 
-      own-end : get_or t (at + j + 1) 0 ≡ end
-      own-end = get_or-set_same new (at + j + 1) end 0 (omega (arith, head))
+      own_end : get_or t (at + j + 1) 0 ≡ end
+      own_end = get_or-set_same new (at + j + 1) end 0 (omega (arith, head))
 
       place : (i : ℕ) → i ≤ j → get_or t (at + i) 0 ≡ get_or s (at + i) 0
       place i g = kept (at + i) (omega arith) (omega (arith, head)) (λ q. omega arith)
@@ -67,20 +67,20 @@ module _ (at m : ℕ) (f : ℕ → List ℕ) where
       next : (i : ℕ) → i < j → get_or t (at + i + 1) 0 ≡ get_or s (at + i + 1) 0
       next i g = kept (at + i + 1) (omega arith) (omega (arith, head)) (λ q. omega arith)
 
-      by-place-rises : (i : ℕ) → i < j + 1 → Dec (i ≡ j) → get_or t (at + i) 0 ≤ get_or t (at + i + 1) 0
-      by-place-rises i g (yes q) =
-          rw q (omega (arith, place j (omega arith), d.last, own-end))
-      by-place-rises i g (no ne) = omega (arith, place i (omega arith), next i (omega arith), d.rises i (omega arith))
+      by_place_rises : (i : ℕ) → i < j + 1 → Dec (i ≡ j) → get_or t (at + i) 0 ≤ get_or t (at + i + 1) 0
+      by_place_rises i g (yes q) =
+          rw q (omega (arith, place j (omega arith), d.last, own_end))
+      by_place_rises i g (no ne) = omega (arith, place i (omega arith), next i (omega arith), d.rises i (omega arith))
 
-      by-place-between : (i : ℕ) → i ≤ j + 1 → Dec (i ≡ j + 1) → (at + m + 1 ≤ get_or t (at + i) 0) × (get_or t (at + i) 0 ≤ end)
-      by-place-between i g (yes q) = rw q (omega (arith, own-place, head), omega (arith, own-place))
-      by-place-between i g (no ne) =
+      by_place_between : (i : ℕ) → i ≤ j + 1 → Dec (i ≡ j + 1) → (at + m + 1 ≤ get_or t (at + i) 0) × (get_or t (at + i) 0 ≤ end)
+      by_place_between i g (yes q) = rw q (omega (arith, own_place, head), omega (arith, own_place))
+      by_place_between i g (no ne) =
           (omega (arith, place i (omega arith), d.between i (omega arith)), omega (arith, place i (omega arith), d.between i (omega arith)))
 
       by_place : (i : ℕ) → i < j + 1 → Dec (i ≡ j) → row_at t at i ≡ f i
       by_place i g (yes q) =
           rw q
-          (ap₂ (λ (a b : ℕ). slice a b t) (place j (omega arith) ∙ d.last) own-end
+          (ap₂ (λ (a b : ℕ). slice a b t) (place j (omega arith) ∙ d.last) own_end
           ∙ slice_same e end t new (rw (length-set new (at + j + 1) end) inside) inside (λ c a b. get_or_set_other new (at + j + 1) c end 0 (λ r. omega (arith, head)))
           ∙ is)
       by_place i g (no ne) =
@@ -105,9 +105,9 @@ module _ (at m : ℕ) (f : ℕ → List ℕ) where
   over_none s own h =
       record { rows = rows_none s own h; apart = record { size = refl; before = λ c g. refl; behind = λ c g. refl }; end = omega arith }
 
-  pub over-more : (j e : ℕ) (old s new : List ℕ) → RowsOver at m j e f old s → j < m → new ≡ laid e (f j) s → e + length (f j) ≤ length s
+  pub over_more : (j e : ℕ) (old s new : List ℕ) → RowsOver at m j e f old s → j < m → new ≡ laid e (f j) s → e + length (f j) ≤ length s
       → RowsOver at m (j + 1) (e + length (f j)) f old (set new (at + j + 1) (e + length (f j)))
-  over-more j e old s new d h is room =
+  over_more j e old s new d h is room =
       record {
         rows =
             rows_more j e (e + length (f j)) s new d.rows h (λ c a b. ap (λ (l : List ℕ). get_or l c 0) is ∙ cell_before e (f j) s room c b) (omega arith)
@@ -133,8 +133,8 @@ module _ (at m : ℕ) (f : ℕ → List ℕ) where
       other c ne = get_or_set_other new (at + j + 1) c (e + length (f j)) 0 ne
 
   -- all of them, the first place too
-  pub over-all : (e : ℕ) (old s new : List ℕ) → s ≡ set old at (at + m + 1) → RowsOver at m m e f s new → RowsLaid at e (list_to m f) old new
-  over-all e old s new is d =
+  pub over_all : (e : ℕ) (old s new : List ℕ) → s ≡ set old at (at + m + 1) → RowsOver at m m e f s new → RowsLaid at e (list_to m f) old new
+  over_all e old s new is d =
       let all = rows_all e new d.rows in
       let long : length (list_to m f) ≡ m = length-list m f in
       record {

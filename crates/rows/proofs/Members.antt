@@ -9,7 +9,7 @@ use Rattle.clumps.specs.Lists.{joined}
 use Rattle.clumps.proofs.Lists.{get_d_map_in}
 use Rattle.rows.specs.Inner.{row_at, Formed}
 use Rattle.rows.proofs.Lists.{slice_cell, slice_is, slice_split}
-use Rattle.rows.proofs.Rows.{place-above, place-below}
+use Rattle.rows.proofs.Rows.{place_above, place_below}
 
 module _ (s : List ℕ) (at m e : ℕ) (formed : Formed s at m e) where
   rows_so_far : (j : ℕ) → j ≤ m → slice (at + m + 1) (get_or s (at + j) 0) s ≡ joined j (row_at s at)
@@ -21,12 +21,12 @@ module _ (s : List ℕ) (at m e : ℕ) (formed : Formed s at m e) where
       let q : at + suc j ≡ at + j + 1 = omega arith in
       let end : get_or s (at + suc j) 0 ≡ get_or s (at + j + 1) 0 = ap (λ (c : ℕ). get_or s c 0) q in
       ap (λ (t : ℕ). slice (at + m + 1) t s) end
-      ∙ slice_split (at + m + 1) (get_or s (at + j) 0) (get_or s (at + j + 1) 0) s (place-above s at m e formed j (omega arith)) (formed.rises j (omega arith))
-      (omega (arith, place-below s at m e formed (suc j) h, formed.inside, end))
+      ∙ slice_split (at + m + 1) (get_or s (at + j) 0) (get_or s (at + j + 1) 0) s (place_above s at m e formed j (omega arith)) (formed.rises j (omega arith))
+      (omega (arith, place_below s at m e formed (suc j) h, formed.inside, end))
       ∙ ap (λ (l : List ℕ). l ++ row_at s at j) (rows_so_far j (omega arith))
 
-  pub rows-joined : slice (at + m + 1) e s ≡ joined m (row_at s at)
-  rows-joined = ap (λ (t : ℕ). slice (at + m + 1) t s) (sym formed.last) ∙ rows_so_far m (omega arith)
+  pub rows_joined : slice (at + m + 1) e s ≡ joined m (row_at s at)
+  rows_joined = ap (λ (t : ℕ). slice (at + m + 1) t s) (sym formed.last) ∙ rows_so_far m (omega arith)
 
 -- a part of what was changed
 pub part_changed : (f : ℕ → ℕ) (from to g h : ℕ) (old new : List ℕ) → to ≤ length old → to ≤ length new → from ≤ g → h ≤ to

@@ -9,19 +9,19 @@ use Rattle.chain.specs.Tests.{◌<?◌, ◌or◌}
 use Rattle.chain.specs.Verdict.{Verdict, fine, ◌then◌, refuse_if}
 use Rattle.chain.specs.Chain.{most_steps, pairs, shape_rule, chain_rule}
 use Rattle.chain.specs.declared.Step.{Step}
-use Rattle.chain.proofs.Rules.{then_assoc, then_fine, told-after, refuse_either, refuse_if-fine, neither, not_eq, not_ne}
+use Rattle.chain.proofs.Rules.{then_assoc, then_fine, told_after, refuse_either, refuse_if_fine, neither, not_eq, not_ne}
 use Rattle.chain.proofs.Pairs.{length_pairs}
 use Rattle.chain.proofs.Sizes.{Shape, shape_fits}
 use Rattle.rest.specs.Inner.{rest_rule}
-use Rattle.rest.proofs.Rest.{rest-is}
+use Rattle.rest.proofs.Rest.{rest_is}
 use Rattle.run.specs.Run.{run_rule}
 use Rattle.run.specs.Inner.{start_rule, figures_rule}
 
-pub run-parts : (p : ℕ) (steps : List Step) (outputs : List ℕ) (m : ℕ) (bases : List ℕ) (cells figures : ℕ)
+pub run_parts : (p : ℕ) (steps : List Step) (outputs : List ℕ) (m : ℕ) (bases : List ℕ) (cells figures : ℕ)
     → (start_rule p (length outputs) (length steps) m bases then rest_rule p steps outputs cells then figures_rule (length outputs) figures)
     ≡ run_rule p steps outputs m bases cells figures
 unfolding run_rule start_rule figures_rule
-run-parts p steps outputs m bases cells figures =
+run_parts p steps outputs m bases cells figures =
     ap (λ (v : Verdict). start_rule p (length outputs) (length steps) m bases then v) room
     ∙ then_assoc (shape_rule most_steps p (length outputs) (length steps)) _ _
     ∙ ap (λ (v : Verdict). shape_rule most_steps p (length outputs) (length steps) then v) (then_assoc _ _ _)
@@ -33,33 +33,33 @@ run-parts p steps outputs m bases cells figures =
     room : (rest_rule p steps outputs cells then refuse_if (figures <? length outputs) 5 0)
         ≡ (chain_rule p steps outputs then refuse_if (few or figures <? length outputs) 5 0)
     room =
-        ap (λ (v : Verdict). v then refuse_if (figures <? length outputs) 5 0) (rest-is p steps outputs cells)
+        ap (λ (v : Verdict). v then refuse_if (figures <? length outputs) 5 0) (rest_is p steps outputs cells)
         ∙ then_assoc (chain_rule p steps outputs) (refuse_if few 5 0) _
         ∙ ap (λ (v : Verdict). chain_rule p steps outputs then v) (refuse_either few (figures <? length outputs) 5 0)
 
 -- the verdict on a flat list, part by part
-pub run-flat : (p : ℕ) (l outputs : List ℕ) (m : ℕ) (bases : List ℕ) (cells figures : ℕ) (s r v : Verdict)
+pub run_flat : (p : ℕ) (l outputs : List ℕ) (m : ℕ) (bases : List ℕ) (cells figures : ℕ) (s r v : Verdict)
     → s ≡ start_rule p (length outputs) (length l / 2) m bases → r ≡ (s then rest_rule p (pairs l) outputs cells)
     → v ≡ (r then figures_rule (length outputs) figures) → v ≡ run_rule p (pairs l) outputs m bases cells figures
-run-flat p l outputs m bases cells figures s r v starts rests e =
-    told-after s _ _ v (starts ∙ ap (λ (n : ℕ). start_rule p (length outputs) n m bases) (sym (length_pairs l)))
-    (told-after r _ _ v rests e ∙ then_assoc s (rest_rule p (pairs l) outputs cells) (figures_rule (length outputs) figures))
-    ∙ run-parts p (pairs l) outputs m bases cells figures
+run_flat p l outputs m bases cells figures s r v starts rests e =
+    told_after s _ _ v (starts ∙ ap (λ (n : ℕ). start_rule p (length outputs) n m bases) (sym (length_pairs l)))
+    (told_after r _ _ v rests e ∙ then_assoc s (rest_rule p (pairs l) outputs cells) (figures_rule (length outputs) figures))
+    ∙ run_parts p (pairs l) outputs m bases cells figures
 
 -- a start that is fine
 pub record Started (p q n m : ℕ) (bases : List ℕ) : Type 0 where
   pub shape : Shape most_steps p q n
   pub modulus : 0 < m
-  pub bases-are-p : length bases ≡ p
+  pub bases_are_p : length bases ≡ p
 
 pub started : (p q n m : ℕ) (bases : List ℕ) → start_rule p q n m bases ≡ fine → Started p q n m bases
 unfolding start_rule
 started p q n m bases e =
     let a = then_fine _ _ e in
     let c = then_fine _ _ a.1 in
-    let some = not_eq m 0 (refuse_if-fine _ 15 0 c.0) in
+    let some = not_eq m 0 (refuse_if_fine _ 15 0 c.0) in
     record {
       shape = shape_fits most_steps p q n a.0;
       modulus = omega arith;
-      bases-are-p = not_ne (length bases) p (neither _ _ (refuse_if-fine _ 16 0 c.1)).0;
+      bases_are_p = not_ne (length bases) p (neither _ _ (refuse_if_fine _ 16 0 c.1)).0;
     }

@@ -5,9 +5,9 @@ use Rattle.chain.specs.Inner.{StepsSound}
 -- what the steps' products ask
 pub record MultiplyAsked (p : ℕ) (steps : List ℕ) (m : ℕ) (cells : List ℕ) : Type 0 where
   pub modulus : 0 < m
-  pub steps-sound : StepsSound p steps cells
+  pub steps_sound : StepsSound p steps cells
 
 -- what all values ask
 pub record FillAsked (p : ℕ) (steps : List ℕ) (m : ℕ) (bases cells : List ℕ) : Type 0 where
   pub products : MultiplyAsked p steps m cells
-  pub bases-are-p : length bases ≡ p
+  pub bases_are_p : length bases ≡ p

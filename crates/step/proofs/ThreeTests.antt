@@ -9,32 +9,32 @@ use Rattle.step.specs.Inner.{passed}
 
 pub three_tests : (v s a b : ℕ) → (b ≡ 0 → ⊥) → b ≤ a → a < v → fine ≡ step_rule v s (by a b)
 three_tests v s a b some in_order low =
-    let b-some : 0 < b = omega arith in
+    let b_some : 0 < b = omega arith in
     sym
     (legal_step v s (by a b)
-    (record { first_some = omega arith; second-some = b-some; first-low = low; second-low = omega arith; in_order = in_order }))
+    (record { first_some = omega arith; second_some = b_some; first_low = low; second_low = omega arith; in_order = in_order }))
 
 -- what is counted for the step
 module _ (v a b : ℕ) where
-  pub counts-one : (b ≡ 0 → ⊥) → b ≤ a → a < v → (s : ℕ) → 1 ≡ passed (step_rule v s (by a b))
+  pub counts_one : (b ≡ 0 → ⊥) → b ≤ a → a < v → (s : ℕ) → 1 ≡ passed (step_rule v s (by a b))
   unfolding passed
-  counts-one some in_order low s = ap passed (three_tests v s a b some in_order low)
+  counts_one some in_order low s = ap passed (three_tests v s a b some in_order low)
 
-  counts-none : (LegalStep v (by a b) → ⊥) → (s : ℕ) → 0 ≡ passed (step_rule v s (by a b))
+  counts_none : (LegalStep v (by a b) → ⊥) → (s : ℕ) → 0 ≡ passed (step_rule v s (by a b))
   unfolding passed
-  counts-none not-legal s = by-verdict (step_rule v s (by a b)) (λ e. not-legal (step_legal v s (by a b) e))
+  counts_none not-legal s = by_verdict (step_rule v s (by a b)) (λ e. not-legal (step_legal v s (by a b) e))
     where
-      by-verdict : (w : Verdict) → (w ≡ fine → ⊥) → 0 ≡ passed w
-      by-verdict fine not_fine = absurd (not_fine refl)
-      by-verdict (refused n s) not_fine = refl
+      by_verdict : (w : Verdict) → (w ≡ fine → ⊥) → 0 ≡ passed w
+      by_verdict fine not_fine = absurd (not_fine refl)
+      by_verdict (refused n s) not_fine = refl
 
   pub second_none : b ≡ 0 → (s : ℕ) → 0 ≡ passed (step_rule v s (by a b))
-  second_none e = counts-none (λ l. omega (arith, l.second-some))
+  second_none e = counts_none (λ l. omega (arith, l.second_some))
 
   pub out_of_order : a < b → (s : ℕ) → 0 ≡ passed (step_rule v s (by a b))
-  out_of_order h = counts-none (λ l. omega (arith, l.in_order))
+  out_of_order h = counts_none (λ l. omega (arith, l.in_order))
 
   pub not_before : v ≤ a → (s : ℕ) → 0 ≡ passed (step_rule v s (by a b))
-  not_before h = counts-none (λ l. omega (arith, l.first-low))
+  not_before h = counts_none (λ l. omega (arith, l.first_low))
 
-pub ruleset counting_step = (counts-one, second_none, out_of_order, not_before)
+pub ruleset counting_step = (counts_one, second_none, out_of_order, not_before)

@@ -10,11 +10,11 @@ use Rattle.chain.specs.declared.Step.{Step}
 use Rattle.chain.proofs.Exponents.{Makes}
 use Rattle.digits.specs.Digits.{digit}
 use Rattle.digits.specs.Range.{sum_to, sign}
-use Rattle.digits.proofs.Range.{sign-some, sign_pos}
+use Rattle.digits.proofs.Range.{sign_some, sign_pos}
 use Rattle.digits.proofs.Vector.{digits_from}
 use Rattle.products.specs.Product.{made, squared}
 use Rattle.products.proofs.Sound.{makes_on, Sound}
-use Rattle.products.proofs.Product.{times_cost, squared-sign, squared-count, Result, result_empty, result_like, result_times, result_squared}
+use Rattle.products.proofs.Product.{times_cost, squared_sign, squared_count, Result, result_empty, result_like, result_times, result_squared}
 use Rattle.straus.specs.Straus.{horner}
 
 -- the upper n of J digits of the numbers x, where e j makes their digit j
@@ -31,8 +31,8 @@ module _ (p limit k : ℕ) (e : ℕ → ℕ) (x : ℕ → ℕ) (J : ℕ) {before
       let r = result_squared k (horner_makes n (omega arith)) (λ c g. omega (arith, join c, within c g)) in
       result_like (λ c g. join c) (result_times r (makes_on r.begins (made j)) (λ c g. rw (join c) (within c g)))
 
-  pub horner-all : Result p limit before (horner p k e J before J) x
-  horner-all = result_like (λ c g. rw (sub_self J, mul-zero k) (div-one (x c))) (horner_makes J (le_refl J))
+  pub horner_all : Result p limit before (horner p k e J before J) x
+  horner_all = result_like (λ c g. rw (sub_self J, mul-zero k) (div-one (x c))) (horner_makes J (le_refl J))
 
 -- The upper n + 1 of J + 1 digits, where the top digit is not empty: each digit below it costs k squarings, and a step if it is not empty itself.
 pub record HornerCounted (p k : ℕ) (e : ℕ → ℕ) (J : ℕ) (before : List Step) (n : ℕ) : Type 0 where
@@ -40,15 +40,15 @@ pub record HornerCounted (p k : ℕ) (e : ℕ → ℕ) (J : ℕ) (before : List 
   pub count : length (horner p k e (suc J) before (suc n)).steps + sum_to (J - n) (λ j. sign (e j)) ≡ length before + n * k + sum_to J (λ j. sign (e j))
 
 module _ (p k : ℕ) (e : ℕ → ℕ) (J : ℕ) (before : List Step) (top : 0 < e J) where
-  count-top : HornerCounted p k e J before 0
-  count-top =
+  count_top : HornerCounted p k e J before 0
+  count_top =
       let s = squared p k (made before 0) in
       let r = times_cost p s (e (suc J - 1)) in
       let here : 0 < e (suc J - 1) = rw (sub-one (suc J)) top in
-      let none : sign s.value * sign (e (suc J - 1)) ≡ 0 = rw (squared-sign p k (made before 0)) (zero-mul _) in
+      let none : sign s.value * sign (e (suc J - 1)) ≡ 0 = rw (squared_sign p k (made before 0)) (zero-mul _) in
       record {
-        value = r.value ∙ sign-some (s.value + e (suc J - 1)) (omega arith);
-        count = rw (sub-zero J) (omega (arith, r.count, squared-count p k (made before 0), zero-mul k));
+        value = r.value ∙ sign_some (s.value + e (suc J - 1)) (omega arith);
+        count = rw (sub-zero J) (omega (arith, r.count, squared_count p k (made before 0), zero-mul k));
       }
 
   count_next : (n : ℕ) → n < J → HornerCounted p k e J before n → HornerCounted p k e J before (suc n)
@@ -57,23 +57,23 @@ module _ (p k : ℕ) (e : ℕ → ℕ) (J : ℕ) (before : List Step) (top : 0 <
       let s = squared p k m in
       let j : ℕ = suc J - suc (suc n) in
       let r = times_cost p s (e j) in
-      let one : sign s.value ≡ 1 = squared-sign p k m ∙ c.value in
+      let one : sign s.value ≡ 1 = squared_sign p k m ∙ c.value in
       let step : sign s.value * sign (e j) ≡ sign (e j) = rw one (one-mul (sign (e j))) in
       let squarings : sign m.value * k ≡ k = rw c.value (one-mul k) in
       let place : j ≡ J - suc n = omega arith in
       let left : J - n ≡ suc (J - suc n) = omega arith in
       let split : sum_to (J - n) (λ i. sign (e i)) ≡ sum_to (J - suc n) (λ i. sign (e i)) + sign (e j) = rw (place, left) in
       record {
-        value = r.value ∙ sign-some (s.value + e j) (omega (arith, sign_pos s.value one));
-        count = omega (arith, c.count, r.count, squared-count p k m, suc-mul n k, split);
+        value = r.value ∙ sign_some (s.value + e j) (omega (arith, sign_pos s.value one));
+        count = omega (arith, c.count, r.count, squared_count p k m, suc-mul n k, split);
       }
 
   counted : (n : ℕ) → n ≤ J → HornerCounted p k e J before n
-  counted zero h = count-top
+  counted zero h = count_top
   counted (suc n) h = count_next n h (counted n (omega arith))
 
-  pub horner-count : length (horner p k e (suc J) before (suc J)).steps ≡ length before + (J * k + sum_to J (λ j. sign (e j)))
-  horner-count =
+  pub horner_count : length (horner p k e (suc J) before (suc J)).steps ≡ length before + (J * k + sum_to J (λ j. sign (e j)))
+  horner_count =
       let c = counted J (le_refl J) in
       let none : sum_to (J - J) (λ j. sign (e j)) ≡ 0 = ap (λ (n : ℕ). sum_to n (λ j. sign (e j))) (sub_self J) in
       omega (arith, c.count)

@@ -9,9 +9,9 @@ use lib.ListN.{length}
 use Rattle.digits.specs.Digits.{digit_count}
 use Rattle.digits.specs.Range.{or_to}
 use Rattle.digits.proofs.Overlay.{or_on, or_count}
-use Rattle.digits.proofs.Words.{digit-place}
+use Rattle.digits.proofs.Words.{digit_place}
 use Rattle.sheet.specs.Sheet.{amount}
-use Rattle.sheet.proofs.Amounts.{payslip-within}
+use Rattle.sheet.proofs.Amounts.{payslip_within}
 use Rattle.straus.specs.Straus.{straus_digits}
 use Rattle.straus.specs.Inner.{StrausAsked, PayslipAsked}
 
@@ -35,17 +35,17 @@ digits_told p amounts k i x r some e is = e ∙ ap (digit_count k) is ∙ or_cou
 
 pub digits_fit : (k x r : ℕ) → 0 < k → x < 2 ^ 32 → r ≡ digit_count k x → k * (r - 1) < 32
 digits_fit k x zero some low e = rw (mul-zero k) (omega arith)
-digits_fit k x (suc r) some low e = digit-place k x (suc r - 1) some low (omega arith)
+digits_fit k x (suc r) some low e = digit_place k x (suc r - 1) some low (omega arith)
 
 pub ruleset overlaying = (overlaid_on, overlaid_end)
 
 -- what a payslip's functions ask, from what the chain's do
-pub payslip-asked : {p q : ℕ} {amounts : List ℕ} {k i : ℕ} → StrausAsked p q amounts k → i < q → PayslipAsked p amounts k i
-payslip-asked {p} {q} {amounts} {k} {i} asked less =
+pub payslip_asked : {p q : ℕ} {amounts : List ℕ} {k i : ℕ} → StrausAsked p q amounts k → i < q → PayslipAsked p amounts k i
+payslip_asked {p} {q} {amounts} {k} {i} asked less =
     let ranges = asked.ranges in
     record {
-      there = payslip-within p q i (length amounts) ranges.sheet.amounts_are less;
+      there = payslip_within p q i (length amounts) ranges.sheet.amounts_are less;
       k_some = ranges.k_some;
       k_low = omega (arith, ranges.k_low);
-      vectors_low = omega (arith, ranges.sheet.p-low, asked.bits-low, mul_comm p k);
+      vectors_low = omega (arith, ranges.sheet.p_low, asked.bits_low, mul_comm p k);
     }

@@ -8,23 +8,23 @@ use native.Mathlib.Omega.{arith}
 use lib.Pow.{pow_pos}
 use Rattle.digits.specs.Digits.{digit_count, digit}
 use Rattle.digits.specs.Range.{sum_to, max_to, sign}
-use Rattle.digits.proofs.Count.{count-zero, none-counted}
+use Rattle.digits.proofs.Count.{count_zero, none_counted}
 use Rattle.digits.proofs.Range.{max_none, sum-none}
 use Rattle.sheet.specs.Sheet.{amount}
 use Rattle.straus.specs.Straus.{straus_digits, digit_vector, straus_payslip_count}
 
 module _ (p : ℕ) (amounts : List ℕ) (k i : ℕ) where
   -- J is 0 exactly if every amount of the payslip is 0
-  pub zero-payslip : straus_digits p amounts k i ≡ 0 ↔ ((c : ℕ) → c < p → amount p amounts i c ≡ 0)
+  pub zero_payslip : straus_digits p amounts k i ≡ 0 ↔ ((c : ℕ) → c < p → amount p amounts i c ≡ 0)
   unfolding straus_digits
-  zero-payslip = (
-    λ e. (max_none p (amount p amounts i)).0 (none-counted k (max_to p (amount p amounts i)) e),
-    λ none. ap (digit_count k) ((max_none p (amount p amounts i)).1 none) ∙ count-zero k,
+  zero_payslip = (
+    λ e. (max_none p (amount p amounts i)).0 (none_counted k (max_to p (amount p amounts i)) e),
+    λ none. ap (digit_count k) ((max_none p (amount p amounts i)).1 none) ∙ count_zero k,
   )
 
   -- and then it takes no step
-  pub zero-payslip-count : straus_digits p amounts k i ≡ 0 → straus_payslip_count p amounts k i ≡ 0
-  zero-payslip-count e = by_digits (straus_digits p amounts k i) e
+  pub zero_payslip_count : straus_digits p amounts k i ≡ 0 → straus_payslip_count p amounts k i ≡ 0
+  zero_payslip_count e = by_digits (straus_digits p amounts k i) e
     where
       by_digits : (J : ℕ) → J ≡ 0 → (J - 1) * k + sum_to (J - 1) (λ j. sign (digit_vector p amounts k i j)) ≡ 0
       by_digits J none = rw none (omega (arith, zero-mul k))

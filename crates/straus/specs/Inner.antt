@@ -6,7 +6,7 @@ use Rattle.straus.specs.Straus.{straus_most, straus_most_bits}
 -- a chain that is asked for, whose vectors have few bits
 pub record StrausAsked (p q : ℕ) (amounts : List ℕ) (k : ℕ) : Type 0 where
   pub ranges : Asked straus_most p q amounts k
-  pub bits-low : p * k ≤ straus_most_bits
+  pub bits_low : p * k ≤ straus_most_bits
 
 -- payslip i is among the amounts, and the vectors of its digits have value numbers of 32 bits in the table
 pub record PayslipAsked (p : ℕ) (amounts : List ℕ) (k i : ℕ) : Type 0 where

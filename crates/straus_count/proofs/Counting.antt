@@ -48,17 +48,17 @@ module _ (p : ℕ) (amounts : List ℕ) (k i l : ℕ) where
   squarings_fit room = omega (arith, mul_comm k l)
 
   -- the squarings are below 32, and so are the other steps
-  pub most-low : 0 < k → k * l < 32 → l * k + l ≤ straus_payslip_most
-  most-low some room = omega (arith, mul_comm k l, mul-le-mul_right l some)
+  pub most_low : 0 < k → k * l < 32 → l * k + l ≤ straus_payslip_most
+  most_low some room = omega (arith, mul_comm k l, mul-le-mul_right l some)
 
-  pub most-fits : 0 < k → k * l < 32 → l * k + l < 64
-  most-fits some room = omega (arith, most-low some room)
+  pub most_fits : 0 < k → k * l < 32 → l * k + l < 64
+  most_fits some room = omega (arith, most_low some room)
 
-  pub most-told : l ≡ straus_digits p amounts k i - 1 → l * k + l ≡ straus_payslip_ceiling p amounts k i
-  most-told e = rw (← e) (omega (arith, mul-add l k 1, mul-one l))
+  pub most_told : l ≡ straus_digits p amounts k i - 1 → l * k + l ≡ straus_payslip_ceiling p amounts k i
+  most_told e = rw (← e) (omega (arith, mul-add l k 1, mul-one l))
 
   pub cost_few : (n j : ℕ) → 0 < k → k * l < 32 → j ≤ l → n ≡ l * k + signs_to p amounts k i j → n ≤ straus_payslip_most
-  cost_few n j some room h e = omega (arith, most-low some room, signs_low j (digit_vector p amounts k i))
+  cost_few n j some room h e = omega (arith, most_low some room, signs_low j (digit_vector p amounts k i))
 
   pub sum_fits : (n j v r : ℕ) → 0 < k → k * l < 32 → j < l → r ≡ sign v → n ≡ l * k + signs_to p amounts k i j → n + r < 64
   sum_fits n j v r some room h told e = omega (arith, cost_few n j some room (omega arith) e, sign_low v)
@@ -73,8 +73,8 @@ below_power zero = omega arith
 below_power (suc n) = omega (arith, below_power n, pow-suc 2 n)
 
 -- w is the size of the table
-pub columns-below : (p k w : ℕ) → w ≡ 2 ^ (p * k) → 1 ≤ k → p + 1 ≤ w
-columns-below p k w e some =
+pub columns_below : (p k w : ℕ) → w ≡ 2 ^ (p * k) → 1 ≤ k → p + 1 ≤ w
+columns_below p k w e some =
     let wide : p ≤ p * k = omega (arith, mul-le-mul_left p some, mul-one p) in
     let grown : 2 ^ p ≤ 2 ^ (p * k) = pow_mono wide in
     omega (arith, below_power p)
@@ -84,7 +84,7 @@ pub quote_all : (p q : ℕ) (amounts : List ℕ) (k n most w : ℕ) → w ≡ 2 
     → most ≡ w - p - 1 + sum_to q (straus_payslip_ceiling p amounts k) → QuoteOf (record { count = n; ceiling = most }) (straus_method p q amounts k)
 unfolding straus_count straus_ceiling
 quote_all p q amounts k n most w e counted ceiled =
-    record { count-is = counted ∙ after (straus_payslip_count p amounts k); ceiling-is = ceiled ∙ after (straus_payslip_ceiling p amounts k) }
+    record { count_is = counted ∙ after (straus_payslip_count p amounts k); ceiling_is = ceiled ∙ after (straus_payslip_ceiling p amounts k) }
   where
     after : (f : ℕ → ℕ) → w - p - 1 + sum_to q f ≡ 2 ^ (p * k) - p - 1 + sum_to q f
     after f = ap (λ (a : ℕ). a - p - 1 + sum_to q f) e

@@ -22,15 +22,15 @@ module _ (p k : ℕ) (n : Progress) (v y : ℕ) (cells : List ℕ) where
   pub squares_room : StepsRoom p cells n (times p (squared p k start) y).steps → StepsRoom p cells n (squared p k start).steps
   squares_room room = emits_room room (squared p k) (emitted_own p cells n v _ room) (squared_begins p start 0 k (omega arith)) (times_begins p (squared p k start) y)
 
-  pub times-room : (cells' : List ℕ) (n' : Progress) (v' : ℕ) → StepsRoom p cells n (times p (squared p k start) y).steps → Emitted cells cells' n' v' (squared p k start)
+  pub times_room : (cells' : List ℕ) (n' : Progress) (v' : ℕ) → StepsRoom p cells n (times p (squared p k start) y).steps → Emitted cells cells' n' v' (squared p k start)
       → StepsRoom p cells' n' (times p (made (steps_in cells' n'.steps) v') y).steps
-  times-room cells' n' v' room e = emits_room room (λ m. times p m y) e (times_begins p (squared p k start) y) (begins_own _)
+  times_room cells' n' v' room e = emits_room room (λ m. times p m y) e (times_begins p (squared p k start) y) (begins_own _)
 
-  pub digit-taken : (cells' cells'' : List ℕ) (n' n'' : Progress) (v' v'' : ℕ) → Emitted cells cells' n' v' (squared p k start)
+  pub digit_taken : (cells' cells'' : List ℕ) (n' n'' : Progress) (v' v'' : ℕ) → Emitted cells cells' n' v' (squared p k start)
       → Emitted cells' cells'' n'' v'' (times p (made (steps_in cells' n'.steps) v') y) → Emitted cells cells'' n'' v'' (times p (squared p k start) y)
-  digit-taken cells' cells'' n' n'' v' v'' e t = emits_on (λ m. times p m y) e (times_begins p (squared p k start) y) t
+  digit_taken cells' cells'' n' n'' v' v'' e t = emits_on (λ m. times p m y) e (times_begins p (squared p k start) y) t
 
-pub ruleset taking = (squares_room, times-room, digit-taken)
+pub ruleset taking = (squares_room, times_room, digit_taken)
 
 -- the first d of J digits, the top one first, e j being the value for digit j
 module _ (p k : ℕ) (e : ℕ → ℕ) (J : ℕ) where
@@ -45,24 +45,24 @@ module _ (p k : ℕ) (e : ℕ → ℕ) (J : ℕ) where
   -- the next digit, y being its value
   module _ (old : List ℕ) (n : Progress) (cells : List ℕ) (m : Progress) (v d y : ℕ) (less : d < J) (value : y ≡ e (J - (d + 1)))
       (so_far : Emitted old cells m v (horner p k e J (steps_in old n.steps) d)) where
-    next-made : Made → Made
-    next-made r = times p (squared p k r) y
+    next_made : Made → Made
+    next_made r = times p (squared p k r) y
 
-    next-is : next-made (horner p k e J (steps_in old n.steps) d) ≡ horner p k e J (steps_in old n.steps) (suc d)
-    unfolding next-made
-    next-is = ap (times p (squared p k (horner p k e J (steps_in old n.steps) d))) (value ∙ ap (λ (c : ℕ). e (J - c)) (add-one d))
+    next_is : next_made (horner p k e J (steps_in old n.steps) d) ≡ horner p k e J (steps_in old n.steps) (suc d)
+    unfolding next_made
+    next_is = ap (times p (squared p k (horner p k e J (steps_in old n.steps) d))) (value ∙ ap (λ (c : ℕ). e (J - c)) (add-one d))
 
-    more : Begins (horner p k e J (steps_in old n.steps) d).steps (next-made (horner p k e J (steps_in old n.steps) d)).steps
-    more = rw next-is (next_begins (steps_in old n.steps) d)
+    more : Begins (horner p k e J (steps_in old n.steps) d).steps (next_made (horner p k e J (steps_in old n.steps) d)).steps
+    more = rw next_is (next_begins (steps_in old n.steps) d)
 
     pub digit_room : StepsRoom p old n (horner p k e J (steps_in old n.steps) J).steps → StepsRoom p cells m (times p (squared p k (made (steps_in cells m.steps) v)) y).steps
-    unfolding next-made
-    digit_room room = emits_room room next-made so_far more (rw next-is (digits_begin (steps_in old n.steps) (suc d) J (omega arith)))
+    unfolding next_made
+    digit_room room = emits_room room next_made so_far more (rw next_is (digits_begin (steps_in old n.steps) (suc d) J (omega arith)))
 
     pub digit_on : (cells' : List ℕ) (m' : Progress) (v' : ℕ) → Emitted cells cells' m' v' (times p (squared p k (made (steps_in cells m.steps) v)) y)
         → Emitted old cells' m' v' (horner p k e J (steps_in old n.steps) (d + 1))
-    unfolding next-made
-    digit_on cells' m' v' f = rw (add-one d, ← next-is) (emits_on next-made so_far more f)
+    unfolding next_made
+    digit_on cells' m' v' f = rw (add-one d, ← next_is) (emits_on next_made so_far more f)
 
   pub digits_end : (old : List ℕ) (n : Progress) (cells : List ℕ) (m : Progress) (v d : ℕ) → d ≤ J → J ≤ d → Emitted old cells m v (horner p k e J (steps_in old n.steps) d)
       → Emitted old cells m v (horner p k e J (steps_in old n.steps) J)
@@ -71,15 +71,15 @@ module _ (p k : ℕ) (e : ℕ → ℕ) (J : ℕ) where
       subst (λ (c : ℕ). Emitted old cells m v (horner p k e J (steps_in old n.steps) c)) last so_far
 
   -- values that are equal one by one make the same
-  pub horner-same : (f : ℕ → ℕ) → ((j : ℕ) → e j ≡ f j) → (before : List Step) (d : ℕ) → horner p k e J before d ≡ horner p k f J before d
-  horner-same f same before zero = refl
-  horner-same f same before (suc d) = ap₂ (λ (m : Made) (y : ℕ). times p (squared p k m) y) (horner-same f same before d) (same (J - suc d))
+  pub horner_same : (f : ℕ → ℕ) → ((j : ℕ) → e j ≡ f j) → (before : List Step) (d : ℕ) → horner p k e J before d ≡ horner p k f J before d
+  horner_same f same before zero = refl
+  horner_same f same before (suc d) = ap₂ (λ (m : Made) (y : ℕ). times p (squared p k m) y) (horner_same f same before d) (same (J - suc d))
 
 -- a payslip only appends steps
 pub payslip_begins : (p : ℕ) (amounts : List ℕ) (k i : ℕ) (before : List Step) → Begins before (straus_payslip p amounts k i before).steps
 payslip_begins p amounts k i before = digits_begin p k _ (straus_digits p amounts k i) before 0 (straus_digits p amounts k i) (omega arith)
 
-pub digit-fits : (k d digits : ℕ) → k * (digits - 1) < 32 → d < digits → k * (digits - (d + 1)) < 32
-digit-fits k d digits room h =
+pub digit_fits : (k d digits : ℕ) → k * (digits - 1) < 32 → d < digits → k * (digits - (d + 1)) < 32
+digit_fits k d digits room h =
     let le : digits - (d + 1) ≤ digits - 1 = omega arith in
     omega (arith, mul-le-mul_left k le)

@@ -23,7 +23,7 @@ use Rattle.straus.proofs.Bases.{length-bases}
 use Rattle.straus.proofs.Payslip.{in_table}
 use Rattle.tables.specs.Table.{entry}
 use Rattle.straus_emit.specs.Inner.{PayslipOver, raised_at, mask_at, vector_at, digits_made, DigitsAsked}
-use Rattle.straus_emit.proofs.Emitting.{horner-same}
+use Rattle.straus_emit.proofs.Emitting.{horner_same}
 
 -- column c's place in a vector
 module _ (p k c : ℕ) (room : p + k * p < 32) (h : c < p) where
@@ -32,15 +32,15 @@ module _ (p k c : ℕ) (room : p + k * p < 32) (h : c < p) where
       let le : c + 1 ≤ p = omega arith in
       omega (arith, mul-le-mul_left k le, ap (λ (n : ℕ). k * n) (add-one c), mul-suc k c)
 
-  pub place-fits : k * c ≤ 32
-  place-fits = omega (arith, mask_fits)
+  pub place_fits : k * c ≤ 32
+  place_fits = omega (arith, mask_fits)
 
   -- the same, below a number
   pub mask_below : k + k * c < 33
   mask_below = omega (arith, mask_fits)
 
-  pub place-below : k * c < 33
-  place-below = omega (arith, mask_fits)
+  pub place_below : k * c < 33
+  place_below = omega (arith, mask_fits)
 
 pub raised_told : (p : ℕ) (amounts : List ℕ) (k i c x r : ℕ) → x ≡ amount p amounts i c → r ≡ x * 2 ^ (k * c) → r ≡ raised_at p amounts k i c
 raised_told p amounts k i c x r e f = f ∙ ap (λ (y : ℕ). y * 2 ^ (k * c)) e
@@ -54,7 +54,7 @@ module _ (k c top bottom : ℕ) (e : top ≡ 1 * 2 ^ (k + k * c)) (f : bottom �
       let rise : 2 ^ (k * c) ≤ 2 ^ (k + k * c) = pow_mono (omega arith) in
       omega (arith, one-mul (2 ^ (k * c)), one-mul (2 ^ (k + k * c)))
 
-pub ruleset laying = (mask_fits, place-fits, mask_below, place-below, raised_told, mask_told, mask_some)
+pub ruleset laying = (mask_fits, place_fits, mask_below, place_below, raised_told, mask_told, mask_some)
 
 digit_masked : (k x j c : ℕ) → bit_and (x * 2 ^ (k * c) / 2 ^ (k * j)) (mask_at k c) ≡ digit k x j * 2 ^ (k * c)
 digit_masked k x j c = and_high (x * 2 ^ (k * c) / 2 ^ (k * j)) k (k * c) ∙ ap (λ (y : ℕ). y % 2 ^ k * 2 ^ (k * c)) down
@@ -66,8 +66,8 @@ digit_masked k x j c = and_high (x * 2 ^ (k * c) / 2 ^ (k * j)) k (k * c) ∙ ap
         ∙ sym (shr_shr (x * 2 ^ (k * c)) (k * c) (k * j))
         ∙ ap (λ (y : ℕ). y / 2 ^ (k * j)) (shl-shr x (k * c))
 
-pub columns-few : {p : ℕ} {amounts : List ℕ} {k i : ℕ} → PayslipAsked p amounts k i → p ≤ most_columns
-columns-few {p} asked = omega (arith, asked.vectors_low, mul-le-mul_right p asked.k_some, one-mul p)
+pub columns_few : {p : ℕ} {amounts : List ℕ} {k i : ℕ} → PayslipAsked p amounts k i → p ≤ most_columns
+columns_few {p} asked = omega (arith, asked.vectors_low, mul-le-mul_right p asked.k_some, one-mul p)
 
 -- a payslip laid out
 module _ {p : ℕ} {amounts : List ℕ} {k : ℕ} {inputs : List ℕ} {i : ℕ} (asked : PayslipOver p amounts k inputs i) (old cells old' masks : List ℕ)
@@ -78,8 +78,8 @@ module _ {p : ℕ} {amounts : List ℕ} {k : ℕ} {inputs : List ℕ} {i : ℕ} 
       (λ c h. ap₂ (λ (a m : ℕ). bit_and (a / 2 ^ (k * j)) m) (filled_at (raised_at p amounts k i) old p cells raised c h) (filled_at (mask_at k) old' p masks masked c h)
       ∙ digit_masked k (amount p amounts i c) j c)
 
-  table-wide : k * length inputs ≡ k * p
-  table-wide = ap (λ (l : List ℕ). k * length l) asked.bases-are ∙ ap (λ (n : ℕ). k * n) (length-bases p)
+  table_wide : k * length inputs ≡ k * p
+  table_wide = ap (λ (l : List ℕ). k * length l) asked.bases_are ∙ ap (λ (n : ℕ). k * n) (length-bases p)
 
   pub digits_asked : (digits : ℕ) → k * (digits - 1) < 32 → p ≤ length cells → p ≤ length masks → DigitsAsked p k inputs cells masks digits
   digits_asked digits low cells-long masks-long =
@@ -88,19 +88,19 @@ module _ {p : ℕ} {amounts : List ℕ} {k : ℕ} {inputs : List ℕ} {i : ℕ} 
       record {
         k_some = payslip.k_some;
         k_low = payslip.k_low;
-        places-low = low;
-        cells-there = cells-long;
+        places_low = low;
+        cells_there = cells-long;
         masks_there = masks-long;
-        entries = λ j. rw (table-wide, vector_is j) (in_table p amounts k payslip.k_some i j);
-        numbers = rw table-wide (omega (arith, payslip.vectors_low));
+        entries = λ j. rw (table_wide, vector_is j) (in_table p amounts k payslip.k_some i j);
+        numbers = rw table_wide (omega (arith, payslip.vectors_low));
       }
 
   -- its digits make the payslip
-  pub payslip-is : (digits : ℕ) → digits ≡ straus_digits p amounts k i → (before : List Step)
+  pub payslip_is : (digits : ℕ) → digits ≡ straus_digits p amounts k i → (before : List Step)
       → digits_made p k inputs cells masks digits before digits ≡ straus_payslip p amounts k i before
-  payslip-is digits is before =
-      ap₂ (λ (l : List ℕ) (J : ℕ). digits_made p k l cells masks J before J) asked.bases-are is
-      ∙ horner-same p k _ J _ (λ j. ap (entry k (bases p) (p + 1)) (vector_is j)) before J
+  payslip_is digits is before =
+      ap₂ (λ (l : List ℕ) (J : ℕ). digits_made p k l cells masks J before J) asked.bases_are is
+      ∙ horner_same p k _ J _ (λ j. ap (entry k (bases p) (p + 1)) (vector_is j)) before J
     where
       J : ℕ
       J = straus_digits p amounts k i

@@ -13,16 +13,16 @@ use Rattle.tables.specs.Table.{entry}
 -- what is made over inputs that are the bases: a payslip, and a whole chain
 pub record PayslipOver (p : ℕ) (amounts : List ℕ) (k : ℕ) (inputs : List ℕ) (i : ℕ) : Type 0 where
   pub payslip : PayslipAsked p amounts k i
-  pub bases-are : inputs ≡ bases p
+  pub bases_are : inputs ≡ bases p
 
 pub record ChainOver (p q : ℕ) (amounts : List ℕ) (k : ℕ) (inputs : List ℕ) : Type 0 where
   pub chain : StrausAsked p q amounts k
-  pub bases-are : inputs ≡ bases p
+  pub bases_are : inputs ≡ bases p
 
 -- r is how many digits in base 2^k there are, and the top one begins within 32 bits
 pub record Counted (k r digits : ℕ) : Type 0 where
   pub is : r ≡ digits
-  pub places-low : k * (r - 1) < 32
+  pub places_low : k * (r - 1) < 32
 
 -- the amount of column c, moved up to where its digits stand in a vector
 abbrev pub raised_at : ℕ → List ℕ → ℕ → ℕ → ℕ → ℕ
@@ -48,8 +48,8 @@ digits_made p k inputs cells masks digits before d = horner p k (λ j. entry k i
 pub record DigitsAsked (p k : ℕ) (inputs cells masks : List ℕ) (digits : ℕ) : Type 0 where
   pub k_some : 0 < k
   pub k_low : k < 32
-  pub places-low : k * (digits - 1) < 32
-  pub cells-there : p ≤ length cells
+  pub places_low : k * (digits - 1) < 32
+  pub cells_there : p ≤ length cells
   pub masks_there : p ≤ length masks
   pub entries : (j : ℕ) → vector_at p cells masks (k * j) < 2 ^ (k * length inputs)
   pub numbers : p + 1 + 2 ^ (k * length inputs) ≤ 2 ^ 32

@@ -16,7 +16,7 @@ use Rattle.tables.specs.Table.{entry}
 use Rattle.groups.specs.declared.Grouping.{Grouping}
 use Rattle.groups.specs.Groups.{group, group_size, group_tables, most_inputs, most_members, table_steps}
 use Rattle.groups.specs.Inner.{Cuts, PartOf, table_at}
-use Rattle.groups.proofs.Counting.{group-inside}
+use Rattle.groups.proofs.Counting.{group_inside}
 use Rattle.groups.proofs.Groups.{length-group}
 use Rattle.groups.proofs.Tables.{tables_count_lem}
 
@@ -34,26 +34,26 @@ stretch_is c l g size is =
     by_size m (no gt) = take_all (min c (length m)) m (omega arith) ∙ sym (take_all c m (omega arith))
 
 module _ (c g : ℕ) (l : List ℕ) (few : c ≤ most_members) where
-  pub group-small : length (group c g l) ≤ most_members
-  group-small = omega (arith, length-group c g l)
+  pub group_small : length (group c g l) ≤ most_members
+  group_small = omega (arith, length-group c g l)
 
-  pub group-parts : 2 ^ (1 * length (group c g l)) ≤ 2 ^ most_members
-  group-parts = pow_mono {j = most_members} (omega (arith, group-small))
+  pub group_parts : 2 ^ (1 * length (group c g l)) ≤ 2 ^ most_members
+  group_parts = pow_mono {j = most_members} (omega (arith, group_small))
 
 -- where group g of a grouping is
 module _ (s : Grouping) (cuts : Cuts s) (members : List ℕ) (long : length members ≡ s.inputs) (g size : ℕ) (h : g < s.groups)
     (is : size ≡ group_size s.c s.inputs g) where
   pub starts : g * s.c ≤ s.inputs
-  starts = group-inside s.c s.inputs g s.groups cuts.some cuts.groups_are h
+  starts = group_inside s.c s.inputs g s.groups cuts.some cuts.groups_are h
 
   pub ends : g * s.c + size ≤ length members
   ends = omega (arith, starts)
 
-  pub ends-few : g * s.c + size ≤ most_inputs
-  ends-few = let few = cuts.inputs-few in omega (arith, ends)
+  pub ends_few : g * s.c + size ≤ most_inputs
+  ends_few = let few = cuts.inputs_few in omega (arith, ends)
 
-  pub own-members : stretch (g * s.c) (g * s.c + size) members ≡ group s.c g members
-  own-members = stretch_is s.c members g size (rw long is)
+  pub own_members : stretch (g * s.c) (g * s.c + size) members ≡ group s.c g members
+  own_members = stretch_is s.c members g size (rw long is)
 
 -- the number before a group's first step: the groups before it are full
 sum-all : (n a : ℕ) → sum_to n (λ e. a) ≡ n * a
@@ -71,10 +71,10 @@ tables_full p c members start g h =
         let wide : suc e * c ≤ g * c = mul-le-mul_right c k in
         omega (arith, suc-mul e c)
 
-pub table-place : (s : Grouping) → Cuts s → (members : List ℕ) (start : List Step) → length members ≡ s.inputs → length start ≡ s.squarings → (g : ℕ)
+pub table_place : (s : Grouping) → Cuts s → (members : List ℕ) (start : List Step) → length members ≡ s.inputs → length start ≡ s.squarings → (g : ℕ)
     → g < s.groups → s.p + length (group_tables s.p s.c members start g) + 1 ≡ table_at s g
-table-place s cuts members start long first g h =
-    let inside = group-inside s.c s.inputs g s.groups cuts.some cuts.groups_are h in
+table_place s cuts members start long first g h =
+    let inside = group_inside s.c s.inputs g s.groups cuts.some cuts.groups_are h in
     omega (arith, tables_full s.p s.c members start g (omega arith))
 
 -- those numbers are small, r being the steps of a full table
@@ -90,19 +90,19 @@ module _ (s : Grouping) (cuts : Cuts s) (g r : ℕ) (h : g < s.groups) (few : r 
       let wide : g * 2 ^ most_members ≤ most_inputs * 2 ^ most_members = mul-le-mul_right (2 ^ most_members) below in
       omega arith
 
-  pub product-fits : g * r < parts_end
-  product-fits = omega (arith, tables_low)
+  pub product_fits : g * r < parts_end
+  product_fits = omega (arith, tables_low)
 
   pub sum_fits : s.p + s.squarings + g * r < parts_end
   sum_fits =
       let columns = cuts.columns in
-      let first = cuts.squarings-few in
+      let first = cuts.squarings_few in
       omega (arith, tables_low)
 
   pub number_fits : s.p + s.squarings + g * r + 1 < parts_end
   number_fits =
       let columns = cuts.columns in
-      let first = cuts.squarings-few in
+      let first = cuts.squarings_few in
       omega (arith, tables_low)
 
 -- the entry of part t in a group
@@ -111,14 +111,14 @@ module _ {s : Grouping} {members : List ℕ} {g t : ℕ} (part : PartOf s member
   mine = stretch (g * s.c) (g * s.c + size) members
 
   mine_is : mine ≡ group s.c g members
-  mine_is = own-members s part.cuts members part.long g size part.inside is
+  mine_is = own_members s part.cuts members part.long g size part.inside is
 
-  pub entry-low : t < 2 ^ (1 * length mine)
-  entry-low = rw mine_is part.part
+  pub entry_low : t < 2 ^ (1 * length mine)
+  entry_low = rw mine_is part.part
 
   pub entry_number : {at : ℕ} → at < parts_end → at + t < 2 ^ 32
-  entry_number h = let low = part.part in omega (arith, group-parts s.c g members part.cuts.few)
+  entry_number h = let low = part.part in omega (arith, group_parts s.c g members part.cuts.few)
 
-  pub entry-told : {y r : ℕ} → r ≡ table_steps s.c → y ≡ entry 1 mine (s.p + s.squarings + g * r + 1) t
+  pub entry_told : {y r : ℕ} → r ≡ table_steps s.c → y ≡ entry 1 mine (s.p + s.squarings + g * r + 1) t
       → y ≡ entry 1 (group s.c g members) (table_at s g) t
-  entry-told full e = e ∙ ap₂ (λ (l : List ℕ) (k : ℕ). entry 1 l (s.p + s.squarings + g * k + 1) t) mine_is full
+  entry_told full e = e ∙ ap₂ (λ (l : List ℕ) (k : ℕ). entry 1 l (s.p + s.squarings + g * k + 1) t) mine_is full

@@ -11,7 +11,7 @@ use Rattle.chain.specs.Tests.{◌<?◌, ◌=?◌, ◌≠?◌, ◌or◌}
 use Rattle.chain.specs.Chain.{most_payslips}
 use Rattle.chain.specs.Written.{over, laid}
 use Rattle.chain.proofs.Rules.{lt_yes, lt_no, eq_yes, eq_no, ne_yes, ne_no, not_lt}
-use Rattle.chain.proofs.Written.{laid_nil, laid-length, laid-laid, over-laid}
+use Rattle.chain.proofs.Written.{laid_nil, laid-length, laid_laid, over_laid}
 use Rattle.places.specs.Faults.{out_of_range, no_room, other_fields}
 use Rattle.text.specs.declared.Parting.{Parting}
 use Rattle.text.specs.declared.Parsed.{Parsed}
@@ -20,7 +20,7 @@ use Rattle.places.specs.declared.Read.{Read}
 use Rattle.places.specs.declared.Read.TheVariants.{Values, Refused}
 use Rattle.text.specs.Text.{Found, found, read_text, Outcome, outcome}
 use Rattle.text.specs.Inner.{FoundTo, ReadTo}
-use Rattle.text.proofs.Reading.{text-count}
+use Rattle.text.proofs.Reading.{text_count}
 use Rattle.lines.specs.Lines.{lines_of, content_of, tally_of, fields_in}
 use Rattle.lines.specs.Inner.{until_newline}
 use Rattle.lines.proofs.Lines.{line_first}
@@ -31,8 +31,8 @@ found_none : (f : Found) (a a' : Parsed) (from : ℕ) (old : List ℕ) → f ≡
 found_none f a a' from old e same =
     record { answered = same ∙ sym (ap (λ (g : Found). g.answer) e); stored = sym (ap (λ (g : Found). laid from g.numbers old) e ∙ laid_nil from old) }
 
-found-same : (f g : Found) (from : ℕ) (old : List ℕ) (a : Parsed) (new : List ℕ) → g ≡ f → FoundTo g from old a new → FoundTo f from old a new
-found-same f g from old a new e r = rw e at r
+found_same : (f g : Found) (from : ℕ) (old : List ℕ) (a : Parsed) (new : List ℕ) → g ≡ f → FoundTo g from old a new → FoundTo f from old a new
+found_same f g from old a new e r = rw e at r
 
 -- a line of amounts by its tests, as the code has them
 module _ (by : Parting) (p n j c : ℕ) (line old : List ℕ) where
@@ -52,7 +52,7 @@ module _ (by : Parting) (p n j c : ℕ) (line old : List ℕ) where
 
       pub row_reads : (a : Parsed) (new : List ℕ) → c + p ≤ n → FoundTo (read_text by line p) c old a new → FoundTo (row_found by p n j c line) c old a new
       unfolding row_found
-      row_reads a new h r = found-same _ _ c old a new (rw (eq_no j most_payslips few, ← told, ne_no f p same, lt_no n (c + p) h)) r
+      row_reads a new h r = found_same _ _ c old a new (rw (eq_no j most_payslips few, ← told, ne_no f p same, lt_no n (c + p) h)) r
 
 -- a line, where the line is another one
 pub row_of : (by : Parting) (p n j c : ℕ) (l l' old : List ℕ) (a : Parsed) (new : List ℕ) → l ≡ l'
@@ -77,7 +77,7 @@ row_count by p n j c line x = by_tests (j =? most_payslips) (fields_in (tally_of
     by_tests true t u h e = let z : ◌≡◌ {A = ℕ} 0 1 = cc in absurd (omega arith)
     by_tests false true u h e = let z : ◌≡◌ {A = ℕ} 0 1 = cc in absurd (omega arith)
     by_tests false false true h e = let z : ◌≡◌ {A = ℕ} 0 1 = cc in absurd (omega arith)
-    by_tests false false false h e = let z = text-count by line p x e in let room = h refl in (z.0, omega (arith, z.1))
+    by_tests false false false h e = let z = text_count by line p x e in let room = h refl in (z.0, omega (arith, z.1))
 
 -- the end, by the payslips read
 module _ (p j k : ℕ) where
@@ -85,9 +85,9 @@ module _ (p j k : ℕ) where
   unfolding rows_end
   end_none h = rw (eq_yes j 0 h)
 
-  pub end-some : (j ≡ 0 → ⊥) → Values p j ≡ rows_end p j k
+  pub end_some : (j ≡ 0 → ⊥) → Values p j ≡ rows_end p j k
   unfolding rows_end
-  end-some h = rw (eq_no j 0 h)
+  end_some h = rw (eq_no j 0 h)
 
 -- the line at a place, and those after it
 pub lines_at : (text : List ℕ) (at end : ℕ) → at < length text → end ≡ at + until_newline (drop at text)
@@ -118,7 +118,7 @@ module _ (by : Parting) (p : ℕ) (text old : List ℕ) (whole : Outcome) where
         long = refl;
         fits = omega arith;
         answer = ap (λ (o : Outcome). o.answer) e;
-        numbers = ap (λ (o : Outcome). over o.numbers old) e ∙ over-laid (rows_left 0 0 k at).numbers old;
+        numbers = ap (λ (o : Outcome). over o.numbers old) e ∙ over_laid (rows_left 0 0 k at).numbers old;
       }
 
   module _ (j c k at : ℕ) (cells : List ℕ) (r : Rows j c k at cells) where
@@ -152,15 +152,15 @@ module _ (by : Parting) (p : ℕ) (text old : List ℕ) (whole : Outcome) where
       stores : (rest : List ℕ) → laid c (row.numbers ++ rest) cells ≡ laid (c + length row.numbers) rest cells'
       stores rest =
           let low : c ≤ length cells = omega (arith, r.long, r.fits) in
-          sym (ap (laid (c + length row.numbers) rest) read'.stored ∙ laid-laid c (c + length row.numbers) row.numbers rest cells refl low)
+          sym (ap (laid (c + length row.numbers) rest) read'.stored ∙ laid_laid c (c + length row.numbers) row.numbers rest cells refl low)
 
       module _ (x : ℕ) (told : a ≡ Numbers x) where
         count : (x ≡ length row.numbers) × (c + x ≤ length old)
         unfolding row
         count = row_count by p (length old) j c (content_of (take (end - at) (drop at text))) x (sym read'.answered ∙ told)
 
-        pub rows-room : c + x ≤ length old
-        rows-room = count.1
+        pub rows_room : c + x ≤ length old
+        rows_room = count.1
 
         pub rows_on : Rows (j + 1) (c + x) (k + 1) (end + 1) cells'
         unfolding after_row joined

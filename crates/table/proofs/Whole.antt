@@ -45,9 +45,9 @@ module _ (h : Head) (n : ℕ) (all rest : List (List ℕ)) (old : List ℕ) wher
         read_same _ _ old a new (rw (or_none _ _ (eq_no h.fields 0 some) (lt_no most_columns h.fields few), eq_no h.digits 0 e)) r
 
 module _ (text : List ℕ) (t : Bool) (told : t ≡ is_cut text) (n : ℕ) (old : List ℕ) where
-  pub table-cut : (a : Read) → t ≡ true → a ≡ cut_text text → ReadTo (table_in text n) old a old
+  pub table_cut : (a : Read) → t ≡ true → a ≡ cut_text text → ReadTo (table_in text n) old a old
   unfolding table_in
-  table-cut a cut e = read_none _ old _ _ (rw (← told, cut)) e
+  table_cut a cut e = read_none _ old _ _ (rw (← told, cut)) e
 
   module _ (whole : t ≡ false) where
     on : table_lines (lines_of text) n ≡ table_in text n
@@ -66,9 +66,9 @@ module _ (text : List ℕ) (t : Bool) (told : t ≡ is_cut text) (n : ℕ) (old 
     unfolding table_lines
     table_lines_lem all l ls e = rw e
 
-    pub table-headed : (end : ℕ) (h : Head) (a : Read) (new : List ℕ) → (length text ≡ 0 → ⊥) → end ≡ 0 + until_newline (drop 0 text)
+    pub table_headed : (end : ℕ) (h : Head) (a : Read) (new : List ℕ) → (length text ≡ 0 → ⊥) → end ≡ 0 + until_newline (drop 0 text)
         → h ≡ head_of (content_of (take end text)) → ReadTo (headed h n (lines_of text) (lines_of (drop (end + 1) text))) old a new → ReadTo (table_in text n) old a new
-    table-headed end h a new some is head r =
+    table_headed end h a new some is head r =
         let long : end - 0 ≡ end = omega arith in
         let lines : lines_of text ≡ take end text ∷ lines_of (drop (end + 1) text) = rw long at (lines_at text 0 end (omega arith) is) in
         let s : table_lines (lines_of text) n ≡ headed (head_of (content_of (take end text))) n (lines_of text) (lines_of (drop (end + 1) text)) = table_lines_lem _ _ _ lines in

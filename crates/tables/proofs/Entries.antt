@@ -13,13 +13,13 @@ use Rattle.chain.proofs.Rules.{is_eq, not_eq}
 use Rattle.chain.proofs.Exponents.{Makes, makes_zero, makes_like}
 use Rattle.digits.specs.Digits.{digit_count, digit}
 use Rattle.digits.specs.Range.{sum_to}
-use Rattle.digits.proofs.Range.{sum_same, sum-zero, sum-add, sign-some, sign_pos}
-use Rattle.digits.proofs.Count.{low_count, count-some, weights_rise}
-use Rattle.digits.proofs.Vector.{delta, digit-zero, digit_unit_lem, sum_delta, Less, digit_less}
+use Rattle.digits.proofs.Range.{sum_same, sum-zero, sum-add, sign_some, sign_pos}
+use Rattle.digits.proofs.Count.{low_count, count_some, weights_rise}
+use Rattle.digits.proofs.Vector.{delta, digit_zero, digit_unit_lem, sum_delta, Less, digit_less}
 use Rattle.products.specs.Product.{ordered}
 use Rattle.tables.specs.Table.{is_unit, entry, lowest, table}
-use Rattle.products.proofs.Sound.{Begins, begins_own, begins_more, makes_on, Sound, makes_ordered, sound-ordered}
-use Rattle.tables.proofs.Table.{Lowest, lowest-digit, next-zero, next_unit, next_new, entry_zero, entry_unit, entry_new, entry-sign}
+use Rattle.products.proofs.Sound.{Begins, begins_own, begins_more, makes_on, Sound, makes_ordered, sound_ordered}
+use Rattle.tables.proofs.Table.{Lowest, lowest_digit, next_zero, next_unit, next_new, entry_zero, entry_unit, entry_new, entry_sign}
 
 -- the sum of digit j of t times the exponents of input j, of n inputs
 abbrev pub combined : ℕ → ℕ → (ℕ → ℕ → ℕ) → ℕ → ℕ → ℕ
@@ -27,7 +27,7 @@ combined k n x t c = sum_to n (λ j. digit k t j * x j c)
 
 module _ (k n : ℕ) (some : 0 < k) (x : ℕ → ℕ → ℕ) (c : ℕ) where
   pub combined_zero : combined k n x 0 c ≡ 0
-  combined_zero = sum-zero n _ (λ j h. ap (λ (d : ℕ). d * x j c) (digit-zero k j) ∙ zero-mul (x j c))
+  combined_zero = sum-zero n _ (λ j h. ap (λ (d : ℕ). d * x j c) (digit_zero k j) ∙ zero-mul (x j c))
 
   combined_unit : (d : ℕ) → d < n → combined k n x (2 ^ (k * d)) c ≡ x d c
   combined_unit d h =
@@ -76,13 +76,13 @@ module _ (p limit k : ℕ) (some : 0 < k) (before : List Step) (inputs : List �
 
   make_zero : Done 0 → Done 1
   make_zero r =
-      extend_free 0 r (next-zero k some inputs at [])
+      extend_free 0 r (next_zero k some inputs at [])
       (rw (entry_zero k some inputs at) (makes_like p _ 0 _ _ (λ c h. sym (combined_zero k (length inputs) some x c)) (makes_zero p (After 0))))
 
   make_unit : (t : ℕ) → suc t < 2 ^ (k * length inputs) → is_unit k (suc t) ≡ true → Done (suc t) → Done (suc (suc t))
   make_unit t h u r =
       let d : ℕ = digit_count k (suc t) - 1 in
-      let d-low : d < length inputs = omega (arith, count-some k t, low_count k some (suc t) (length inputs) h) in
+      let d-low : d < length inputs = omega (arith, count_some k t, low_count k some (suc t) (length inputs) h) in
       let power : suc t ≡ 2 ^ (k * d) = is_eq _ _ u in
       let same : (c : ℕ) → combined k (length inputs) x (suc t) c ≡ x d c =
       λ c. ap (λ (n : ℕ). combined k (length inputs) x n c) power ∙ combined_unit k (length inputs) some x c d d-low in
@@ -93,14 +93,14 @@ module _ (p limit k : ℕ) (some : 0 < k) (before : List Step) (inputs : List �
   make_step : (t : ℕ) → suc t < 2 ^ (k * length inputs) → is_unit k (suc t) ≡ false → Done (suc t) → Done (suc (suc t))
   make_step t h u r =
       extend (suc t) r (rw next (begins_more (After (suc t)) _))
-      (rw next (sound-ordered p (After (suc t)) a b limit r.sound a-some b-some a_makes b_makes limited))
+      (rw next (sound_ordered p (After (suc t)) a b limit r.sound a_some b_some a_makes b_makes limited))
       (rw (next, here) (makes_like p _ _ _ _ (λ c g. sums c) (makes_ordered p (After (suc t)) a b a_makes b_makes)))
     where
       l : ℕ
       l = lowest k (suc t)
 
       l_found : Lowest k (suc t)
-      l_found = lowest-digit k t some
+      l_found = lowest_digit k t some
 
       l_low : l < length inputs
       l_low = omega (arith, l_found.below, low_count k some (suc t) (length inputs) h)
@@ -111,8 +111,8 @@ module _ (p limit k : ℕ) (some : 0 < k) (before : List Step) (inputs : List �
       rest : ℕ
       rest = suc t - 2 ^ (k * l)
 
-      rest-low : rest < suc t
-      rest-low = omega (arith, pow_pos (k * l))
+      rest_low : rest < suc t
+      rest_low = omega (arith, pow_pos (k * l))
 
       -- the rest is not zero, since the entry is no unit
       rest_some : 0 < rest
@@ -131,15 +131,15 @@ module _ (p limit k : ℕ) (some : 0 < k) (before : List Step) (inputs : List �
       b : ℕ
       b = get_or inputs l 0
 
-      a-some : 0 < a
-      a-some =
-          sign_pos a (entry-sign k some inputs at (omega arith) given.nonempty rest (omega (arith, rest-low)) ∙ sign-some rest rest_some)
+      a_some : 0 < a
+      a_some =
+          sign_pos a (entry_sign k some inputs at (omega arith) given.nonempty rest (omega (arith, rest_low)) ∙ sign_some rest rest_some)
 
-      b-some : 0 < b
-      b-some = given.nonempty l l_low
+      b_some : 0 < b
+      b_some = given.nonempty l l_low
 
       a_makes : Makes p (After (suc t)) a (combined k (length inputs) x rest)
-      a_makes = r.makes rest rest-low
+      a_makes = r.makes rest rest_low
 
       b_makes : Makes p (After (suc t)) b (x l)
       b_makes = makes_on (begins_more before (table k inputs at (suc t))) (given.makes l l_low)

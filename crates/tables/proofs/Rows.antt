@@ -12,15 +12,15 @@ use lib.Pow.{pow_pos, pow_mono}
 use Rattle.chain.specs.declared.Step.{Step}
 use Rattle.chain.proofs.Rules.{eq_yes, eq_no}
 use Rattle.digits.specs.Digits.{digit_count}
-use Rattle.digits.proofs.Count.{count_low, low_count, count_full, count-few, weights_rise}
+use Rattle.digits.proofs.Count.{count_low, low_count, count_full, count_few, weights_rise}
 use Rattle.tables.specs.Table.{is_unit, table_next, table}
 use Rattle.products.specs.Inner.{steps_in, SoFar, MoreRoom, StepsRoom, StepsStored}
 use Rattle.products.specs.declared.Progress.{Progress}
 use Rattle.products.proofs.Sound.{Begins, begins_length, begins_rise}
-use Rattle.products.proofs.Emitted.{stored-own, stored_is, stored_on, stored_so_far}
+use Rattle.products.proofs.Emitted.{stored_own, stored_is, stored_on, stored_so_far}
 use Rattle.tables.specs.Inner.{RowAsked, OneMore, Longer}
-use Rattle.tables.proofs.Table.{next-zero, next_unit, table-count}
-use Rattle.tables.proofs.Tabling.{next_begins, next-front}
+use Rattle.tables.proofs.Table.{next_zero, next_unit, table_count_lem}
+use Rattle.tables.proofs.Tabling.{next_begins, next_front}
 
 -- t is an entry with d digits and no unit, in a table of n inputs
 pub record InRow (k n d t : ℕ) : Type 0 where
@@ -66,15 +66,15 @@ module _ {k : ℕ} {inputs : List ℕ} {at d : ℕ} (asked : RowAsked k inputs a
   pub next_fits : k * (d + 1) < 32
   next_fits =
       let le : d + 1 ≤ length inputs = omega (arith, asked.inside) in
-      omega (arith, mul-le-mul_left k le, asked.places-low)
+      omega (arith, mul-le-mul_left k le, asked.places_low)
 
-  pub place-fits : k * d < 32
-  place-fits =
+  pub place_fits : k * d < 32
+  place_fits =
       let le : d ≤ d + 1 = omega arith in
       omega (arith, mul-le-mul_left k le, next_fits)
 
   pub unit_fits : (u : ℕ) → u ≡ 2 ^ (k * d) → u + 1 < 2 ^ 32
-  unit_fits u e = omega (arith, asked.numbers-low, asked.at_some, weights_rise k asked.k_some d (length inputs) asked.inside)
+  unit_fits u e = omega (arith, asked.numbers_low, asked.at_some, weights_rise k asked.k_some d (length inputs) asked.inside)
 
 -- a number of digits is below the first number that has more
 below_unit : (k d : ℕ) → 0 < k → d + 1 ≤ 2 ^ (k * d)
@@ -82,7 +82,7 @@ below_unit k d some = by_size (2 ^ (k * d)) refl (pow_pos (k * d))
   where
     by_size : (m : ℕ) → 2 ^ (k * d) ≡ m → 0 < m → d + 1 ≤ m
     by_size zero e h = absurd (omega arith)
-    by_size (suc t) e h = omega (arith, count_full k some t d (sym e), count-few k t)
+    by_size (suc t) e h = omega (arith, count_full k some t d (sym e), count_few k t)
 
 -- a step more stands in the slice too
 pub more_so_far : {cells cells' : List ℕ} {s s' : Progress} {steps : List Step} → 2 * (s.steps + 1) ≤ length cells → OneMore cells cells' s s' steps
@@ -95,11 +95,11 @@ module _ (k : ℕ) (inputs : List ℕ) (at : ℕ) where
   After front t = front ++ table k inputs at t
 
   after_next : (front : List Step) (t : ℕ) → After front (t + 1) ≡ table_next k inputs at t (After front t)
-  after_next front t = rw (add-one t) (sym (next-front k inputs at t front (table k inputs at t)))
+  after_next front t = rw (add-one t) (sym (next_front k inputs at t front (table k inputs at t)))
 
   after_begins : (front : List Step) (t T : ℕ) → t ≤ T → Begins (After front t) (After front T)
   after_begins front =
-      begins_rise (After front) (λ t. rw (← next-front k inputs at t front (table k inputs at t)) (next_begins k inputs at t (After front t)))
+      begins_rise (After front) (λ t. rw (← next_front k inputs at t front (table k inputs at t)) (next_begins k inputs at t (After front t)))
 
   table_on : (old cells cells' : List ℕ) (front : List Step) (s s' : Progress) (t : ℕ) → StepsStored old cells s (After front t)
       → StepsStored cells cells' s' (table_next k inputs at t (steps_in cells s.steps)) → StepsStored old cells' s' (After front (t + 1))
@@ -142,8 +142,8 @@ module _ (k : ℕ) (inputs : List ℕ) (at : ℕ) where
           arith,
           length-append front (table k inputs at (2 ^ (k * (d + 1)))),
           length-append front (table k inputs at (2 ^ (k * d))),
-          table-count k some inputs at (d + 1),
-          table-count k some inputs at d,
+          table_count_lem k some inputs at (d + 1),
+          table_count_lem k some inputs at d,
           below_unit k d some,
           below_unit k (d + 1) some,
           weights_rise k some d (d + 1) (omega arith),
@@ -164,14 +164,14 @@ module _ (k : ℕ) (inputs : List ℕ) (at : ℕ) where
   pub table_start : (p : ℕ) (cells : List ℕ) (r : Progress) (steps : List Step) → 0 < k → StepsRoom p cells r steps
       → StepsStored cells cells r (After (steps_in cells r.steps) (2 ^ (k * 0)))
   table_start p cells r steps some room =
-      rw (mul-zero, next-zero k some inputs at [], append-nil (steps_in cells r.steps)) (stored-own cells r room.so_far)
+      rw (mul-zero, next_zero k some inputs at [], append-nil (steps_in cells r.steps)) (stored_own cells r room.so_far)
 
-  pub table-end : (old cells : List ℕ) (front : List Step) (s : Progress) (d : ℕ) → d ≤ length inputs → length inputs ≤ d
+  pub table_end : (old cells : List ℕ) (front : List Step) (s : Progress) (d : ℕ) → d ≤ length inputs → length inputs ≤ d
       → StepsStored old cells s (After front (2 ^ (k * d))) → StepsStored old cells s (After front (2 ^ (k * length inputs)))
-  table-end old cells front s d h g st =
+  table_end old cells front s d h g st =
       let last : length inputs ≡ d = omega arith in
       rw last st
 
 pub ruleset rowing = (longer_own, longer_next, longer_end)
 
-pub ruleset tabling = (row_stored, row_room, table_start, table-end)
+pub ruleset tabling = (row_stored, row_room, table_start, table_end)

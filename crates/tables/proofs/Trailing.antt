@@ -11,7 +11,7 @@ use lib.Pow.{pow-add, shl-shr, split}
 use Rattle.chain.specs.Tests.{◌=?◌}
 use Rattle.chain.proofs.Rules.{not_eq, is_eq}
 use Rattle.digits.specs.Digits.{digit_count, digit}
-use Rattle.digits.proofs.Count.{count_low, count-own}
+use Rattle.digits.proofs.Count.{count_low, count_own}
 use Rattle.tables.specs.Table.{lowest_from, lowest}
 
 -- t is m times 2^z, and m is odd
@@ -82,15 +82,15 @@ module _ (k m : ℕ) where
 sought : (f k t i j : ℕ) → i ≤ j → j < i + f → ((a : ℕ) → i ≤ a → a < j → digit k t a ≡ 0) → (digit k t j ≡ 0 → ⊥) → lowest_from f k t i ≡ j
 sought zero k t i j le room zeros some = absurd (omega arith)
 sought (suc f) k t i j le room zeros some =
-    by-digit (λ h. sought f k t (suc i) j h (omega arith) (λ a g l. zeros a (omega arith) l) some) (digit k t i =? 0) refl
+    by_digit (λ h. sought f k t (suc i) j h (omega arith) (λ a g l. zeros a (omega arith) l) some) (digit k t i =? 0) refl
   where
-    by-digit : (suc i ≤ j → lowest_from f k t (suc i) ≡ j) → (b : Bool) → (digit k t i =? 0) ≡ b → lowest_from (suc f) k t i ≡ j
-    by-digit ih true u = rw (u, lowest_from) (ih (by_place (ℕ_discrete i j)))
+    by_digit : (suc i ≤ j → lowest_from f k t (suc i) ≡ j) → (b : Bool) → (digit k t i =? 0) ≡ b → lowest_from (suc f) k t i ≡ j
+    by_digit ih true u = rw (u, lowest_from) (ih (by_place (ℕ_discrete i j)))
       where
         by_place : Dec (i ≡ j) → suc i ≤ j
         by_place (yes same) = absurd (some (ap (digit k t) (sym same) ∙ is_eq (digit k t i) 0 u))
         by_place (no other) = omega arith
-    by-digit ih false u = rw (u, lowest_from) (here (dec_lt i j))
+    by_digit ih false u = rw (u, lowest_from) (here (dec_lt i j))
       where
         here : Dec (i < j) → i ≡ j
         here (yes lt) = absurd (not_eq (digit k t i) 0 u (zeros i (le_refl i) lt))
@@ -114,8 +114,8 @@ module _ (k t m j r : ℕ) (some : 0 < k) (odd : m % 2 ≡ 1) (low : r < k) (is 
           let none : t / 2 ^ (k * j) ≡ 0 = div-eq_of_lt (count_low k some t j (omega arith)) in
           absurd (nonzero (ap (λ (n : ℕ). n % 2 ^ k) none ∙ zero-mod (2 ^ k)))
 
-  lowest-is : lowest k t ≡ j
-  lowest-is = sought (digit_count k t) k t 0 j zero-le (omega (arith, inside)) zeros nonzero
+  lowest_is : lowest k t ≡ j
+  lowest_is = sought (digit_count k t) k t 0 j zero-le (omega (arith, inside)) zeros nonzero
 
 -- the lowest digit's place, from the trailing zeros of a word
 pub trailing_lowest : (w k t : ℕ) → 0 < k → 0 < t → t < 2 ^ w → count_trailing_zeros w t / k ≡ lowest k t
@@ -123,7 +123,7 @@ trailing_lowest w k t some h low =
     let z = count_trailing_zeros w t in
     let odd = odd_part w t h low in
     sym
-    (lowest-is k t odd.0 (z / k) (z % k) some odd.1.odd (mod-lt z some)
+    (lowest_is k t odd.0 (z / k) (z % k) some odd.1.odd (mod-lt z some)
     (odd.1.is ∙ ap (λ (n : ℕ). odd.0 * 2 ^ n) (sym (div-add-mod z k))))
 
 -- digits of one bit need no division
@@ -134,7 +134,7 @@ trailing_bit w k t one h low = rw one (sym (div-one (count_trailing_zeros w t)) 
 pub lowest_weight : (k t : ℕ) → 0 < k → 0 < t → (q : ℕ) × (t ≡ q * 2 ^ (k * lowest k t))
 lowest_weight k t some h =
     let w = k * digit_count k t in
-    let low : t < 2 ^ w = count-own k some t in
+    let low : t < 2 ^ w = count_own k some t in
     let z = count_trailing_zeros w t in
     let odd = odd_part w t h low in
     let m = odd.0 in (

@@ -36,15 +36,15 @@ pub record RowAsked (k : ℕ) (inputs : List ℕ) (at d : ℕ) : Type 0 where
   pub k_low : k < 32
   pub at_some : 0 < at
   pub inside : d < length inputs
-  pub places-low : k * length inputs < 32
-  pub numbers-low : at + 2 ^ (k * length inputs) ≤ 2 ^ 32
+  pub places_low : k * length inputs < 32
+  pub numbers_low : at + 2 ^ (k * length inputs) ≤ 2 ^ 32
 
 -- a table over these inputs after n steps, and that its numbers fit
 pub record TableAsked (p k : ℕ) (inputs : List ℕ) (n : ℕ) : Type 0 where
   pub k_some : 0 < k
   pub k_low : k < 32
-  pub places-low : k * length inputs < 32
-  pub numbers-low : p + n + 2 ^ (k * length inputs) < 2 ^ 32
+  pub places_low : k * length inputs < 32
+  pub numbers_low : p + n + 2 ^ (k * length inputs) < 2 ^ 32
 
 -- the steps are stored, one more than before
 pub record OneMore (cells cells' : List ℕ) (before after : Progress) (steps : List Step) : Type 0 where

@@ -5,7 +5,7 @@ use mathlib.Core.List.{List, []}
 use Prim.Native.Nat.{ℕ, ◌-◌}
 use lib.ListN.{length, take, drop}
 use Rattle.chain.specs.Written.{over, laid}
-use Rattle.chain.proofs.Written.{over-laid, laid_nil}
+use Rattle.chain.proofs.Written.{over_laid, laid_nil}
 use Rattle.text.specs.declared.Parting.TheVariants.{Free}
 use Rattle.text.specs.declared.Parsed.{Parsed}
 use Rattle.places.specs.declared.Read.{Read}
@@ -17,7 +17,7 @@ use Rattle.text.specs.Inner.{FoundTo, ReadTo}
 
 -- nothing is stored
 pub over_none : (old : List ℕ) → old ≡ over [] old
-over_none old = sym (over-laid [] old ∙ laid_nil 0 old)
+over_none old = sym (over_laid [] old ∙ laid_nil 0 old)
 
 -- an outcome that is another
 pub read_same : (o o' : Outcome) (old : List ℕ) (a : Read) (new : List ℕ) → o ≡ o' → ReadTo o old a new → ReadTo o' old a new
@@ -29,18 +29,18 @@ module _ (text : List ℕ) (t : Bool) (told : t ≡ is_cut text) where
     unfolding numbers_in
     numbers_out = rw (← told, cut)
 
-    pub numbers-cut : (old : List ℕ) (a : Read) → a ≡ cut_text text → ReadTo (numbers_in text n) old a old
-    numbers-cut old a e = read_same _ _ old a old numbers_out (record { answered = e; stored = over_none old })
+    pub numbers_cut : (old : List ℕ) (a : Read) → a ≡ cut_text text → ReadTo (numbers_in text n) old a old
+    numbers_cut old a e = read_same _ _ old a old numbers_out (record { answered = e; stored = over_none old })
 
   module _ (n : ℕ) (whole : t ≡ false) where
     numbers_on : numbers_found text (read_text Free text n) ≡ numbers_in text n
     unfolding numbers_in
     numbers_on = rw (← told, whole)
 
-    pub numbers-read : (old : List ℕ) (p : Parsed) (a : Read) (new : List ℕ) → FoundTo (read_text Free text n) 0 old p new → a ≡ told_numbers text p → ReadTo (numbers_in text n) old a new
-    numbers-read old p a new r e =
+    pub numbers_read : (old : List ℕ) (p : Parsed) (a : Read) (new : List ℕ) → FoundTo (read_text Free text n) 0 old p new → a ≡ told_numbers text p → ReadTo (numbers_in text n) old a new
+    numbers_read old p a new r e =
         read_same _ _ old a new numbers_on
-        (record { answered = e ∙ ap (told_numbers text) r.answered; stored = r.stored ∙ sym (over-laid _ old) })
+        (record { answered = e ∙ ap (told_numbers text) r.answered; stored = r.stored ∙ sym (over_laid _ old) })
 
 -- what is read of the text after its mark is told
 pub body_told : (f : List ℕ → ℕ → Outcome) (text : List ℕ) (start n : ℕ) (old : List ℕ) (a : Read) (new : List ℕ) (number : ℕ) (words : List ℕ)

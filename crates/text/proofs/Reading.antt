@@ -55,17 +55,17 @@ Sound c n (Becomes m) = Fits c n m
 Sound c n (Ends x) = c < n
 Sound c n (Faulty fault seen wanted) = Unit {0}
 
-begun-sound : (c n d : ℕ) → Sound c n (begun c n d)
+begun_sound : (c n d : ℕ) → Sound c n (begun c n d)
 unfolding begun ◌<?◌
-begun-sound c n d = by_test (c <? n) (λ e. ltb-true c n e)
+begun_sound c n d = by_test (c <? n) (λ e. ltb-true c n e)
   where
     by_test : (t : Bool) → (t ≡ true → c < n) → Sound c n (cond t (Becomes (Number d)) (Faulty no_room n (n + 1)))
     by_test true h = h refl
     by_test false h = tt
 
-grown-sound : (c n x d : ℕ) → c < n → Sound c n (grown x d)
+grown_sound : (c n x d : ℕ) → c < n → Sound c n (grown x d)
 unfolding grown
-grown-sound c n x d h = by_test (most_amount <? 10 * x + d)
+grown_sound c n x d h = by_test (most_amount <? 10 * x + d)
   where
     by_test : (t : Bool) → Sound c n (cond t (Faulty too_large 0 0) (Becomes (Number (10 * x + d))))
     by_test true = tt
@@ -81,8 +81,8 @@ sound c n (Padded x) Padding f = f
 sound c n Nothing Separator f = tt
 sound c n (Number x) Separator f = f
 sound c n (Padded x) Separator f = f
-sound c n Nothing (Digit d) f = begun-sound c n d
-sound c n (Number x) (Digit d) f = grown-sound c n x d f
+sound c n Nothing (Digit d) f = begun_sound c n d
+sound c n (Number x) (Digit d) f = grown_sound c n x d f
 sound c n (Padded x) (Digit d) f = tt
 sound c n m (Other fault b) f = tt
 
@@ -126,8 +126,8 @@ module _ (by : Parting) (text : List ℕ) (from n : ℕ) (old : List ℕ) where
       holds : Sound c n e
       holds = rw told (sound c n m k r.fits)
 
-      pub reads-room : (x : ℕ) → e ≡ Ends x → c < n
-      reads-room x was = rw was at holds
+      pub reads_room : (x : ℕ) → e ≡ Ends x → c < n
+      reads_room x was = rw was at holds
 
       pub reads_becomes : (m' : Making) → e ≡ Becomes m' → Reads c m' (i + 1) cells
       unfolding follow
@@ -140,11 +140,11 @@ module _ (by : Parting) (text : List ℕ) (from n : ℕ) (old : List ℕ) where
             numbers = r.numbers ∙ ap (λ (f : Found). laid (from + c) f.numbers cells) s;
           }
 
-      pub reads-ends : (x : ℕ) → e ≡ Ends x → from + n ≤ length old → Reads (c + 1) Nothing (i + 1) (set cells (from + c) x)
+      pub reads_ends : (x : ℕ) → e ≡ Ends x → from + n ≤ length old → Reads (c + 1) Nothing (i + 1) (set cells (from + c) x)
       unfolding follow before
-      reads-ends x was room =
+      reads_ends x was room =
           let s : left c m i ≡ before x (left (c + 1) Nothing (i + 1)) = next ∙ rw (was, follow) in
-          let low : c < n = reads-room x was in
+          let low : c < n = reads_room x was in
           let at : from + (c + 1) ≡ from + c + 1 = omega arith in
           record {
             long = simp length-set r.long;
@@ -169,7 +169,7 @@ module _ (by : Parting) (text : List ℕ) (from n : ℕ) (old : List ℕ) where
         on_becomes m'' was a b d = rw (a, b, d) (reads_becomes m'' was)
 
         pub on_ends : (x : ℕ) → e ≡ Ends x → from + n ≤ length old → cells' ≡ set cells (from + c) x → c' ≡ c + 1 → m' ≡ Nothing → Reads c' m' (i + 1) cells'
-        on_ends x was room a b d = rw (a, b, d) (reads-ends x was room)
+        on_ends x was room a b d = rw (a, b, d) (reads_ends x was room)
 
 -- a text that was read has as many numbers as it answers, and they are within the room for them
 read_count : (n c i : ℕ) (m : Making) (ks : List Kind) (x : ℕ) → c ≤ n → Fits c n m → (read_from n c i m ks).answer ≡ Numbers x
@@ -186,6 +186,6 @@ read_count n c i m (k ∷ r) x h f e = by_effect (effect_of c n m k) (sound c n 
     by_effect (Ends y) s ih e = let z = ih (suc c) Nothing s tt e in (omega (arith, z.0), z.1)
     by_effect (Faulty fault seen wanted) s ih e = let z : ◌≡◌ {A = ℕ} 0 1 = cc in absurd (omega arith)
 
-pub text-count : (by : Parting) (text : List ℕ) (n x : ℕ) → (read_text by text n).answer ≡ Numbers x → (x ≡ length (read_text by text n).numbers) × (x ≤ n)
+pub text_count : (by : Parting) (text : List ℕ) (n x : ℕ) → (read_text by text n).answer ≡ Numbers x → (x ≡ length (read_text by text n).numbers) × (x ≤ n)
 unfolding read_text
-text-count by text n x e = let z = read_count n 0 1 Nothing (kinds_of by text) x (omega arith) tt e in (omega (arith, z.0), z.1)
+text_count by text n x e = let z = read_count n 0 1 Nothing (kinds_of by text) x (omega arith) tt e in (omega (arith, z.0), z.1)

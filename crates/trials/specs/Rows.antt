@@ -55,17 +55,17 @@ and_right : (a b : Bool) → T (a && b) → T b
 and_right true b t = t
 and_right false b t = absurd t
 
-same-equal : (xs ys : List ℕ) → T (same xs ys) → xs ≡ ys
-same-equal [] [] t = refl
-same-equal [] (y ∷ ys) t = absurd t
-same-equal (x ∷ xs) [] t = absurd t
-same-equal (x ∷ xs) (y ∷ ys) t =
-    ap₂ ◌∷◌ (eqb→eq x y (and_left (eqb x y) (same xs ys) t)) (same-equal xs ys (and_right (eqb x y) (same xs ys) t))
+same_equal : (xs ys : List ℕ) → T (same xs ys) → xs ≡ ys
+same_equal [] [] t = refl
+same_equal [] (y ∷ ys) t = absurd t
+same_equal (x ∷ xs) [] t = absurd t
+same_equal (x ∷ xs) (y ∷ ys) t =
+    ap₂ ◌∷◌ (eqb→eq x y (and_left (eqb x y) (same xs ys) t)) (same_equal xs ys (and_right (eqb x y) (same xs ys) t))
 
 -- each row of a table that passes the test holds
 pub rows_hold : (l : List Row) (d : Row) → T (all l) → (k : ℕ) → k < length l → Holds (get_or l k d)
 rows_hold [] d t k h = absurd (not-suc-le-zero h)
-rows_hold (r ∷ rs) d t zero h = same-equal r.got r.want (and_left (same r.got r.want) (all rs) t)
+rows_hold (r ∷ rs) d t zero h = same_equal r.got r.want (and_left (same r.got r.want) (all rs) t)
 rows_hold (r ∷ rs) d t (suc k) h = rows_hold rs d (and_right (same r.got r.want) (all rs) t) k (le_of_suc-le-suc h)
 
 -- a verdict, an answer and a choice as numbers: the refusal's number, 0 for none, and its place; an answer's values; the file chosen

@@ -5,12 +5,12 @@ use Prim.Native.Nat.{ℕ, ◌+◌, ◌<◌}
 use native.Mathlib.Omega.{arith}
 use native.Mathlib.Numerals.{add-one}
 use lib.ListN.{length, take, drop, set, replicate, length-set, length-replicate}
-use lib.Seq.{take-set-lt}
+use lib.Seq.{take-set_lt}
 use Rattle.chain.specs.Written.{over}
 use Rattle.chain.specs.Chain.{values, exponents}
 use Rattle.chain.specs.declared.Step.{Step}
 use Rattle.chain.proofs.Exponents.{length-exponents}
-use Rattle.chain.proofs.Written.{take-over, over-length, over-set, over-over}
+use Rattle.chain.proofs.Written.{take-over, over-length, over-set, over_over}
 use Rattle.verify.specs.Verify.{first_over}
 use Rattle.verify.specs.Inner.{column_start, steps_before, SummedUp}
 
@@ -31,7 +31,7 @@ module _ (p c : ℕ) (d : List ℕ) (h : c < p) where
     where
       front : take (p + 1) (set (over (replicate (p + 1) 0) d) (c + 1) 1) ≡ 0 ∷ set (replicate p 0) c 1
       front =
-          take-set-lt (p + 1) (over (replicate (p + 1) 0) d) (c + 1) 1 (omega arith)
+          take-set_lt (p + 1) (over (replicate (p + 1) 0) d) (c + 1) 1 (omega arith)
           ∙ ap (λ (t : List ℕ). set t (c + 1) 1) (take-over (p + 1) (replicate (p + 1) 0) d (length-replicate (p + 1) 0))
           ∙ ap₂ (λ (m k : ℕ). set (replicate m 0) k 1) (add-one p) (add-one c)
 
@@ -41,7 +41,7 @@ module _ (p c : ℕ) (d : List ℕ) (h : c < p) where
   start_over steps =
       let n : length (exponents p c steps) ≡ p + 1 + length steps = length-exponents p c steps in
       over-set (exponents p c steps) (over (replicate (p + 1) 0) d) (c + 1) 1 (omega arith)
-      ∙ over-over (replicate (p + 1) 0) (exponents p c steps) d (omega (arith, length-replicate {A = ℕ} (p + 1) 0))
+      ∙ over_over (replicate (p + 1) 0) (exponents p c steps) d (omega (arith, length-replicate {A = ℕ} (p + 1) 0))
 
   -- `d'` is the scratch with the start in it, `r` the place that the sums give, `d''` the scratch after them
   pub start_summed : (steps : List Step) (r : ℕ) (d' d'' : List ℕ) → d' ≡ column_start p c d

@@ -6,7 +6,7 @@ use native.Mathlib.Decide.{dec_lt}
 use native.Mathlib.Omega.{arith}
 use Rattle.chain.specs.Verdict.{refused, refuse_at}
 use Rattle.verify.specs.Verify.{earlier, earliest}
-use Rattle.verify.proofs.Places.{earlier-first, earlier_less, earlier_more}
+use Rattle.verify.proofs.Places.{earlier_first, earlier_less, earlier_more}
 use Rattle.verify.proofs.Columns.{at_some}
 
 -- s, of the places 1 to count, is the first at which B holds
@@ -75,8 +75,8 @@ module _ (count : ℕ) (B : ℕ → ℕ → Type 0) where
   abbrev In : ℕ → ℕ → Type 0
   In p t = InSome p (λ c. B c t)
 
-  more-first : (p s : ℕ) → First count (In p) s → ((t : ℕ) → 1 ≤ t → t < s → B p t → ⊥) → First count (In (suc p)) s
-  more-first p s f v =
+  more_first : (p s : ℕ) → First count (In p) s → ((t : ℕ) → 1 ≤ t → t < s → B p t → ⊥) → First count (In (suc p)) s
+  more_first p s f v =
       record {
         some = f.some;
         inside = f.inside;
@@ -84,8 +84,8 @@ module _ (count : ℕ) (B : ℕ → ℕ → Type 0) where
         before = λ t h g. in_neither p (λ c. B c t) (f.before t h g) (v t h g);
       }
 
-  last-first : (p s : ℕ) → First count (B p) s → ((t : ℕ) → 1 ≤ t → t < s → In p t → ⊥) → First count (In (suc p)) s
-  last-first p s f u =
+  last_first : (p s : ℕ) → First count (B p) s → ((t : ℕ) → 1 ≤ t → t < s → In p t → ⊥) → First count (In (suc p)) s
+  last_first p s f u =
       record {
         some = f.some;
         inside = f.inside;
@@ -95,22 +95,22 @@ module _ (count : ℕ) (B : ℕ → ℕ → Type 0) where
 
   both : (p : ℕ) {a b : ℕ} → FirstPlace count (In p) a → FirstPlace count (B p) b → FirstPlace count (In (suc p)) (earlier a b)
   both p (nowhere u) (nowhere v) = nowhere (λ t h g. in_neither p (λ c. B c t) (u t h g) (v t h g))
-  both p (nowhere u) (first {s = s} f) = first (last-first p s f (λ t h g. u t h (omega (arith, f.inside))))
+  both p (nowhere u) (first {s = s} f) = first (last_first p s f (λ t h g. u t h (omega (arith, f.inside))))
   both p (first {s = s} f) (nowhere v) =
-      rw (← earlier-first s 0 (omega (arith, f.some)) refl) (first (more-first p s f (λ t h g. v t h (omega (arith, f.inside)))))
+      rw (← earlier_first s 0 (omega (arith, f.some)) refl) (first (more_first p s f (λ t h g. v t h (omega (arith, f.inside)))))
   both p (first {s = s} f) (first {s = r} g) = by_size (dec_lt s r)
     where
       by_size : Dec (s < r) → FirstPlace count (In (suc p)) (earlier s r)
       by_size (yes lt) =
           rw (← earlier_less s r (omega (arith, f.some)) (omega (arith, g.some)) lt)
-          (first (more-first p s f (λ t h k. g.before t h (omega arith))))
+          (first (more_first p s f (λ t h k. g.before t h (omega arith))))
       by_size (no ge) =
           rw (← earlier_more s r (omega (arith, f.some)) (omega (arith, g.some)) (omega arith))
-          (first (last-first p r g (λ t h k. f.before t h (omega arith))))
+          (first (last_first p r g (λ t h k. f.before t h (omega arith))))
 
-  pub earliest-place : (p : ℕ) (f : ℕ → ℕ) → ((c : ℕ) → c < p → FirstPlace count (B c) (f c)) → FirstPlace count (In p) (earliest p f)
-  earliest-place zero f each = nowhere (λ t h g i. omega (arith, i.below))
-  earliest-place (suc p) f each = both p (earliest-place p f (λ c h. each c (omega arith))) (each p (omega arith))
+  pub earliest_place : (p : ℕ) (f : ℕ → ℕ) → ((c : ℕ) → c < p → FirstPlace count (B c) (f c)) → FirstPlace count (In p) (earliest p f)
+  earliest_place zero f each = nowhere (λ t h g i. omega (arith, i.below))
+  earliest_place (suc p) f each = both p (earliest_place p f (λ c h. each c (omega arith))) (each p (omega arith))
 
 -- a refusal at a place is one at the first place
 module _ (count : ℕ) (B : ℕ → Type 0) (n s : ℕ) where
@@ -132,5 +132,5 @@ module _ (count : ℕ) (B : ℕ → Type 0) (n s : ℕ) where
       same : s ≡ k
       same = by_size (dec_lt s k) (dec_lt k s)
 
-  pub refused-first : (k : ℕ) → FirstPlace count B k → refuse_at n k ≡ refused n s ↔ First count B s
-  refused-first k place = (at_first k place, first_at k place)
+  pub refused_first : (k : ℕ) → FirstPlace count B k → refuse_at n k ≡ refused n s ↔ First count B s
+  refused_first k place = (at_first k place, first_at k place)

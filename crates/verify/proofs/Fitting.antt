@@ -6,7 +6,7 @@ use lib.ListN.{length}
 use Rattle.chain.specs.Verdict.{fine}
 use Rattle.chain.specs.Chain.{Legal, legal_rule}
 use Rattle.chain.specs.declared.Step.{Step}
-use Rattle.chain.proofs.Rules.{then_fine, refuse_if-fine, not_lt, refuse_no, lt_no, pass}
+use Rattle.chain.proofs.Rules.{then_fine, refuse_if_fine, not_lt, refuse_no, lt_no, pass}
 use Rattle.sheet.proofs.Amounts.{amounts_fit, fit_amounts}
 use Rattle.verify.specs.Verify.{scratch_size, fitting_rule}
 
@@ -25,7 +25,7 @@ fitting p steps outputs amounts scratch e =
     record {
       legal = sym (pass _ _ fine (sym a.0) (sym f.0));
       amounts_fit = amounts_fit p (length outputs) amounts k.0;
-      room = not_lt _ _ (refuse_if-fine _ 5 0 f.1);
+      room = not_lt _ _ (refuse_if_fine _ 5 0 f.1);
     }
 
 pub fits : (p : ℕ) (steps : List Step) (outputs amounts : List ℕ) (scratch : ℕ) → Fitting p steps outputs amounts scratch

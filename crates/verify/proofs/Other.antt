@@ -23,9 +23,9 @@ module _ (x y s later : ℕ) where
   other_yes h = rw (eq_no x y h)
 
   -- no place is found only where none is later and the numbers are equal
-  pub other-neither : (s ≡ 0 → ⊥) → other_or x y s later ≡ 0 → (x ≡ y) × (later ≡ 0)
+  pub other_neither : (s ≡ 0 → ⊥) → other_or x y s later ≡ 0 → (x ≡ y) × (later ≡ 0)
   unfolding other_or
-  other-neither some = by_test (x =? y) refl
+  other_neither some = by_test (x =? y) refl
     where
       by_test : (t : Bool) → x =? y ≡ t → cond t later s ≡ 0 → (x ≡ y) × (later ≡ 0)
       by_test true u e = (is_eq x y u, e)
@@ -58,11 +58,11 @@ module _ (p c : ℕ) (amounts es l : List ℕ) where
     other_bad h d differs e = sym (e ∙ next i h ∙ other_yes _ _ _ _ (λ z. differs (z ∙ sym d)))
 
   module _ (i f : ℕ) where
-    pub other-end : length l ≤ i → f ≡ other_left p c amounts es l i → 0 ≡ f
+    pub other_end : length l ≤ i → f ≡ other_left p c amounts es l i → 0 ≡ f
     unfolding other_left
-    other-end h e = sym (e ∙ rw (drop_of_length-le l h))
+    other_end h e = sym (e ∙ rw (drop_of_length-le l h))
 
-pub ruleset comparing = (other_start, other_on, other_bad, other-end)
+pub ruleset comparing = (other_start, other_on, other_bad, other_end)
 
 -- each output's exponent is its amount
 pub other_none : (p c : ℕ) (amounts es : List ℕ) (k : ℕ) (l : List ℕ) → first_other p c amounts es k l ≡ 0
@@ -70,11 +70,11 @@ pub other_none : (p c : ℕ) (amounts es : List ℕ) (k : ℕ) (l : List ℕ) �
 other_none p c amounts es k [] e i h = absurd (omega arith)
 other_none p c amounts es k (o ∷ l) e zero h =
     let z : k + 0 ≡ k = omega arith in
-    rw z (other-neither (get_or es o 0) (amount p amounts k c) (suc k) _ (λ z. omega arith) e).0
+    rw z (other_neither (get_or es o 0) (amount p amounts k c) (suc k) _ (λ z. omega arith) e).0
 other_none p c amounts es k (o ∷ l) e (suc i) h =
     let z : k + suc i ≡ suc k + i = omega arith in
     rw z
-    (other_none p c amounts es (suc k) l (other-neither (get_or es o 0) (amount p amounts k c) (suc k) _ (λ z. omega arith) e).1 i (omega arith))
+    (other_none p c amounts es (suc k) l (other_neither (get_or es o 0) (amount p amounts k c) (suc k) _ (λ z. omega arith) e).1 i (omega arith))
 
 pub none_other : (p c : ℕ) (amounts es : List ℕ) (k : ℕ) (l : List ℕ)
     → ((i : ℕ) → i < length l → get_or es (get_or l i 0) 0 ≡ amount p amounts (k + i) c) → first_other p c amounts es k l ≡ 0
@@ -88,9 +88,9 @@ none_other p c amounts es k (o ∷ l) h =
     rw z (h (suc i) (omega arith)))
 
 -- exponents read off a slice whose front they are
-pub other-over : (p c : ℕ) (amounts es old : List ℕ) (k : ℕ) (l : List ℕ) → ((i : ℕ) → i < length l → get_or l i 0 < length es)
+pub other_over : (p c : ℕ) (amounts es old : List ℕ) (k : ℕ) (l : List ℕ) → ((i : ℕ) → i < length l → get_or l i 0 < length es)
     → first_other p c amounts (over es old) k l ≡ first_other p c amounts es k l
-other-over p c amounts es old k [] low = refl
-other-over p c amounts es old k (o ∷ l) low =
+other_over p c amounts es old k [] low = refl
+other_over p c amounts es old k (o ∷ l) low =
     ap₂ (λ (x later : ℕ). other_or x (amount p amounts k c) (suc k) later) (over_get_d es old o (low 0 (omega arith)))
-    (other-over p c amounts es old (suc k) l (λ i g. low (suc i) (omega arith)))
+    (other_over p c amounts es old (suc k) l (λ i g. low (suc i) (omega arith)))

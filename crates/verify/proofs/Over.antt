@@ -21,9 +21,9 @@ module _ (x s later : ℕ) where
   over_no h = rw (lt_no most_amount x h)
 
   -- no place is found only where none is later and the number is low
-  pub over-neither : (s ≡ 0 → ⊥) → over_or x s later ≡ 0 → (x ≤ most_amount) × (later ≡ 0)
+  pub over_neither : (s ≡ 0 → ⊥) → over_or x s later ≡ 0 → (x ≤ most_amount) × (later ≡ 0)
   unfolding over_or
-  over-neither some = by_test (most_amount <? x) refl
+  over_neither some = by_test (most_amount <? x) refl
     where
       by_test : (t : Bool) → most_amount <? x ≡ t → cond t s later ≡ 0 → (x ≤ most_amount) × (later ≡ 0)
       by_test true u e = absurd (some e)
@@ -55,15 +55,15 @@ module _ (p : ℕ) (w : List ℕ) (s f : ℕ) where
   pub over_bad : p + s + 1 < length w → most_amount < get_or w (p + s + 1) 0 → f ≡ over_left p w s → s + 1 ≡ f
   over_bad h high i = sym (i ∙ next p w s h ∙ over_yes _ _ _ high)
 
-  pub over-end : length w ≤ p + s + 1 → f ≡ over_left p w s → 0 ≡ f
+  pub over_end : length w ≤ p + s + 1 → f ≡ over_left p w s → 0 ≡ f
   unfolding over_left
-  over-end h i = sym (i ∙ rw (drop_of_length-le w h))
+  over_end h i = sym (i ∙ rw (drop_of_length-le w h))
 
 -- no number of the list is over the limit
 pub over_none : (s : ℕ) (xs : List ℕ) → first_over (suc s) xs ≡ 0 → (i : ℕ) → i < length xs → get_or xs i 0 ≤ most_amount
 over_none s [] e i h = absurd (omega arith)
-over_none s (x ∷ xs) e zero h = (over-neither x (suc s) _ (λ z. omega arith) e).0
-over_none s (x ∷ xs) e (suc i) h = over_none (suc s) xs (over-neither x (suc s) _ (λ z. omega arith) e).1 i (omega arith)
+over_none s (x ∷ xs) e zero h = (over_neither x (suc s) _ (λ z. omega arith) e).0
+over_none s (x ∷ xs) e (suc i) h = over_none (suc s) xs (over_neither x (suc s) _ (λ z. omega arith) e).1 i (omega arith)
 
 pub none_over : (s : ℕ) (xs : List ℕ) → ((i : ℕ) → i < length xs → get_or xs i 0 ≤ most_amount) → first_over s xs ≡ 0
 none_over s [] h = refl

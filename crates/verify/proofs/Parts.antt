@@ -6,11 +6,11 @@ use lib.ListN.{length}
 use Rattle.chain.specs.Verdict.{Verdict, fine, ◌then◌}
 use Rattle.chain.specs.Chain.{most_steps, pairs, shape_rule}
 use Rattle.chain.specs.declared.Step.{Step}
-use Rattle.chain.proofs.Rules.{then_assoc, then_fine, told-after}
+use Rattle.chain.proofs.Rules.{then_assoc, then_fine, told_after}
 use Rattle.chain.proofs.Pairs.{length_pairs}
 use Rattle.chain.proofs.Sizes.{Shape, shape_fits}
 use Rattle.rest.specs.Inner.{rest_rule}
-use Rattle.rest.proofs.Rest.{rest-is}
+use Rattle.rest.proofs.Rest.{rest_is}
 use Rattle.sheet.specs.Sheet.{amounts_rule}
 use Rattle.sheet.proofs.Amounts.{amounts_fit}
 use Rattle.verify.specs.Verify.{fitting_rule}
@@ -22,14 +22,14 @@ unfolding fitting_rule start_rule
 fitting_parts p steps outputs amounts scratch =
     then_assoc (shape_rule most_steps p (length outputs) (length steps)) (amounts_rule p (length outputs) amounts) (rest_rule p steps outputs scratch)
     ∙ ap (λ (v : Verdict). shape_rule most_steps p (length outputs) (length steps) then amounts_rule p (length outputs) amounts then v)
-    (rest-is p steps outputs scratch)
+    (rest_is p steps outputs scratch)
 
 -- the verdict on a flat list, part by part
 pub fitting_flat : (p : ℕ) (l outputs amounts : List ℕ) (scratch : ℕ) (s v : Verdict)
     → s ≡ start_rule p (length outputs) (length l / 2) amounts → v ≡ (s then rest_rule p (pairs l) outputs scratch)
     → v ≡ fitting_rule p (pairs l) outputs amounts scratch
 fitting_flat p l outputs amounts scratch s v starts e =
-    told-after s _ _ v (starts ∙ ap (λ (n : ℕ). start_rule p (length outputs) n amounts) (sym (length_pairs l))) e
+    told_after s _ _ v (starts ∙ ap (λ (n : ℕ). start_rule p (length outputs) n amounts) (sym (length_pairs l))) e
     ∙ fitting_parts p (pairs l) outputs amounts scratch
 
 -- a start that is fine

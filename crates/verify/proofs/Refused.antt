@@ -14,13 +14,13 @@ use Rattle.chain.proofs.Rules.{stop, pass}
 use Rattle.chain.proofs.Exponents.{Within, length-exponents}
 use Rattle.sheet.specs.Sheet.{amount}
 use Rattle.verify.specs.Verify.{exponents_rule, payslips_rule, verify_rule}
-use Rattle.verify.proofs.Over.{over_left, over_start, over_on, over_bad, over-end}
-use Rattle.verify.proofs.Other.{other_left, other_start, other_on, other_bad, other-end}
+use Rattle.verify.proofs.Over.{over_left, over_start, over_on, over_bad, over_end}
+use Rattle.verify.proofs.Other.{other_left, other_start, other_on, other_bad, other_end}
 use Rattle.verify.proofs.Columns.{large_in, other_in}
-use Rattle.verify.proofs.First.{First, InSome, FirstPlace, walked, earliest-place, refused-first}
+use Rattle.verify.proofs.First.{First, InSome, FirstPlace, walked, earliest_place, refused_first}
 use Rattle.verify.proofs.Fitting.{Fitting, fitting, fits}
 use Rattle.verify.proofs.Numbers.{Never, from_second, from_first, never_at, never_fitting}
-use Rattle.verify.proofs.Passing.{exponents-within, within-exponents}
+use Rattle.verify.proofs.Passing.{exponents_within, within_exponents}
 
 -- step s has an exponent above the limit in some column
 abbrev pub TooLarge : ℕ → List Step → ℕ → Type 0
@@ -36,8 +36,8 @@ Differs p amounts steps outputs i = InSome p (λ c. Same p amounts steps outputs
 
 -- the exponents of the steps, which are walked over in each column
 module _ (p : ℕ) (steps : List Step) where
-  large-place : (c : ℕ) → FirstPlace (length steps) (λ s. most_amount < exponent_of p steps c (p + s)) (large_in p steps c)
-  large-place c =
+  large_place : (c : ℕ) → FirstPlace (length steps) (λ s. most_amount < exponent_of p steps c (p + s)) (large_in p steps c)
+  large_place c =
       rw (over_start p w)
       (walked (length steps) _ (λ s. dec_lt most_amount (exponent_of p steps c (p + s))) (over_left p w) found on none)
     where
@@ -56,18 +56,18 @@ module _ (p : ℕ) (steps : List Step) where
           over_on p w k _ (omega (arith, length-exponents p c steps)) (omega arith) refl ∙ ap (over_left p w) (add-one k)
 
       none : over_left p w (length steps) ≡ 0
-      none = sym (over-end p w (length steps) _ (omega (arith, length-exponents p c steps)) refl)
+      none = sym (over_end p w (length steps) _ (omega (arith, length-exponents p c steps)) refl)
 
   -- 13 at place s: step s has too large an exponent in some column, and no earlier step has one in any
   pub refused_13 : (s : ℕ) → exponents_rule p steps ≡ refused 13 s ↔ First (length steps) (TooLarge p steps) s
   unfolding exponents_rule
   refused_13 s =
-      refused-first (length steps) (TooLarge p steps) 13 s _
-      (earliest-place (length steps) _ p (large_in p steps) (λ c h. large-place c))
+      refused_first (length steps) (TooLarge p steps) 13 s _
+      (earliest_place (length steps) _ p (large_in p steps) (λ c h. large_place c))
 
-  exponents-own : Never 14 (exponents_rule p steps)
+  exponents_own : Never 14 (exponents_rule p steps)
   unfolding exponents_rule
-  exponents-own = never_at 14 13 _ (λ e. omega arith)
+  exponents_own = never_at 14 13 _ (λ e. omega arith)
 
 -- the payslips, likewise
 module _ (p : ℕ) (amounts : List ℕ) (steps : List Step) (outputs : List ℕ) where
@@ -102,19 +102,19 @@ module _ (p : ℕ) (amounts : List ℕ) (steps : List Step) (outputs : List ℕ)
           by_test (no other) = absurd (not other)
 
       none : left (length outputs) ≡ 0
-      none = sym (other-end p c amounts es outputs (length outputs) _ (omega arith) refl)
+      none = sym (other_end p c amounts es outputs (length outputs) _ (omega arith) refl)
 
   -- 14 at place i: the exponents of output i are not its payslip in some column, and no earlier payslip differs in any
   pub refused_14 : (i : ℕ)
       → payslips_rule p amounts steps outputs ≡ refused 14 i ↔ First (length outputs) (Differs p amounts steps outputs) i
   unfolding payslips_rule
   refused_14 i =
-      refused-first (length outputs) (Differs p amounts steps outputs) 14 i _
-      (earliest-place (length outputs) _ p (other_in p amounts steps outputs) (λ c h. other_place c))
+      refused_first (length outputs) (Differs p amounts steps outputs) 14 i _
+      (earliest_place (length outputs) _ p (other_in p amounts steps outputs) (λ c h. other_place c))
 
-  payslips-own : Never 13 (payslips_rule p amounts steps outputs)
+  payslips_own : Never 13 (payslips_rule p amounts steps outputs)
   unfolding payslips_rule
-  payslips-own = never_at 13 14 _ (λ e. omega arith)
+  payslips_own = never_at 13 14 _ (λ e. omega arith)
 
 -- of the whole check (Spec 4, 10.2): 13 where the chain and the sheet fit, 14 where besides no exponent is too large
 module _ (p : ℕ) (steps : List Step) (outputs amounts : List ℕ) (scratch : ℕ) where
@@ -124,7 +124,7 @@ module _ (p : ℕ) (steps : List Step) (outputs amounts : List ℕ) (scratch : �
   check_13 s = (
     λ e.
         let a = from_second 13 s _ _ (never_fitting 13 (omega arith) p steps outputs amounts scratch) e in
-        let b = from_first 13 s _ _ (payslips-own p amounts steps outputs) a.1 in
+        let b = from_first 13 s _ _ (payslips_own p amounts steps outputs) a.1 in
         (fitting p steps outputs amounts scratch a.0, (refused_13 p steps s).0 b),
     λ h. sym (pass _ _ _ (sym (fits p steps outputs amounts scratch h.0)) (stop _ _ 13 s (sym ((refused_13 p steps s).1 h.1)))),
   )
@@ -135,9 +135,9 @@ module _ (p : ℕ) (steps : List Step) (outputs amounts : List ℕ) (scratch : �
   check_14 i = (
     λ e.
         let a = from_second 14 i _ _ (never_fitting 14 (omega arith) p steps outputs amounts scratch) e in
-        let b = from_second 14 i _ _ (exponents-own p steps) a.1 in
-        (fitting p steps outputs amounts scratch a.0, exponents-within p steps b.0, (refused_14 p amounts steps outputs i).0 b.1),
+        let b = from_second 14 i _ _ (exponents_own p steps) a.1 in
+        (fitting p steps outputs amounts scratch a.0, exponents_within p steps b.0, (refused_14 p amounts steps outputs i).0 b.1),
     λ h. sym
         (pass _ _ _ (sym (fits p steps outputs amounts scratch h.0))
-        (pass _ _ _ (within-exponents p steps h.1) (sym ((refused_14 p amounts steps outputs i).1 h.2)))),
+        (pass _ _ _ (within_exponents p steps h.1) (sym ((refused_14 p amounts steps outputs i).1 h.2)))),
   )

@@ -16,7 +16,7 @@ use Rattle.chain.proofs.Values.{length-values, values_keep}
 use Rattle.chain.proofs.Filling.{made_to, value_at, length-made, fill_on, fill_end}
 use Rattle.chain.proofs.Written.{over-length, over_get_d}
 use Rattle.verify.specs.Inner.{steps_before}
-use Rattle.verify.proofs.Over.{over_left, over_on, over_bad, over-end}
+use Rattle.verify.proofs.Over.{over_left, over_on, over_bad, over_end}
 
 -- the sums of all steps after the p + 1 values at the front of d
 abbrev pub sums : ℕ → List ℕ → List ℕ → List ℕ
@@ -65,7 +65,7 @@ module _ (p : ℕ) (l d : List ℕ) (s : ℕ) (vs : List ℕ) where
         over_bad p (sums p l d) s f (omega (arith, long at.room, at.there)) (rw (sum_is x v at is e made) at high) w
 
     pub sum-end : length l / 2 ≤ s → p + length l / 2 < length d → f ≡ over_left p (sums p l d) s → 0 ≡ f
-    sum-end h room w = over-end p (sums p l d) s f (omega (arith, long room)) w
+    sum-end h room w = over_end p (sums p l d) s f (omega (arith, long room)) w
 
   -- the scratch where the sum of step s is too large, and after all steps
   pub sums_stopped : vs ≡ made_to ◌+◌ p l s d → vs ≡ over (values ◌+◌ (take (p + 1) d) (steps_before (s + 1) (pairs l))) d

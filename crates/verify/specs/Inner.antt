@@ -32,7 +32,7 @@ pub record SummedUp (p : ℕ) (f : List Step → List ℕ) (steps : List Step) (
 pub record Comparable (p c : ℕ) (outputs amounts : List ℕ) (room : ℕ) : Type 0 where
   pub column : c < p
   pub amounts_fit : length amounts ≡ p * length outputs
-  pub outputs-within : (i : ℕ) → i < length outputs → get_or outputs i 0 < room
+  pub outputs_within : (i : ℕ) → i < length outputs → get_or outputs i 0 < room
 
 -- what is found once column c is taken up, whose sums gave a place
 unfoldable pub taken_up : Found → ℕ → ℕ → ℕ → List ℕ → List ℕ → List ℕ → Found

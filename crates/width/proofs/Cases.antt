@@ -57,8 +57,8 @@ module _ (x e : ℕ) where
 
 -- every width is the bit length, and other numbers have none
 module _ (x : ℕ) where
-  pub by-cases-is : 1 ≤ x → x < 2 ^ case_count → width_by_cases x ≡ bit_length x
-  by-cases-is lo hi = by_powers x ∙ found x case_count case_count 0 refl lo hi
+  pub by_cases_is : 1 ≤ x → x < 2 ^ case_count → width_by_cases x ≡ bit_length x
+  by_cases_is lo hi = by_powers x ∙ found x case_count case_count 0 refl lo hi
 
   pub no_case_below : x < 1 → 0 ≡ width_by_cases x
   no_case_below less = sym (by_powers x ∙ none_below x case_count 0 less)
@@ -70,4 +70,4 @@ module _ (x : ℕ) where
 pub in_case : (w x : ℕ) → 0 < w → w ≤ case_count → 2 ^ (w - 1) ≤ x → x < 2 ^ w → w ≡ width_by_cases x
 in_case w x some few lo hi =
     bit-length-is w x some lo hi
-    ∙ sym (by-cases-is x (omega (arith, pow_pos (w - 1))) (omega (arith, pow_mono {i = w} {j = case_count} few)))
+    ∙ sym (by_cases_is x (omega (arith, pow_pos (w - 1))) (omega (arith, pow_mono {i = w} {j = case_count} few)))

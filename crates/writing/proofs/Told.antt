@@ -7,8 +7,8 @@ use lib.ListN.{length, get_or, take}
 use Rattle.chain.specs.Verdict.{fine, refused}
 use Rattle.chain.specs.Written.{over}
 use Rattle.chain.specs.declared.Step.{Step}
-use Rattle.chain.proofs.Rules.{renewed, then_fine, refuse_if-fine, not_lt}
-use Rattle.chain.proofs.Told.{verdict_in, told, told-values}
+use Rattle.chain.proofs.Rules.{renewed, then_fine, refuse_if_fine, not_lt}
+use Rattle.chain.proofs.Told.{verdict_in, told, told_values_lem}
 use Rattle.chain.proofs.Written.{take-over, over-length}
 use Rattle.layout.specs.declared.Layout.{Layout}
 use Rattle.layout.specs.File.{byte_count, file_of, write_rule, write_answer, write_bytes}
@@ -19,20 +19,20 @@ use Rattle.answers.specs.declared.Written.TheVariants.{Bytes, Refused}
 
 module _ (L : Layout) (p : ℕ) (steps : List Step) (outputs bytes : List ℕ) (w : Written)
     (answered : written_of w ≡ write_answer L p steps outputs (length bytes)) where
-  write-found : verdict_in (written_of w) ≡ write_rule L p steps outputs (length bytes)
+  write_found : verdict_in (written_of w) ≡ write_rule L p steps outputs (length bytes)
   unfolding write_answer
-  write-found = told _ _ _ answered
+  write_found = told _ _ _ answered
 
-  pub write-stops : (k s : ℕ) → w ≡ Refused k s → refused k s ≡ write_rule L p steps outputs (length bytes)
-  write-stops k s e = sym (ap (λ (x : Written). verdict_in (written_of x)) e) ∙ write-found
+  pub write_stops : (k s : ℕ) → w ≡ Refused k s → refused k s ≡ write_rule L p steps outputs (length bytes)
+  write_stops k s e = sym (ap (λ (x : Written). verdict_in (written_of x)) e) ∙ write_found
 
   module _ (n : ℕ) (is : w ≡ Bytes n) where
     pub write_passes : fine ≡ write_rule L p steps outputs (length bytes)
-    write_passes = sym (ap (λ (x : Written). verdict_in (written_of x)) is) ∙ write-found
+    write_passes = sym (ap (λ (x : Written). verdict_in (written_of x)) is) ∙ write_found
 
-    pub write-counts : n ≡ byte_count L p (length outputs) (length steps)
+    pub write_counts : n ≡ byte_count L p (length outputs) (length steps)
     unfolding write_answer
-    write-counts = ap (λ (l : List ℕ). get_or l 0 0) (told-values _ _ _ (sym (ap written_of is) ∙ answered))
+    write_counts = ap (λ (l : List ℕ). get_or l 0 0) (told_values_lem _ _ _ (sym (ap written_of is) ∙ answered))
 
     module _ (bytes' : List ℕ) (e : bytes' ≡ write_bytes L p steps outputs bytes) where
       laid : bytes' ≡ over (file_of L p steps outputs) bytes
@@ -40,13 +40,13 @@ module _ (L : Layout) (p : ℕ) (steps : List Step) (outputs bytes : List ℕ) (
       laid = e ∙ sym (renewed _ _ bytes _ write_passes refl)
 
       -- the bytes counted are the file
-      pub write-front : take n bytes' ≡ file_of L p steps outputs
-      write-front = ap (take n) laid ∙ take-over n (file_of L p steps outputs) bytes (omega (arith, write-counts, length-file L p steps outputs))
+      pub write_front : take n bytes' ≡ file_of L p steps outputs
+      write_front = ap (take n) laid ∙ take-over n (file_of L p steps outputs) bytes (omega (arith, write_counts, length-file L p steps outputs))
 
       -- and have room
-      pub write-room : n ≤ length bytes'
+      pub write_room : n ≤ length bytes'
       unfolding write_rule
-      write-room =
-          let room = not_lt _ _ (refuse_if-fine _ 5 0 (then_fine _ _ (sym write_passes)).1) in
+      write_room =
+          let room = not_lt _ _ (refuse_if_fine _ 5 0 (then_fine _ _ (sym write_passes)).1) in
           let l = length-file L p steps outputs in
-          omega (arith, ap length laid, write-counts, over-length (file_of L p steps outputs) bytes (omega arith))
+          omega (arith, ap length laid, write_counts, over-length (file_of L p steps outputs) bytes (omega arith))

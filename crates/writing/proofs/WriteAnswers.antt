@@ -10,7 +10,7 @@ use Rattle.chain.specs.Written.{over}
 use Rattle.chain.specs.Chain.{pairs, shape_rule, chain_rule}
 use Rattle.chain.specs.declared.Judgement.{Judgement}
 use Rattle.chain.specs.declared.Judgement.TheVariants.{Fine, Refused}
-use Rattle.chain.proofs.Rules.{stop, pass, then_assoc, told-fine, told-refused, answer-refused, answer-done, kept, renewed}
+use Rattle.chain.proofs.Rules.{stop, pass, then_assoc, told_fine, told_refused_lem, answer_refused, answer_done, kept, renewed}
 use Rattle.chain.proofs.Pairs.{length_pairs}
 use Rattle.layout.specs.declared.Layout.{Layout}
 use Rattle.layout.specs.declared.Extent.{Extent}
@@ -40,35 +40,35 @@ module _ (L : Layout) (p : ℕ) (l o old : List ℕ) where
   -- the answer, by the verdict
   stopped : (k s : ℕ) → refused k s ≡ write_rule L p (pairs l) o (length old) → Wrote L p l o old (refusal k s) old
   unfolding write_answer write_bytes
-  stopped k s v = record { answered = answer-refused _ _ k s v; left = kept _ _ old k s v }
+  stopped k s v = record { answered = answer_refused _ _ k s v; left = kept _ _ old k s v }
 
   went : (count : ℕ) (new : List ℕ) → fine ≡ write_rule L p (pairs l) o (length old) → count ≡ byte_count L p q n
       → new ≡ over (file_of L p (pairs l) o) old → Wrote L p l o old (done (count ∷ [])) new
   unfolding write_answer write_bytes
   went count new v is en =
       record {
-        answered = ap (λ (k : ℕ). done (k ∷ [])) (is ∙ ap (byte_count L p q) (sym (length_pairs l))) ∙ answer-done _ _ v;
+        answered = ap (λ (k : ℕ). done (k ∷ [])) (is ∙ ap (byte_count L p q) (sym (length_pairs l))) ∙ answer_done _ _ v;
         left = renewed _ _ old _ v en;
       }
 
   module _ (j : Judgement) (told : verdict_of j ≡ shape_rule L.limit p q n) where
     pub shape_refused : (k s : ℕ) → j ≡ Refused k s → Wrote L p l o old (refusal k s) old
-    shape_refused k s e = stopped k s (stop _ _ k s (told-refused j _ k s told e) ∙ sym (in_order (byte_count L p q n) refl))
+    shape_refused k s e = stopped k s (stop _ _ k s (told_refused_lem j _ k s told e) ∙ sym (in_order (byte_count L p q n) refl))
 
     module _ (ok : j ≡ Fine) where
       pub sized : Sized L p q n
-      sized = shape_sized L p q n (sym (told-fine j _ told ok))
+      sized = shape_sized L p q n (sym (told_fine j _ told ok))
 
       module _ (count : ℕ) (is : count ≡ byte_count L p q n) (i : Judgement)
           (told-rest : verdict_of i ≡ (chain_rule p (pairs l) o then refuse_if (length old <? count) 5 0)) where
-        pub rest-refused : (k s : ℕ) → i ≡ Refused k s → Wrote L p l o old (refusal k s) old
+        pub rest_refused : (k s : ℕ) → i ≡ Refused k s → Wrote L p l o old (refusal k s) old
         unfolding rest
-        rest-refused k s e =
-            stopped k s (pass _ _ _ (told-fine j _ told ok) (told-refused i _ k s told-rest e) ∙ sym (in_order count is))
+        rest_refused k s e =
+            stopped k s (pass _ _ _ (told_fine j _ told ok) (told_refused_lem i _ k s told-rest e) ∙ sym (in_order count is))
 
         pub passed : i ≡ Fine → fine ≡ write_rule L p (pairs l) o (length old)
         unfolding rest
-        passed e = pass _ _ _ (told-fine j _ told ok) (told-fine i _ told-rest e) ∙ sym (in_order count is)
+        passed e = pass _ _ _ (told_fine j _ told ok) (told_fine i _ told-rest e) ∙ sym (in_order count is)
 
         pub to_write : SoundLayout L → (s : Extent) → s ≡ extent_of L p q n → i ≡ Fine → ToWrite L s l o (length old)
         to_write sound s e fine-rest =
@@ -78,5 +78,5 @@ module _ (L : Layout) (p : ℕ) (l o old : List ℕ) where
               accepted = ap (λ (x : Extent). write_rule L x.p (pairs l) o (length old)) e ∙ sym (passed fine-rest);
             }
 
-        pub all-written : i ≡ Fine → (new : List ℕ) → new ≡ over (file_of L p (pairs l) o) old → Wrote L p l o old (done (count ∷ [])) new
-        all-written e new en = went count new (passed e) is en
+        pub all_written : i ≡ Fine → (new : List ℕ) → new ≡ over (file_of L p (pairs l) o) old → Wrote L p l o old (done (count ∷ [])) new
+        all_written e new en = went count new (passed e) is en

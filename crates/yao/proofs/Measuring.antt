@@ -31,22 +31,22 @@ digits_few k x (suc r) some low e = by_place (dec_lt (k * r) 32)
         absurd (omega arith)
 
 -- each digit begins within them
-pub digit-place : (k j digits : ℕ) → 0 < k → j < digits → k * digits ≤ 31 + k → k * j < 32
-digit-place k j digits some h room = omega (arith, mul-le-mul_left k h, mul-suc k j)
+pub digit_place : (k j digits : ℕ) → 0 < k → j < digits → k * digits ≤ 31 + k → k * j < 32
+digit_place k j digits some h room = omega (arith, mul-le-mul_left k h, mul-suc k j)
 
 -- the squarings of a column
-pub squarings-none : (digits k : ℕ) → digits ≡ 0 → 0 ≡ (digits - 1) * k
-squarings-none digits k e = rw e (sym (zero-mul k))
+pub squarings_none : (digits k : ℕ) → digits ≡ 0 → 0 ≡ (digits - 1) * k
+squarings_none digits k e = rw e (sym (zero-mul k))
 
-pub squarings-few : (k digits : ℕ) → k * digits ≤ 31 + k → (digits - 1) * k ≤ squarings_most
-squarings-few k zero h = rw (zero-mul k) (omega arith)
-squarings-few k (suc d) h = rw (sub-one (suc d)) (omega (arith, mul-suc k d, mul_comm k d))
+pub squarings_few : (k digits : ℕ) → k * digits ≤ 31 + k → (digits - 1) * k ≤ squarings_most
+squarings_few k zero h = rw (zero-mul k) (omega arith)
+squarings_few k (suc d) h = rw (sub-one (suc d)) (omega (arith, mul-suc k d, mul_comm k d))
 
 -- the digits of the largest amounts, which are numbers of 32 bits, are the columns'
-pub columns-measured : (p q : ℕ) (amounts : List ℕ) (k : ℕ) (largest old cells : List ℕ) → 0 < k → ((c : ℕ) → get_or largest c 0 < 2 ^ 32)
+pub columns_measured : (p q : ℕ) (amounts : List ℕ) (k : ℕ) (largest old cells : List ℕ) → 0 < k → ((c : ℕ) → get_or largest c 0 < 2 ^ 32)
     → Largest p q amounts largest → p ≤ length cells → cells ≡ over (list_to p (digits_at k largest)) old → Measured p q amounts k cells
 unfolding yao_digits
-columns-measured p q amounts k largest old cells some low l room e =
+columns_measured p q amounts k largest old cells some low l room e =
     record {
       narrow = record { there = room; few = λ c h. digits_few k (get_or largest c 0) (get_or cells c 0) some (low c) (at c h) };
       are = λ c h. at c h ∙ ap (digit_count k) (l.are c h);
@@ -56,16 +56,16 @@ columns-measured p q amounts k largest old cells some low l room e =
     at = filled_at (digits_at k largest) old p cells e
 
 -- read again
-pub column-few : (k n : ℕ) (cells : List ℕ) (c : ℕ) → DigitsFew k n cells → c < n → k * get_or cells c 0 ≤ 31 + k
-column-few k n cells c few less = few.few c less
+pub column_few : (k n : ℕ) (cells : List ℕ) (c : ℕ) → DigitsFew k n cells → c < n → k * get_or cells c 0 ≤ 31 + k
+column_few k n cells c few less = few.few c less
 
 module _ (p q : ℕ) (amounts : List ℕ) (k : ℕ) (cells : List ℕ) (m : Measured p q amounts k cells) where
-  pub column-is : (c : ℕ) → c < p → get_or cells c 0 ≡ yao_digits p q amounts k c
-  column-is = m.are
+  pub column_is : (c : ℕ) → c < p → get_or cells c 0 ≡ yao_digits p q amounts k c
+  column_is = m.are
 
   -- they are those of the definition
-  pub squarings-are : (c : ℕ) → c < p → squarings_in k cells c ≡ yao_squarings p q amounts k c
-  squarings-are c h = ap (λ (d : ℕ). (d - 1) * k) (m.are c h)
+  pub squarings_are : (c : ℕ) → c < p → squarings_in k cells c ≡ yao_squarings p q amounts k c
+  squarings_are c h = ap (λ (d : ℕ). (d - 1) * k) (m.are c h)
 
   pub squarings-sum : sum_to p (squarings_in k cells) ≡ sum_to p (yao_squarings p q amounts k)
-  squarings-sum = sum_same p (squarings_in k cells) (yao_squarings p q amounts k) squarings-are
+  squarings-sum = sum_same p (squarings_in k cells) (yao_squarings p q amounts k) squarings_are

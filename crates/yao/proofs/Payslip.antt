@@ -9,8 +9,8 @@ use lib.ListN.{length}
 use Rattle.chain.specs.declared.Step.{Step}
 use Rattle.chain.proofs.Exponents.{Makes}
 use Rattle.digits.specs.Range.{sum_to, sign}
-use Rattle.digits.proofs.Range.{sum_more, le-max, max-low, sign-sign, sign-add}
-use Rattle.digits.proofs.Count.{count-own, count_high}
+use Rattle.digits.proofs.Range.{sum_more, le_max, max_low, sign_sign, sign-add}
+use Rattle.digits.proofs.Count.{count_own, count_high}
 use Rattle.digits.proofs.Vector.{delta, sum_delta}
 use Rattle.sheet.specs.Sheet.{amount}
 use Rattle.products.specs.Product.{Made, made}
@@ -20,7 +20,7 @@ use Rattle.products.proofs.Product.{times_cost, times_spent, Result, result_valu
 use Rattle.methods.proofs.Powers.{power_some, Powers, powers}
 use Rattle.yao.specs.Yao.{yao_digits, yao_squarings, yao_power, Sweep, sweep, yao_payslip, amount_count, yao_payslip_count}
 use Rattle.yao.proofs.Sweeping.{sweep_makes}
-use Rattle.yao.proofs.Cost.{sweep-count, sweep-value}
+use Rattle.yao.proofs.Cost.{sweep_count, sweep_value}
 
 -- the steps and the product a of an amount in column c
 abbrev amount_made : ℕ → ℕ → List ℕ → ℕ → ℕ → ℕ → List Step → Sweep
@@ -31,7 +31,7 @@ module _ (p q : ℕ) (amounts : List ℕ) (k : ℕ) (some : 0 < k) where
   -- a column's largest amount has J digits, so none has more
   digits_short : (i c : ℕ) → i < q → amount p amounts i c < 2 ^ (k * yao_digits p q amounts k c)
   unfolding yao_digits
-  digits_short i c h = lt_of_le_of_lt (le-max q (λ i. amount p amounts i c) i h) (count-own k some (largest_in p q amounts c))
+  digits_short i c h = lt_of_le_of_lt (le_max q (λ i. amount p amounts i c) i h) (count_own k some (largest_in p q amounts c))
 
   -- the steps of the first columns, with one more for a product that is not empty
   record PayslipCounted (i : ℕ) (before : List Step) (c : ℕ) (m : Made) : Type 0 where
@@ -48,19 +48,19 @@ module _ (p q : ℕ) (amounts : List ℕ) (k : ℕ) (some : 0 < k) where
       let r = amount_made p q amounts k i c m.steps in
       let powers-some : (j : ℕ) → j < yao_digits p q amounts k c → 0 < yao_power p q amounts k c j =
       λ j g. power_some p (yao_squarings p q amounts k) c (k * j) in
-      let cost = sweep-count p k (yao_power p q amounts k c) x (yao_digits p q amounts k c) m.steps powers-some in
-      let full = sweep-value p k (yao_power p q amounts k c) x (yao_digits p q amounts k c) m.steps powers-some (digits_short i c h) in
+      let cost = sweep_count p k (yao_power p q amounts k c) x (yao_digits p q amounts k c) m.steps powers-some in
+      let full = sweep_value p k (yao_power p q amounts k c) x (yao_digits p q amounts k c) m.steps powers-some (digits_short i c h) in
       let nonzero : ℕ = sum_to c (λ d. sign (amount p amounts i d)) in
       record {
         count = omega (arith, s.count, times_spent p (made r.steps m.value) r.a);
-        value = omega (arith, s.value, (times_cost p (made r.steps m.value) r.a).value, sign-add m.value r.a, sign-add nonzero (sign x), sign-sign x);
+        value = omega (arith, s.value, (times_cost p (made r.steps m.value) r.a).value, sign-add m.value r.a, sign-add nonzero (sign x), sign_sign x);
       }
 
   -- the steps of a payslip
-  pub payslip-count : (i : ℕ) → i < q → (before : List Step)
+  pub payslip_count_lem : (i : ℕ) → i < q → (before : List Step)
       → length (yao_payslip p q amounts k i before p).steps
       ≡ length before + yao_payslip_count p q amounts k i
-  payslip-count i h before =
+  payslip_count_lem i h before =
       let s = counted i h before p in
       by_size (sum_to p (λ c. sign (amount p amounts i c))) s.value s.count
     where
@@ -76,18 +76,18 @@ module _ (p q : ℕ) (amounts : List ℕ) (k : ℕ) (some : 0 < k) where
       by_size (suc z) e c = omega arith
 
   module _ (limit : ℕ) (one : 1 ≤ limit) (low : (i c : ℕ) → amount p amounts i c ≤ limit) where
-    squarings-low : (c : ℕ) → 2 ^ yao_squarings p q amounts k c ≤ limit
+    squarings_low : (c : ℕ) → 2 ^ yao_squarings p q amounts k c ≤ limit
     unfolding yao_digits
-    squarings-low c = by_digits (yao_digits p q amounts k c) refl
+    squarings_low c = by_digits (yao_digits p q amounts k c) refl
       where
         by_digits : (J : ℕ) → yao_digits p q amounts k c ≡ J → 2 ^ ((J - 1) * k) ≤ limit
         by_digits zero e = rw (zero-mul k) one
         by_digits (suc J) e =
             rw (sub-one (suc J), mul_comm J k)
-            (le_trans (count_high k some (largest_in p q amounts c) J (omega arith)) (max-low q _ limit (λ i h. low i c)))
+            (le_trans (count_high k some (largest_in p q amounts c) J (omega arith)) (max_low q _ limit (λ i h. low i c)))
 
     pub yao_powers : Powers p limit (yao_squarings p q amounts k) p
-    yao_powers = powers p limit (yao_squarings p q amounts k) one (λ c h. squarings-low c) p (le_refl p)
+    yao_powers = powers p limit (yao_squarings p q amounts k) one (λ c h. squarings_low c) p (le_refl p)
 
     -- after any sound steps that begin with the powers, a payslip makes its amounts
     module _ (i : ℕ) (h : i < q) (before : List Step) (sound : Sound p limit before) (begins : Begins (squarings p (yao_squarings p q amounts k) p) before) where

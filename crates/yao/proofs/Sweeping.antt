@@ -15,7 +15,7 @@ use Rattle.products.proofs.Sound.{Begins, begins_own, begins_on, makes_on, Sound
 use Rattle.products.proofs.Product.{Result, result_value, result_like, result_times}
 use Rattle.yao.specs.Yao.{gather, Sweep, sweep}
 use Rattle.yao.proofs.Gather.{gather_makes}
-use Rattle.yao.proofs.Rounds.{each, in_b, rounds_none, b-next, a-next, a-all, a-low}
+use Rattle.yao.proofs.Rounds.{each, in_b, rounds_none, b_next, a_next, a_all, a_low}
 
 -- After n rounds: each power is in a once for each round in which it was in b.
 pub record Swept (p limit k column x J : ℕ) (before : List Step) (n : ℕ) (r : Sweep) : Type 0 where
@@ -53,10 +53,10 @@ module _ (p limit k column : ℕ) (power : ℕ → ℕ) (x J : ℕ) {before : Li
       b = vector k (in_b k x (suc n)) J
 
       sum : a + b ≡ vector k (each k x (suc n)) J
-      sum = a-next k x J n
+      sum = a_next k x J n
 
       within : a + b ≤ limit
-      within = omega (arith, sum, a-low k x J short (suc n) h)
+      within = omega (arith, sum, a_low k x J short (suc n) h)
 
       more : Swept p limit k column x J before n r → Swept p limit k column x J before (suc n) (sweep p k power J x before (suc n))
       more s =
@@ -69,7 +69,7 @@ module _ (p limit k column : ℕ) (power : ℕ → ℕ) (x J : ℕ) {before : Li
         where
           gathered : Result p limit r.steps g (λ c. delta column c * b)
           gathered =
-              let whole = b-next k x J n (omega arith) in
+              let whole = b_next k x J n (omega arith) in
               result_like (λ c i. ap (λ (m : ℕ). delta column c * m) whole)
               (gather_makes p limit k column power x (2 ^ k - suc n) (vector k (in_b k x n) J) (result_value s.sound s.makes_b) J
               (λ j i. makes_on s.begins (given j i)) (omega (arith, within)))
@@ -88,5 +88,5 @@ module _ (p limit k column : ℕ) (power : ℕ → ℕ) (x J : ℕ) {before : Li
       record {
         sound = r.sound;
         begins = r.begins;
-        makes = makes_like p _ _ _ _ (λ c g. ap (λ (m : ℕ). delta column c * m) (a-all k x J short)) r.makes_a;
+        makes = makes_like p _ _ _ _ (λ c g. ap (λ (m : ℕ). delta column c * m) (a_all k x J short)) r.makes_a;
       }

@@ -8,7 +8,7 @@ use lib.Pow.{pow_mono}
 use Rattle.chain.specs.Chain.{most_columns}
 use Rattle.digits.specs.Digits.{digit}
 use Rattle.digits.specs.Range.{sum_to, max_to, sign}
-use Rattle.digits.proofs.Range.{sum_on, max_on, sign_low, sign-one, signs_low, max-low}
+use Rattle.digits.proofs.Range.{sum_on, max_on, sign_low, sign_one, signs_low, max_low}
 use Rattle.digits.proofs.Vector.{digit_low}
 use Rattle.sheet.specs.Sheet.{amount}
 use Rattle.methods.specs.Inner.{QuoteOf}
@@ -35,47 +35,47 @@ module _ (k x : ℕ) where
   signs_fit : (digits j : ℕ) → 0 < k → k ≤ yao_most → k * digits ≤ 31 + k → j ≤ digits → signs_to k x j ≤ 40
   signs_fit digits j some small room h = omega (arith, few digits some room small, signs_low j (λ i. digit k x i))
 
-  most-fits : (j : ℕ) → k ≤ yao_most → most_to k x j ≤ 255
-  most-fits j small =
+  most_fits : (j : ℕ) → k ≤ yao_most → most_to k x j ≤ 255
+  most_fits j small =
       let base : 2 ^ k ≤ 2 ^ yao_most = pow_mono {j = yao_most} small in
-      max-low j (λ i. digit k x i) 255 (λ i g. omega (arith, digit_low k x i))
+      max_low j (λ i. digit k x i) 255 (λ i g. omega (arith, digit_low k x i))
 
-  pub most-low : (j m : ℕ) → k ≤ yao_most → m ≡ most_to k x j → m < 256
-  most-low j m small e = omega (arith, most-fits j small)
+  pub most_low : (j m : ℕ) → k ≤ yao_most → m ≡ most_to k x j → m < 256
+  most_low j m small e = omega (arith, most_fits j small)
 
   module _ (digits j z : ℕ) (some : 0 < k) (small : k ≤ yao_most) (room : k * digits ≤ 31 + k) (h : j ≤ digits) (e : z ≡ signs_to k x j) where
     pub next_fits : (d r : ℕ) → r ≡ sign d → z + r < 64
     next_fits d r f = omega (arith, signs_fit digits j some small room h, sign_low d)
 
-    pub amount-fits : (m : ℕ) → m ≡ most_to k x j → z + m < 512
-    amount-fits m f = omega (arith, signs_fit digits j some small room h, most-fits j small)
+    pub amount_fits : (m : ℕ) → m ≡ most_to k x j → z + m < 512
+    amount_fits m f = omega (arith, signs_fit digits j some small room h, most_fits j small)
 
-    pub amount-few : (m : ℕ) → m ≡ most_to k x j → z + m - 2 ≤ amount_most
-    amount-few m f = omega (arith, signs_fit digits j some small room h, most-fits j small)
+    pub amount_few : (m : ℕ) → m ≡ most_to k x j → z + m - 2 ≤ amount_most
+    amount_few m f = omega (arith, signs_fit digits j some small room h, most_fits j small)
 
-  pub amount-end : (digits j z h : ℕ) → j ≤ digits → digits ≤ j → z ≡ signs_to k x j → h ≡ most_to k x j → z + h - 2 ≡ amount_count k digits x
-  amount-end digits j z h le ge e f =
+  pub amount_end : (digits j z h : ℕ) → j ≤ digits → digits ≤ j → z ≡ signs_to k x j → h ≡ most_to k x j → z + h - 2 ≡ amount_count k digits x
+  amount_end digits j z h le ge e f =
       let last : j ≡ digits = omega arith in
       rw (← last) (ap₂ (λ (a b : ℕ). a + b - 2) e f)
 
-  pub amount-none : (digits j z h : ℕ) → j ≤ digits → digits ≤ j → z ≡ signs_to k x j → h ≡ most_to k x j → z + h < 2 → 0 ≡ amount_count k digits x
-  amount-none digits j z h le ge e f low = omega (arith, amount-end digits j z h le ge e f)
+  pub amount_none : (digits j z h : ℕ) → j ≤ digits → digits ≤ j → z ≡ signs_to k x j → h ≡ most_to k x j → z + h < 2 → 0 ≡ amount_count k digits x
+  amount_none digits j z h le ge e f low = omega (arith, amount_end digits j z h le ge e f)
 
 -- the ceiling's part for an amount
 module _ (k digits w : ℕ) (power : w ≡ 2 ^ k) where
-  pub ceiling-fits : 0 < k → k ≤ yao_most → k * digits ≤ 31 + k → digits + w < amount_most
-  ceiling-fits some small room =
+  pub ceiling_fits : 0 < k → k ≤ yao_most → k * digits ≤ 31 + k → digits + w < amount_most
+  ceiling_fits some small room =
       let base : 2 ^ k ≤ 2 ^ yao_most = pow_mono {j = yao_most} small in
       omega (arith, few k 0 digits some room small)
 
-  pub ceiling-few : (r : ℕ) → r ≡ digits + w - 3 → 0 < k → k ≤ yao_most → k * digits ≤ 31 + k → r ≤ amount_most
-  ceiling-few r is some small room = omega (arith, ceiling-fits some small room)
+  pub ceiling_few : (r : ℕ) → r ≡ digits + w - 3 → 0 < k → k ≤ yao_most → k * digits ≤ 31 + k → r ≤ amount_most
+  ceiling_few r is some small room = omega (arith, ceiling_fits some small room)
 
-  pub ceiling-some : (x r : ℕ) → r ≡ digits + w - 3 → (x ≡ 0 → ⊥) → r ≡ amount_ceiling k digits x
-  ceiling-some x r is some = rw (← sign-one x some, one-mul (digits + 2 ^ k - 3)) (is ∙ ap (λ (a : ℕ). digits + a - 3) power)
+  pub ceiling_some : (x r : ℕ) → r ≡ digits + w - 3 → (x ≡ 0 → ⊥) → r ≡ amount_ceiling k digits x
+  ceiling_some x r is some = rw (← sign_one x some, one-mul (digits + 2 ^ k - 3)) (is ∙ ap (λ (a : ℕ). digits + a - 3) power)
 
-pub ceiling-none : (k digits x : ℕ) → x ≡ 0 → 0 ≡ amount_ceiling k digits x
-ceiling-none k digits x none = rw none (sym (zero-mul (digits + 2 ^ k - 3)))
+pub ceiling_none : (k digits x : ℕ) → x ≡ 0 → 0 ≡ amount_ceiling k digits x
+ceiling_none k digits x none = rw none (sym (zero-mul (digits + 2 ^ k - 3)))
 
 -- of payslip i: the steps of its first c amounts, their parts of the ceiling, and how many of them are not 0
 abbrev pub amounts_to : ℕ → ℕ → List ℕ → ℕ → ℕ → ℕ → ℕ
@@ -98,27 +98,27 @@ module _ (p q : ℕ) (amounts : List ℕ) (k i : ℕ) where
     pub ceilings_on : r ≡ amount_ceiling k d x → n ≡ ceilings_to p q amounts k i c → n + r ≡ ceilings_to p q amounts k i (c + 1)
     ceilings_on = one_on (amount_ceiling k)
 
-  pub nonzero-few : (z c x r : ℕ) → r ≡ sign x → z ≤ c → z + r ≤ c + 1
-  nonzero-few z c x r f h = omega (arith, sign_low x)
+  pub nonzero_few : (z c x r : ℕ) → r ≡ sign x → z ≤ c → z + r ≤ c + 1
+  nonzero_few z c x r f h = omega (arith, sign_low x)
 
-  pub nonzero-fits : (z c x r : ℕ) → r ≡ sign x → z ≤ c → c < p → p ≤ most_columns → z + r < 32
-  nonzero-fits z c x r f h g columns = omega (arith, sign_low x)
+  pub nonzero_fits : (z c x r : ℕ) → r ≡ sign x → z ≤ c → c < p → p ≤ most_columns → z + r < 32
+  nonzero_fits z c x r f h g columns = omega (arith, sign_low x)
 
   pub nonzero_on : (z c x r : ℕ) → x ≡ amount p amounts i c → r ≡ sign x → z ≡ nonzero_to p amounts i c → z + r ≡ nonzero_to p amounts i (c + 1)
   nonzero_on z c x r e f = sum_on (λ b. sign (amount p amounts i b)) c z r (f ∙ ap sign e)
 
   -- after the last amount: what was added up, and the products
-  payslip-end : (f : ℕ → ℕ) (n z c r : ℕ) → c ≤ p → p ≤ c → n ≡ sum_to c f → z ≡ nonzero_to p amounts i c → r ≡ z - 1 → n + r ≡ sum_to p f + yao_joins p amounts i
-  payslip-end f n z c r h g e nonzero joined =
+  payslip_end : (f : ℕ → ℕ) (n z c r : ℕ) → c ≤ p → p ≤ c → n ≡ sum_to c f → z ≡ nonzero_to p amounts i c → r ≡ z - 1 → n + r ≡ sum_to p f + yao_joins p amounts i
+  payslip_end f n z c r h g e nonzero joined =
       let last : c ≡ p = omega arith in
       ap₂ ◌+◌ (e ∙ ap (λ (m : ℕ). sum_to m f) last) (joined ∙ ap (λ (m : ℕ). m - 1) (nonzero ∙ ap (nonzero_to p amounts i) last))
 
   module _ (n z c r : ℕ) (h : c ≤ p) (g : p ≤ c) where
-    pub count-end : n ≡ amounts_to p q amounts k i c → z ≡ nonzero_to p amounts i c → r ≡ z - 1 → n + r ≡ yao_payslip_count p q amounts k i
-    count-end = payslip-end _ n z c r h g
+    pub count_end : n ≡ amounts_to p q amounts k i c → z ≡ nonzero_to p amounts i c → r ≡ z - 1 → n + r ≡ yao_payslip_count p q amounts k i
+    count_end = payslip_end _ n z c r h g
 
-    pub ceiling-end : n ≡ ceilings_to p q amounts k i c → z ≡ nonzero_to p amounts i c → r ≡ z - 1 → n + r ≡ yao_payslip_ceiling p q amounts k i
-    ceiling-end = payslip-end _ n z c r h g
+    pub ceiling_end : n ≡ ceilings_to p q amounts k i c → z ≡ nonzero_to p amounts i c → r ≡ z - 1 → n + r ≡ yao_payslip_ceiling p q amounts k i
+    ceiling_end = payslip_end _ n z c r h g
 
 -- the squarings, and the steps of all payslips or their parts of the ceiling
 pub quote_all : (p q : ℕ) (amounts : List ℕ) (k n most b : ℕ) → b ≡ sum_to p (yao_squarings p q amounts k)
@@ -126,7 +126,7 @@ pub quote_all : (p q : ℕ) (amounts : List ℕ) (k n most b : ℕ) → b ≡ su
     → QuoteOf (record { count = n; ceiling = most }) (yao_method p q amounts k)
 unfolding yao_count yao_ceiling
 quote_all p q amounts k n most b e counted ceiled =
-    record { count-is = counted ∙ after (yao_payslip_count p q amounts k); ceiling-is = ceiled ∙ after (yao_payslip_ceiling p q amounts k) }
+    record { count_is = counted ∙ after (yao_payslip_count p q amounts k); ceiling_is = ceiled ∙ after (yao_payslip_ceiling p q amounts k) }
   where
     after : (f : ℕ → ℕ) → b + sum_to q f ≡ sum_to p (yao_squarings p q amounts k) + sum_to q f
     after f = ap (λ (a : ℕ). a + sum_to q f) e

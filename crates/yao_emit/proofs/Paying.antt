@@ -13,7 +13,7 @@ use Rattle.products.specs.Inner.{steps_in, StepsRoom, Emitted}
 use Rattle.products.specs.declared.Progress.{Progress}
 use Rattle.products.proofs.Sound.{Begins, begins_own, begins_on, begins_rise}
 use Rattle.products.proofs.Product.{times_begins}
-use Rattle.products.proofs.Emitted.{stored-own, stored-room, emits_room, emits_on}
+use Rattle.products.proofs.Emitted.{stored_own, stored_room, emits_room, emits_on}
 use Rattle.methods.specs.Inner.{Asked}
 use Rattle.yao.specs.Yao.{yao_digits, yao_squarings, Sweep, yao_payslip, yao_most}
 use Rattle.yao.specs.Inner.{squarings_most}
@@ -34,15 +34,15 @@ module _ (col : Column) (cells : List ℕ) (n : Progress) (v : ℕ) (room : Step
   into : Begins swept.steps (times col.p (made swept.steps v) swept.a).steps
   into = times_begins col.p (made swept.steps v) swept.a
 
-  pub sweep-room : StepsRoom col.p cells n (sweep_in col (steps_in cells n.steps) (2 ^ col.k - 1)).steps
-  sweep-room = stored-room room (stored-own cells n room.so_far) (sweep_begin col (steps_in cells n.steps) 0 (2 ^ col.k - 1) (omega arith)) into
+  pub sweep_room : StepsRoom col.p cells n (sweep_in col (steps_in cells n.steps) (2 ^ col.k - 1)).steps
+  sweep_room = stored_room room (stored_own cells n room.so_far) (sweep_begin col (steps_in cells n.steps) 0 (2 ^ col.k - 1) (omega arith)) into
 
   module _ (cells' : List ℕ) (n' : Progress) (a b : ℕ) (e : SweepEmitted cells cells' n' a b (sweep_in col (steps_in cells n.steps) (2 ^ col.k - 1))) where
     entered : Emitted cells cells' n' v (made swept.steps v)
     entered = record { stored = e.stored; value = refl }
 
     by_value : times col.p (made swept.steps v) a ≡ times col.p (made swept.steps v) swept.a
-    by_value = ap (times col.p (made swept.steps v)) e.a-is
+    by_value = ap (times col.p (made swept.steps v)) e.a_is
 
     pub join_room : StepsRoom col.p cells' n' (times col.p (made (steps_in cells' n'.steps) v) a).steps
     join_room =
@@ -75,23 +75,23 @@ module _ (p q : ℕ) (amounts : List ℕ) (k i : ℕ) where
     abbrev column : Column
     column = record { p = p; k = k; c = c; first = first; digits = J; x = x }
 
-    next-is : joined column (yao_payslip p q amounts k i before c) ≡ yao_payslip p q amounts k i before (suc c)
-    next-is = rw (is-first, is-digits, is-amount)
+    next_is : joined column (yao_payslip p q amounts k i before c) ≡ yao_payslip p q amounts k i before (suc c)
+    next_is = rw (is-first, is-digits, is-amount)
 
     more : Begins (yao_payslip p q amounts k i before c).steps (joined column (yao_payslip p q amounts k i before c)).steps
     more = join_begins column (yao_payslip p q amounts k i before c)
 
-    pub column-room : (n : Progress) → StepsRoom p old n (yao_payslip p q amounts k i before p).steps → c < p
+    pub column_room : (n : Progress) → StepsRoom p old n (yao_payslip p q amounts k i before p).steps → c < p
         → StepsRoom p cells m (joined column (made (steps_in cells m.steps) v)).steps
-    column-room n room less = emits_room room (joined column) e more (rw next-is (columns_begin before (suc c) p less))
+    column_room n room less = emits_room room (joined column) e more (rw next_is (columns_begin before (suc c) p less))
 
     pub column_on : (cells' : List ℕ) (m' : Progress) (v' : ℕ) → Emitted cells cells' m' v' (joined column (made (steps_in cells m.steps) v))
         → Emitted old cells' m' v' (yao_payslip p q amounts k i before (c + 1))
-    column_on cells' m' v' t = rw (add-one c, ← next-is) (emits_on (joined column) e more t)
+    column_on cells' m' v' t = rw (add-one c, ← next_is) (emits_on (joined column) e more t)
 
-  pub columns-end : (before : List Step) (old cells : List ℕ) (m : Progress) (v c : ℕ) → c ≤ p → p ≤ c → Emitted old cells m v (yao_payslip p q amounts k i before c)
+  pub columns_end : (before : List Step) (old cells : List ℕ) (m : Progress) (v c : ℕ) → c ≤ p → p ≤ c → Emitted old cells m v (yao_payslip p q amounts k i before c)
       → Emitted old cells m v (yao_payslip p q amounts k i before p)
-  columns-end before old cells m v c h g e =
+  columns_end before old cells m v c h g e =
       let last : c ≡ p = omega arith in
       subst (λ (d : ℕ). Emitted old cells m v (yao_payslip p q amounts k i before d)) last e
 
@@ -105,5 +105,5 @@ first_on p q amounts k first c d r e f g =
 pub reaches : (col : Column) {q : ℕ} {amounts : List ℕ} → Asked yao_most col.p q amounts col.k → col.k * col.digits ≤ 31 + col.k → col.c < col.p
     → col.first ≤ col.p + squarings_most * col.c → Reach col
 reaches col asked few less low =
-    let columns = asked.sheet.p-low in
+    let columns = asked.sheet.p_low in
     record { some = asked.k_some; narrow = omega (arith, asked.k_low); few = few; base = omega arith; numbers = omega (arith, asked.k_low) }

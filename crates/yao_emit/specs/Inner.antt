@@ -37,13 +37,13 @@ joined col m =
 -- a slice holds the steps of a sweep over what it held before
 pub record SweepEmitted (before cells : List ℕ) (n : Progress) (a b : ℕ) (r : Sweep) : Type 0 where
   pub stored : StepsStored before cells n r.steps
-  pub a-is : a ≡ r.a
-  pub b-is : b ≡ r.b
+  pub a_is : a ≡ r.a
+  pub b_is : b ≡ r.b
 
 -- a chain that is asked for, with the columns' squarings counted
 pub record SquaringsCounted (p q : ℕ) (amounts : List ℕ) (k : ℕ) (columns counts : List ℕ) : Type 0 where
   pub chain : YaoAsked p q amounts k columns
-  pub counts-are : counts ≡ list_to p (squarings_in k columns)
+  pub counts_are : counts ≡ list_to p (squarings_in k columns)
 
 -- the whole of payslip i
 abbrev pub yao_slip : ℕ → ℕ → List ℕ → ℕ → ℕ → List Step → Made

@@ -1,7 +1,7 @@
 -- The loop keeps `Gathering`: what the eight bytes come to is x and what the bytes still to be added come to.
 use Prim.Native.Nat.{◌+◌, ◌-◌}
 use lib.ListN.{length}
-use Rattle.bits.proofs.Take.{Gathering, gather_start, gather_on, gather-fits, gather-end}
+use Rattle.bits.proofs.Take.{Gathering, gather_start, gather_on, gather_fits, gather_end}
 use borrow.Author.Rules.{rules}
 use Rattle.bits.proofs.gather_last.Statement.{statement}
 use Rattle.bits.proofs.gather_last.Tie as tie
@@ -36,7 +36,7 @@ shl-x c = search rules
 add-x : tie.Need-overflow-add-x invariant-loop decreases-loop
 add-x c =
     let l = c.before in
-    record { fits = gather-fits _ _ _ _ l.before.loop.invariant l.before.before.before.requires.few l.loop-test.true _ c.byte.ensures }
+    record { fits = gather_fits _ _ _ _ l.before.loop.invariant l.before.before.before.requires.few l.loop-test.true _ c.byte.ensures }
 
 add-j : tie.Need-overflow-add-j invariant-loop decreases-loop
 add-j c = search rules
@@ -50,10 +50,10 @@ loop-again c =
     gather_on _ _ _ _ l.before.loop.invariant l.before.before.before.requires.few l.loop-test.true _ c.byte.ensures
 
 returns : tie.Need-returns invariant-loop decreases-loop
-returns c = gather-end _ _ _ _ c.before.loop.invariant c.loop-test.false
+returns c = gather_end _ _ _ _ c.before.loop.invariant c.loop-test.false
 
-pub gather-last_spec : {M : Type 1} → statement M
-gather-last_spec =
+pub gather_last_spec : {M : Type 1} → statement M
+gather_last_spec =
     tie.close
     (tie.spec
     invariant-loop

@@ -2,7 +2,7 @@
 use mathlib.Core.Path.{refl}
 use Prim.Native.Nat.{◌-◌}
 use lib.ListN.{length}
-use Rattle.chain.proofs.Laying.{LaidTo, lay_none, front-more, front-all}
+use Rattle.chain.proofs.Laying.{LaidTo, lay_none, front_more, front_all}
 use borrow.Author.Rules.{rules}
 use Rattle.bits.proofs.lengthen.Statement.{statement}
 use Rattle.bits.proofs.lengthen.Tie as tie
@@ -16,10 +16,10 @@ decreases-loop file long₀ i₀ long i = length file - i
 loop-again : tie.Need-loop-preserved invariant-loop decreases-loop
 loop-again c =
     let turn = c.before in
-    front-more _ _ _ _ _ turn.loop-test.true turn.before.before.requires refl turn.before.loop.invariant
+    front_more _ _ _ _ _ turn.loop-test.true turn.before.before.requires refl turn.before.loop.invariant
 
 returns : tie.Need-returns invariant-loop decreases-loop
-returns c = front-all _ _ _ _ c.loop-test.false c.before.loop.invariant
+returns c = front_all _ _ _ _ c.loop-test.false c.before.loop.invariant
 
 pub lengthen_spec : {M : Type 1} → statement M
 lengthen_spec =

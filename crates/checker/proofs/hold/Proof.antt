@@ -5,9 +5,9 @@ use Prim.Native.Nat.{ℕ, ◌+◌, ◌/◌, ◌-◌, ◌≤◌}
 use native.Mathlib.Omega.{arith}
 use lib.ListN.{length, drop}
 use Rattle.chain.specs.Chain.{pairs}
-use Rattle.chain.proofs.Limits.{outputs-low}
+use Rattle.chain.proofs.Limits.{outputs_low}
 use Rattle.chain.proofs.Pairs.{length_pairs}
-use Rattle.verify.proofs.Columns.{HeldTo, held_none, held_next, held_all, summed-past}
+use Rattle.verify.proofs.Columns.{HeldTo, held_none, held_next, held_all, summed_past}
 use Rattle.checker.proofs.hold.Statement.{statement}
 use Rattle.checker.proofs.hold.Tie as tie
 
@@ -35,13 +35,13 @@ take-up-requires c κs =
     record {
       column = b.before.before.loop-test.true;
       amounts_fit = start.requires.amounts_fit;
-      outputs-within = λ i h. omega (
+      outputs_within = λ i h. omega (
         arith,
-        outputs-low (start.args.p + length (pairs start.args.steps.now)) 1 start.args.outputs.now start.requires.chain-sound.outputs-fine i h,
+        outputs_low (start.args.p + length (pairs start.args.steps.now)) 1 start.args.outputs.now start.requires.chain_sound.outputs_fine i h,
         length_pairs start.args.steps.now,
         b.column.auto.1.1.1.0,
         l.invariant.1,
-        start.requires.chain-sound.steps-sound.room,
+        start.requires.chain_sound.steps_sound.room,
       );
     }
 
@@ -59,8 +59,8 @@ loop-again c =
     let top = ap (λ (n : ℕ). start.args.p + n + 1) (sym (length_pairs start.args.steps.now)) in (
       search rules,
       b.column.auto.1.1.1.0 ∙ l.invariant.1,
-      held_next _ _ (pairs start.args.steps.now) _ _ _ _ _ _ _ start.requires.chain-sound.outputs-fine b.column.ensures c.take-up.ensures l.invariant.2,
-      summed-past _ _ _ (pairs start.args.steps.now) _ _ _ top b.column.ensures ∙ l.invariant.3,
+      held_next _ _ (pairs start.args.steps.now) _ _ _ _ _ _ _ start.requires.chain_sound.outputs_fine b.column.ensures c.take-up.ensures l.invariant.2,
+      summed_past _ _ _ (pairs start.args.steps.now) _ _ _ top b.column.ensures ∙ l.invariant.3,
     )
 
 same_length : tie.Need-same-length invariant-loop decreases-loop

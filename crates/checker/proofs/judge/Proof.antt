@@ -5,12 +5,12 @@ use Rattle.chain.specs.Verdict.{Verdict}
 use Rattle.chain.specs.Chain.{pairs, squarings_of}
 use Rattle.chain.specs.Inner.{counted_by}
 use Rattle.verify.proofs.Parts.{fitting_flat, started}
-use Rattle.rest.proofs.Rest.{end-asked}
+use Rattle.rest.proofs.Rest.{end_asked}
 use Rattle.checker.proofs.judge.Statement.{statement}
 use Rattle.checker.proofs.judge.Tie as tie
 
 judge-rest-requires : tie.Need-judge-rest-requires
-judge-rest-requires c κs = λ e. end-asked (started _ _ _ _ (sym c.judge-start.ensures ∙ e)).shape
+judge-rest-requires c κs = λ e. end_asked (started _ _ _ _ (sym c.judge-start.ensures ∙ e)).shape
 
 returns : tie.Need-returns
 returns c =

@@ -3,7 +3,7 @@ use borrow.Author.Rules.{rules}
 use mathlib.Core.Path.{◌≡◌}
 use Prim.Native.Nat.{◌+◌, ◌-◌, ◌≤◌, ◌<◌}
 use lib.ListN.{length, drop, length-set}
-use Rattle.chain.proofs.Steps.{first-within, second-within, within}
+use Rattle.chain.proofs.Steps.{first_within, second_within, within}
 use Rattle.chain.proofs.Filling.{made_to, fill_start, fill_on}
 use Rattle.verify.specs.Verify.{first_over}
 use Rattle.verify.proofs.Over.{over_left, over_start}
@@ -41,7 +41,7 @@ slice-read-plus : tie.Need-slice-read-plus invariant-loop decreases-loop
 slice-read-plus c =
     let l = c.before.before.before.before.before in
     let t = c.before.before.before.before.loop-test.true in
-    first-within _ _ _ _ _ c.before.before.before.step-at.ensures t l.before.before.before.requires.steps-fine l.loop.invariant.2
+    first_within _ _ _ _ _ c.before.before.before.step-at.ensures t l.before.before.before.requires.steps_fine l.loop.invariant.2
 
 mul-plus-2 : tie.Need-overflow-mul-plus-2 invariant-loop decreases-loop
 mul-plus-2 c = search (rules, within)
@@ -50,7 +50,7 @@ slice-read-plus-2 : tie.Need-slice-read-plus-2 invariant-loop decreases-loop
 slice-read-plus-2 c =
     let l = c.before.before.before.before.before.before in
     let t = c.before.before.before.before.before.loop-test.true in
-    second-within _ _ _ _ _ c.before.before.before.before.step-at.ensures t l.before.before.before.requires.steps-fine l.loop.invariant.2
+    second_within _ _ _ _ _ c.before.before.before.before.step-at.ensures t l.before.before.before.requires.steps_fine l.loop.invariant.2
 
 plus-requires : tie.Need-plus-requires invariant-loop decreases-loop
 plus-requires c κs = search rules
@@ -71,7 +71,7 @@ returns c =
     let start = l.before.before.before.requires in
     record {
       place =
-          sum_bad _ _ _ _ _ _ _ _ (record { there = b.before.loop-test.true; legal = start.steps-fine; room = start.room }) b.step-at.ensures
+          sum_bad _ _ _ _ _ _ _ _ (record { there = b.before.loop-test.true; legal = start.steps_fine; room = start.room }) b.step-at.ensures
           c.before.plus.ensures l.loop.invariant.3 c.if1.true l.loop.invariant.4;
       cells = search sums_stopped;
     }
@@ -106,7 +106,7 @@ loop-again c =
       simp length-set (search rules),
       simp length-set (search rules),
       search fill_on,
-      sum_on _ _ _ _ _ _ _ _ (record { there = b.before.loop-test.true; legal = start.steps-fine; room = start.room }) b.step-at.ensures
+      sum_on _ _ _ _ _ _ _ _ (record { there = b.before.loop-test.true; legal = start.steps_fine; room = start.room }) b.step-at.ensures
           c.before.plus.ensures l.loop.invariant.3 c.if1.false l.loop.invariant.4,
     )
 

@@ -7,11 +7,11 @@ use lib.ListN.{length}
 use Rattle.chain.specs.Verdict.{fine}
 use Rattle.chain.specs.Chain.{pairs, squarings_of}
 use Rattle.chain.proofs.Pairs.{length_pairs}
-use Rattle.chain.proofs.Legal.{legal_parts, chain-parts}
-use Rattle.chain.proofs.Squarings.{squarings-few, counts-are, found-refused, found-fine, found_number}
+use Rattle.chain.proofs.Legal.{legal_parts, chain_parts}
+use Rattle.chain.proofs.Squarings.{squarings_few, counts_are, found_refused, found_fine, found_number}
 use Rattle.verify.specs.Verify.{fitting_rule}
 use Rattle.verify.proofs.Fitting.{Fitting, fitting}
-use Rattle.verify.proofs.Answers.{early-answer, early-scratch, late-answer, late-scratch}
+use Rattle.verify.proofs.Answers.{early_answer, early_scratch, late_answer, late_scratch}
 use Rattle.checker.proofs.verify.Statement.{statement}
 use Rattle.checker.proofs.verify.Tie as tie
 
@@ -19,7 +19,7 @@ use Rattle.checker.proofs.verify.Tie as tie
 first : (c : tie.After-squarings)
     → let a = c.before.before.before.before.before.before.before.args in
     fine ≡ fitting_rule a.p (pairs a.steps.now) a.outputs.now a.amounts.now (length a.scratch.now)
-first c = found-fine _ _ _ c.before.before.judge.ensures _ c.squarings.given.1
+first c = found_fine _ _ _ c.before.before.judge.ensures _ c.squarings.given.1
 
 -- and the squarings are counted
 counted : (c : tie.After-squarings) → c.squarings.given.0.0 ≡ squarings_of (pairs c.before.before.before.before.before.before.before.args.steps.now)
@@ -40,12 +40,12 @@ hold-requires : tie.Need-hold-requires
 hold-requires c κs =
     let f = fits c.before.before in
     let k = legal_parts _ _ _ f.legal in
-    let parts = chain-parts _ _ _ k.chain in
+    let parts = chain_parts _ _ _ k.chain in
     record {
-      chain-sound =
+      chain_sound =
           record {
-            steps-sound = record { p-low = k.sizes.p-low; steps-fine = parts.0; room = room c.before.before };
-            outputs-fine = parts.1;
+            steps_sound = record { p_low = k.sizes.p_low; steps_fine = parts.0; room = room c.before.before };
+            outputs_fine = parts.1;
           };
       amounts_fit = f.amounts_fit;
     }
@@ -54,7 +54,7 @@ counts-of-requires : tie.Need-counts-of-requires
 counts-of-requires c κs =
     let k = c.before.before.before.before.before in
     let steps = k.before.before.before.before.before.before.before.args.steps.now in
-    omega (arith, counted k, squarings-few (pairs steps), length_pairs steps)
+    omega (arith, counted k, squarings_few (pairs steps), length_pairs steps)
 
 add-finish : tie.Need-overflow-add-finish
 add-finish c = omega (arith, room c.before.before.before.before.before.before)
@@ -68,9 +68,9 @@ finish-requires c κs =
 
 returns : tie.Need-returns
 returns c =
-    let e = found-refused _ _ _ c.before.before.before.judge.ensures _ _ c.before.number.given.1 in
+    let e = found_refused _ _ _ c.before.before.before.judge.ensures _ _ c.before.number.given.1 in
     let old = c.before.before.before.before.before.before.before.before.args.scratch.now in
-    (early-answer _ _ _ _ old _ _ e, early-scratch _ _ _ _ old _ _ e)
+    (early_answer _ _ _ _ old _ _ e, early_scratch _ _ _ _ old _ _ e)
 
 returns-2 : tie.Need-returns-2
 returns-2 c =
@@ -81,9 +81,9 @@ returns-2 c =
     let e = first m in
     let n = sym (length_pairs a.steps.now) in
     let top = ap (λ (n : ℕ). a.p + n + 1) n in
-    let told = k.before.before.Counts-of.ensures ∙ counts-are (pairs a.steps.now) _ _ n (counted m) in (
-      late-answer _ (pairs a.steps.now) _ _ a.scratch.now e _ _ _ _ _ _ k.finish.ensures told h.hold.ensures.verdict,
-      late-scratch _ (pairs a.steps.now) _ _ a.scratch.now e _ _ _ _ _ _ k.finish.ensures top h.hold.ensures.past,
+    let told = k.before.before.Counts-of.ensures ∙ counts_are (pairs a.steps.now) _ _ n (counted m) in (
+      late_answer _ (pairs a.steps.now) _ _ a.scratch.now e _ _ _ _ _ _ k.finish.ensures told h.hold.ensures.verdict,
+      late_scratch _ (pairs a.steps.now) _ _ a.scratch.now e _ _ _ _ _ _ k.finish.ensures top h.hold.ensures.past,
     )
 
 pub verify_spec : {M : Type 1} → statement M

@@ -1,7 +1,7 @@
 -- One law of `Preferring` for each pair of cases, and two where both files pass, by the comparison of their counts.
 use borrow.Author.Rules.{rules}
 use native.Mathlib.Omega.{arith}
-use Rattle.choose.proofs.Preferring.{first-fewer, second-fewer, first-only, second-only, none}
+use Rattle.choose.proofs.Preferring.{first_fewer, second_fewer, first_only, second_only, none}
 use Rattle.choose.proofs.better.Statement.{statement}
 use Rattle.choose.proofs.better.Tie as tie
 
@@ -26,18 +26,18 @@ enum-told-3 c = search rules
 returns : tie.Need-returns
 returns c =
     let h = c.if1.true in
-    first-fewer _ _ _ _ c.before.before.before.before.before.x.given.1 c.before.before.y.given.1 (omega arith)
+    first_fewer _ _ _ _ c.before.before.before.before.before.x.given.1 c.before.before.y.given.1 (omega arith)
 
 returns-2 : tie.Need-returns-2
 returns-2 c =
     let h = c.if1.false in
-    second-fewer _ _ _ _ c.before.before.before.before.before.x.given.1 c.before.before.y.given.1 (omega arith)
+    second_fewer _ _ _ _ c.before.before.before.before.before.x.given.1 c.before.before.y.given.1 (omega arith)
 
 returns-3 : tie.Need-returns-3
-returns-3 c = search first-only
+returns-3 c = search first_only
 
 returns-4 : tie.Need-returns-4
-returns-4 c = search second-only
+returns-4 c = search second_only
 
 returns-5 : tie.Need-returns-5
 returns-5 c = search none

@@ -5,8 +5,8 @@ use native.Mathlib.Omega.{arith}
 use lib.Seq.{length-take-le}
 use Rattle.answers.proofs.Clauses.{answer_clause, first_slice_clause, second_slice_clause}
 use Rattle.layout.specs.Layout.{edition1}
-use Rattle.reading.proofs.Good.{Good, read-refused, read-good}
-use Rattle.choose.proofs.Files.{refusal_says, unread, other-columns, other-payslips, not_held, all_held}
+use Rattle.reading.proofs.Good.{Good, read_refused, read_good}
+use Rattle.choose.proofs.Files.{refusal_says, unread, other_columns, other_payslips, not_held, all_held}
 use Rattle.choose.proofs.judge_file.Statement.{statement}
 use Rattle.choose.proofs.judge_file.Tie as tie
 
@@ -20,17 +20,17 @@ enum-known-columns : tie.Need-enum-known-columns
 enum-known-columns c = search rules
 
 -- what the file that was read tells
-read-file : (c : tie.After-columns)
+read_file : (c : tie.After-columns)
     → let r = c.before.before.before.before.before.before in
     let s = r.before.before.before.before.before.before.before.before in
     let g = c.columns.given.0 in
     Good edition1 s.args.bytes.now r.read.new.1.0 r.read.new.1.1.0 g.0 g.1.0 g.1.1.0.steps
-read-file c =
+read_file c =
     let r = c.before.before.before.before.before.before in
     let s = r.before.before.before.before.before.before.before.before in
     let a = s.args in
     let e = r.read.ensures in
-    read-good edition1 a.bytes.now a.steps.now a.outputs.now s.requires.pairs-enough s.requires.outputs-enough _ (answer_clause e) _ _ _
+    read_good edition1 a.bytes.now a.steps.now a.outputs.now s.requires.pairs_enough s.requires.outputs_enough _ (answer_clause e) _ _ _
     c.columns.given.1 _ _ (first_slice_clause e) (second_slice_clause e)
 
 same_length : tie.Need-same-length
@@ -41,8 +41,8 @@ same-length-2 c = search rules
 
 returns : tie.Need-returns
 returns c =
-    let t = read-file c.before.before in
-    refusal_says _ _ _ _ _ _ (other-columns _ _ _ _ _ _ _ _ _ t c.if1.true)
+    let t = read_file c.before.before in
+    refusal_says _ _ _ _ _ _ (other_columns _ _ _ _ _ _ _ _ _ t c.if1.true)
 
 same-length-3 : tie.Need-same-length-3
 same-length-3 c = search rules
@@ -52,27 +52,27 @@ same-length-4 c = search rules
 
 returns-2 : tie.Need-returns-2
 returns-2 c =
-    let t = read-file c.before.before.before in
-    refusal_says _ _ _ _ _ _ (other-payslips _ _ _ _ _ _ _ _ _ t c.if2.true)
+    let t = read_file c.before.before.before in
+    refusal_says _ _ _ _ _ _ (other_payslips _ _ _ _ _ _ _ _ _ t c.if2.true)
 
 mul-verify : tie.Need-overflow-mul-verify
-mul-verify c = omega (arith, (read-file c.before.before.before.before).taken.few)
+mul-verify c = omega (arith, (read_file c.before.before.before.before).taken.few)
 
 slice-reshare-prefix-verify : tie.Need-slice-reshare-prefix-verify
-slice-reshare-prefix-verify c = (read-file c.before.before.before.before).taken.steps-room
+slice-reshare-prefix-verify c = (read_file c.before.before.before.before).taken.steps_room
 
 slice-aggregate-verify : tie.Need-slice-aggregate-verify
-slice-aggregate-verify c = sym (length-take-le _ _ (read-file c.before.before.before.before.before).taken.steps-room)
+slice-aggregate-verify c = sym (length-take-le _ _ (read_file c.before.before.before.before.before).taken.steps_room)
 
 slice-reshare-prefix-verify-2 : tie.Need-slice-reshare-prefix-verify-2
 slice-reshare-prefix-verify-2 c =
     let e = c.before.before.if2.false in
-    omega (arith, (read-file c.before.before.before.before.before).taken.outputs-room)
+    omega (arith, (read_file c.before.before.before.before.before).taken.outputs_room)
 
 slice-aggregate-verify-2 : tie.Need-slice-aggregate-verify-2
 slice-aggregate-verify-2 c =
     let e = c.before.before.before.if2.false in
-    sym (length-take-le _ _ (omega (arith, (read-file c.before.before.before.before.before.before).taken.outputs-room)))
+    sym (length-take-le _ _ (omega (arith, (read_file c.before.before.before.before.before.before).taken.outputs_room)))
 
 verify-requires : tie.Need-verify-requires
 verify-requires c κs = search rules
@@ -97,7 +97,7 @@ returns-3 c =
     let a = s.args in
     refusal_says _ _ _ _ _ _
     (unread _ _ _ _ _ _
-    (read-refused edition1 a.bytes.now a.steps.now a.outputs.now s.requires.pairs-enough s.requires.outputs-enough _ (answer_clause r.read.ensures) _ _
+    (read_refused edition1 a.bytes.now a.steps.now a.outputs.now s.requires.pairs_enough s.requires.outputs_enough _ (answer_clause r.read.ensures) _ _
     n.number.given.1))
 
 same-length-7 : tie.Need-same-length-7
@@ -116,7 +116,7 @@ returns-4 c =
     let k = e.before.before.before in
     let s = k.before.before.before.before.before.before.before.before.before.before.before.before.before.before in
     refusal_says _ _ _ _ _ _
-    (not_held _ _ _ _ _ _ _ _ _ (read-file k) e.before.if1.false e.if2.false _ s.requires.numbers-enough _ (answer_clause v.verify.ensures) _ _
+    (not_held _ _ _ _ _ _ _ _ _ (read_file k) e.before.if1.false e.if2.false _ s.requires.numbers_enough _ (answer_clause v.verify.ensures) _ _
     c.before.number2.given.1)
 
 same-length-10 : tie.Need-same-length-10
@@ -136,9 +136,9 @@ returns-5 c =
     let s = k.before.before.before.before.before.before.before.before.before.before.before.before.before.before in
     record {
       verdict =
-          all_held _ _ _ _ _ _ _ _ _ (read-file k) e.before.if1.false e.if2.false _ s.requires.numbers-enough _ (answer_clause v.verify.ensures) _
+          all_held _ _ _ _ _ _ _ _ _ (read_file k) e.before.if1.false e.if2.false _ s.requires.numbers_enough _ (answer_clause v.verify.ensures) _
           c.enum_told.given.1;
-      count = λ f. (read-file k).taken.long;
+      count = λ f. (read_file k).taken.long;
     }
 
 pub judge_file_spec : {M : Type 1} → statement M

@@ -4,7 +4,7 @@ use mathlib.Core.Path.{◌≡◌}
 use Prim.Native.Nat.{◌≤◌, ◌-◌}
 use native.Mathlib.Omega.{arith}
 use lib.ListN.{length}
-use Rattle.sheet.proofs.Amounts.{amount-there}
+use Rattle.sheet.proofs.Amounts.{amount_there}
 use Rattle.verify.specs.Verify.{first_other}
 use Rattle.verify.proofs.Other.{other_left, comparing}
 use Rattle.columns.proofs.compare.Statement.{statement}
@@ -35,10 +35,10 @@ mul-if1 c = omega (arith, c.shared-slice-known4.given c.before.before.loop.i)
 shared-slice-read-if1 : tie.Need-shared-slice-read-if1 invariant-loop decreases-loop
 shared-slice-read-if1 c =
     let b = c.before.before.before in
-    b.before.before.before.before.requires.outputs-within b.loop.i c.before.before.loop-test.true
+    b.before.before.before.before.requires.outputs_within b.loop.i c.before.before.loop-test.true
 
 amount-requires : tie.Need-amount-requires invariant-loop decreases-loop
-amount-requires c κs = search amount-there
+amount-requires c κs = search amount_there
 
 add-result : tie.Need-overflow-add-result invariant-loop decreases-loop
 add-result c = search rules

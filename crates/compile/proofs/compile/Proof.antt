@@ -4,7 +4,7 @@ use mathlib.Core.Path.{sym}
 use mathlib.Core.List.{[]}
 use native.Mathlib.Omega.{arith}
 use Rattle.answers.proofs.Clauses.{answer_clause, only_slice_clause}
-use Rattle.compile.proofs.Answers.{compile-refused, was_accepted, was_counted, few-pairs, few-outputs, squarings-within, compiled}
+use Rattle.compile.proofs.Answers.{compile_refused, was_accepted, was_counted, few_pairs, few_outputs, squarings_within, compiled}
 use Rattle.compile.proofs.compile.Statement.{statement}
 use Rattle.compile.proofs.compile.Tie as tie
 
@@ -25,14 +25,14 @@ returns c =
     let n = c.before.before in
     let j = n.before.before.before in
     let a = j.before.before.before.before.before.args in
-    few-pairs a.p a.q a.amounts.now a.method a.k _ (answer_clause j.judge-accepted.ensures) a.steps.now a.outputs.now _ n.n.given.1 c.if1.true
+    few_pairs a.p a.q a.amounts.now a.method a.k _ (answer_clause j.judge-accepted.ensures) a.steps.now a.outputs.now _ n.n.given.1 c.if1.true
 
 returns-2 : tie.Need-returns-2
 returns-2 c =
     let n = c.before.before.before in
     let j = n.before.before.before in
     let a = j.before.before.before.before.before.args in
-    few-outputs a.p a.q a.amounts.now a.method a.k _ (answer_clause j.judge-accepted.ensures) a.steps.now a.outputs.now _ n.n.given.1 c.if2.true
+    few_outputs a.p a.q a.amounts.now a.method a.k _ (answer_clause j.judge-accepted.ensures) a.steps.now a.outputs.now _ n.n.given.1 c.if2.true
 
 slice-aggregate-emit : tie.Need-slice-aggregate-emit
 slice-aggregate-emit c = search rules
@@ -50,14 +50,14 @@ emit-requires c κs =
     }
 
 counts-of-requires : tie.Need-counts-of-requires
-counts-of-requires c κs = omega (arith, squarings-within c.before.before.before.before.emit.ensures)
+counts-of-requires c κs = omega (arith, squarings_within c.before.before.before.before.emit.ensures)
 
 returns-3 : tie.Need-returns-3
 returns-3 c =
     let n = c.before in
     let j = n.before.before.before in
     let a = j.before.before.before.before.before.args in
-    compile-refused a.p a.q a.amounts.now a.method a.k _ (answer_clause j.judge-accepted.ensures) a.steps.now a.outputs.now _ _ n.number.given.1
+    compile_refused a.p a.q a.amounts.now a.method a.k _ (answer_clause j.judge-accepted.ensures) a.steps.now a.outputs.now _ _ n.number.given.1
 
 same_length : tie.Need-same-length
 same_length c = search rules

@@ -7,7 +7,7 @@ use Rattle.methods.specs.Inner.{ChainRoom}
 use Rattle.quote.specs.ByMethod.{method_of}
 use Rattle.quote.proofs.Fits.{first_asks, other_asks}
 use Rattle.compile.proofs.Fits.{Accepted, accepted}
-use Rattle.quote.proofs.ByMethod.{is-straus, is-yao, is-partition, same_count}
+use Rattle.quote.proofs.ByMethod.{is_straus, is_yao, is_partition, same_count}
 use Rattle.compile.proofs.ByMethod.{emitted}
 use Rattle.compile.proofs.emit.Statement.{statement}
 use Rattle.compile.proofs.emit.Tie as tie
@@ -26,19 +26,19 @@ room s m is =
 emit-requires : tie.Need-emit-requires
 emit-requires c κs =
     let s = c.before.before.before.before.before.before.before in
-    record { asked = first_asks (given s).ranges-2 (omega arith); room = room s _ (is-straus _ _ _ _ _ (omega arith)) }
+    record { asked = first_asks (given s).ranges-2 (omega arith); room = room s _ (is_straus _ _ _ _ _ (omega arith)) }
 
 emit-requires-2 : tie.Need-emit-requires-2
 emit-requires-2 c κs =
     let s = c.before.before.before.before.before.before.before in
-    record { asked = other_asks (given s).ranges-2 s.requires.asked.measured (λ e. omega arith); room = room s _ (is-yao _ _ _ _ _ (omega arith)) }
+    record { asked = other_asks (given s).ranges-2 s.requires.asked.measured (λ e. omega arith); room = room s _ (is_yao _ _ _ _ _ (omega arith)) }
 
 emit-requires-3 : tie.Need-emit-requires-3
 emit-requires-3 c κs =
     let s = c.before.before.before.before.before.before.before in
     record {
       asked = other_asks (given s).ranges-2 s.requires.asked.measured (λ e. omega arith);
-      room = room s _ (is-partition _ _ _ _ _ (λ e. omega arith) (λ e. omega arith));
+      room = room s _ (is_partition _ _ _ _ _ (λ e. omega arith) (λ e. omega arith));
     }
 
 same_length : tie.Need-same-length
@@ -48,7 +48,7 @@ same-length-2 : tie.Need-same-length-2
 same-length-2 c = search rules
 
 returns : tie.Need-returns
-returns c = emitted (is-straus _ _ _ _ _ (omega arith)) c.before.before.before.before.emit.ensures
+returns c = emitted (is_straus _ _ _ _ _ (omega arith)) c.before.before.before.before.emit.ensures
 
 same-length-3 : tie.Need-same-length-3
 same-length-3 c = search rules
@@ -57,7 +57,7 @@ same-length-4 : tie.Need-same-length-4
 same-length-4 c = search rules
 
 returns-2 : tie.Need-returns-2
-returns-2 c = emitted (is-yao _ _ _ _ _ (omega arith)) c.before.before.before.before.emit2.ensures
+returns-2 c = emitted (is_yao _ _ _ _ _ (omega arith)) c.before.before.before.before.emit2.ensures
 
 same-length-5 : tie.Need-same-length-5
 same-length-5 c = search rules
@@ -67,7 +67,7 @@ same-length-6 c = search rules
 
 returns-3 : tie.Need-returns-3
 returns-3 c =
-    emitted (is-partition _ _ _ _ _ (λ e. omega arith) (λ e. omega arith)) c.before.before.before.before.emit3.ensures
+    emitted (is_partition _ _ _ _ _ (λ e. omega arith) (λ e. omega arith)) c.before.before.before.before.emit3.ensures
 
 pub emit_spec : {M : Type 1} → statement M
 emit_spec =

@@ -4,7 +4,7 @@ use mathlib.Core.Path.{sym}
 use Rattle.chain.specs.Inner.{counted_by}
 use Rattle.answers.proofs.Clauses.{answer_clause, only_slice_clause}
 use Rattle.quote.proofs.Answers.{stopped}
-use Rattle.compile.proofs.Answers.{all-accepted, quote_passed, quote_refused, too_long}
+use Rattle.compile.proofs.Answers.{all_accepted, quote_passed, quote_refused, too_long}
 use Rattle.compile.proofs.judge_accepted.Statement.{statement}
 use Rattle.compile.proofs.judge_accepted.Tie as tie
 
@@ -56,7 +56,7 @@ returns-3 c =
     let n = l.before.before in
     let t = n.before.before.before.before in
     let told = answer_clause t.judge-quote.ensures in (
-      all-accepted _ _ _ _ _ _ told _ _ n.n.given.1 _ l.judge-length.ensures c.enum_told.given.1,
+      all_accepted _ _ _ _ _ _ told _ _ n.n.given.1 _ l.judge-length.ensures c.enum_told.given.1,
       λ e. only_slice_clause t.judge-quote.ensures (sym (quote_passed _ _ _ _ _ _ told _ _ n.n.given.1)),
     )
 

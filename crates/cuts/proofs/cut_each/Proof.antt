@@ -5,7 +5,7 @@ use mathlib.Core.Path.{refl}
 use Prim.Native.Nat.{◌+◌, ◌-◌, ◌^◌, ◌<◌}
 use native.Mathlib.Omega.{arith}
 use lib.ListN.{length, length-set}
-use Rattle.cuts.proofs.Cutting.{RowsCutTo, none-cut, there, row_asked, ends_fit, more_cut, all-cut}
+use Rattle.cuts.proofs.Cutting.{RowsCutTo, none_cut, there, row_asked, ends_fit, more_cut, all_cut}
 use Rattle.cuts.proofs.cut_each.Statement.{statement}
 use Rattle.cuts.proofs.cut_each.Tie as tie
 
@@ -32,7 +32,7 @@ fit c =
     ends_fit _ _ _ _ _ _ turn.before.before.before.requires.asked _ _ _ _ turn.before.loop.invariant turn.loop-test.true _ _ _ c.cut-row.ensures
 
 loop-holds : tie.Need-loop-init invariant-loop decreases-loop
-loop-holds c = let pre = c.before.requires in none-cut _ _ _ _ _ _ pre.asked pre.keys-first pre.rest-first
+loop-holds c = let pre = c.before.requires in none_cut _ _ _ _ _ _ pre.asked pre.keys_first_lem pre.rest_first_lem
 
 cast_f : tie.Need-overflow-cast-f invariant-loop decreases-loop
 cast_f c = omega (arith, c.slice-known2.given (c.before.before.before.before.args.at + c.before.before.loop.j))
@@ -52,10 +52,10 @@ loop-again c =
     more_cut _ _ _ _ _ _ turn.before.before.before.requires.asked _ _ _ _ turn.before.loop.invariant turn.loop-test.true _ _ _ row.cut-row.ensures
 
 returns : tie.Need-returns invariant-loop decreases-loop
-returns c = all-cut _ _ _ _ _ _ c.before.before.before.requires.asked _ _ _ _ c.before.loop.invariant c.loop-test.false _ refl refl
+returns c = all_cut _ _ _ _ _ _ c.before.before.before.requires.asked _ _ _ _ c.before.loop.invariant c.loop-test.false _ refl refl
 
-pub cut-each_spec : {M : Type 1} → statement M
-cut-each_spec =
+pub cut_each_spec : {M : Type 1} → statement M
+cut_each_spec =
     tie.close
     (tie.spec
     invariant-loop

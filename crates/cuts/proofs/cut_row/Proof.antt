@@ -2,7 +2,7 @@
 use borrow.Author.Rules.{rules}
 use Prim.Native.Nat.{◌-◌}
 use native.Mathlib.Omega.{arith}
-use Rattle.cuts.proofs.Rowing.{RowTo, row_none, some, part_small, limit_low, part-asked, run-some, row_more, row_all}
+use Rattle.cuts.proofs.Rowing.{RowTo, row_none, some, part_small, limit_low, part_asked, run_some, row_more, row_all}
 use Rattle.cuts.proofs.cut_row.Statement.{statement}
 use Rattle.cuts.proofs.cut_row.Tie as tie
 
@@ -31,7 +31,7 @@ cut-part-requires : tie.Need-cut-part-requires invariant-loop decreases-loop
 cut-part-requires c κs =
     let run = c.before in
     let turn = run.before.before.before in
-    part-asked _ _ _ _ _ _ _ turn.before.before.before.requires _ _ _ _ turn.before.loop.invariant turn.loop-test.true _ run.run-end.ensures
+    part_asked _ _ _ _ _ _ _ turn.before.before.before.requires _ _ _ _ turn.before.loop.invariant turn.loop-test.true _ run.run-end.ensures
 
 loop-less : tie.Need-loop-smaller invariant-loop decreases-loop
 loop-less c =
@@ -40,7 +40,7 @@ loop-less c =
     omega (
       arith,
       turn.loop-test.true,
-      run-some _ _ _ _ _ _ _ turn.before.before.before.requires _ _ _ _ turn.before.loop.invariant turn.loop-test.true _ run.run-end.ensures,
+      run_some _ _ _ _ _ _ _ turn.before.before.before.requires _ _ _ _ turn.before.loop.invariant turn.loop-test.true _ run.run-end.ensures,
     )
 
 loop-again : tie.Need-loop-preserved invariant-loop decreases-loop

@@ -2,7 +2,7 @@
 use Prim.Native.Nat.{◌+◌, ◌-◌, ◌≤◌, ◌<◌}
 use native.Mathlib.Omega.{arith}
 use lib.ListN.{length}
-use Rattle.cuts.proofs.Keying.{KeysTo, keys_none, keys-inside, keys-room, key_asked, keys-more, keys-all}
+use Rattle.cuts.proofs.Keying.{KeysTo, keys_none, keys_inside, keys_room, key_asked, keys_more, keys_all}
 use Rattle.cuts.proofs.cut_run.Statement.{statement}
 use Rattle.cuts.proofs.cut_run.Tie as tie
 
@@ -14,10 +14,10 @@ decreases-loop s₀ from to b limit top r e₀ i₀ s e i = to - i
 
 -- the clump is there, and the cell for its key
 inside : (c : tie.In-loop invariant-loop decreases-loop) → c.before.loop.i + c.before.before.before.args.b ≤ c.before.before.before.args.to
-inside c = keys-inside _ _ _ _ _ _ _ c.before.before.before.requires _ _ _ c.before.loop.invariant c.loop-test.true
+inside c = keys_inside _ _ _ _ _ _ _ c.before.before.before.requires _ _ _ c.before.loop.invariant c.loop-test.true
 
 room : (c : tie.In-loop invariant-loop decreases-loop) → c.before.loop.e < length c.before.loop.s
-room c = keys-room _ _ _ _ _ _ _ c.before.before.before.requires _ _ _ c.before.loop.invariant c.loop-test.true
+room c = keys_room _ _ _ _ _ _ _ c.before.before.before.requires _ _ _ c.before.loop.invariant c.loop-test.true
 
 key-requires : tie.Need-key-requires invariant-loop decreases-loop
 key-requires c κs =
@@ -32,13 +32,13 @@ loop-less c =
 loop-again : tie.Need-loop-preserved invariant-loop decreases-loop
 loop-again c =
     let turn = c.before.before in
-    keys-more _ _ _ _ _ _ _ turn.before.before.before.requires _ _ _ turn.before.loop.invariant turn.loop-test.true _ c.key.ensures
+    keys_more _ _ _ _ _ _ _ turn.before.before.before.requires _ _ _ turn.before.loop.invariant turn.loop-test.true _ c.key.ensures
 
 returns : tie.Need-returns invariant-loop decreases-loop
-returns c = keys-all _ _ _ _ _ _ _ c.before.before.before.requires _ _ _ c.before.loop.invariant c.loop-test.false
+returns c = keys_all _ _ _ _ _ _ _ c.before.before.before.requires _ _ _ c.before.loop.invariant c.loop-test.false
 
-pub cut-run_spec : {M : Type 1} → statement M
-cut-run_spec =
+pub cut_run_spec : {M : Type 1} → statement M
+cut_run_spec =
     tie.close
     (tie.spec invariant-loop decreases-loop (λ c. keys_none _ _ _ _ _ _ _) (λ c. omega (arith, inside c.before)) key-requires
     (λ c. omega (arith, room c.before.before)) (λ c. room c.before.before) (λ c. omega (arith, room c.before.before))

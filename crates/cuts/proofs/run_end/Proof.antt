@@ -45,7 +45,7 @@ returns-2 c =
     let v = c.before.loop.invariant in
     record { after = v.0; within = v.1; below = v.2; stops = λ h. absurd (omega (arith, c.loop-test.false)) }
 
-pub run-end_spec : {M : Type 1} → statement M
-run-end_spec =
+pub run_end_spec : {M : Type 1} → statement M
+run_end_spec =
     tie.close
     (tie.spec invariant-loop decreases-loop loop-holds (λ c. search rules) (λ c. search rules) returns (λ c. search rules) (λ c. search rules) loop-again returns-2)

@@ -4,7 +4,7 @@ use mathlib.Core.Path.{◌≡◌, refl}
 use Prim.Native.Nat.{◌+◌, ◌≤◌}
 use lib.ListN.{length, length-set}
 use Rattle.cutting.specs.Inner.{Cut}
-use Rattle.cutting.proofs.Rows.{cut-none, cut_on}
+use Rattle.cutting.proofs.Rows.{cut_none, cut_on}
 use Rattle.cutting.proofs.cut_parts.Statement.{statement}
 use Rattle.cutting.proofs.cut_parts.Tie as tie
 
@@ -15,7 +15,7 @@ abbrev decreases-loop : tie.decreases-loop
 decreases-loop c cells₀ r₀ cells r = r.held
 
 loop-holds : tie.Need-loop-init invariant-loop decreases-loop
-loop-holds c = (search rules, search rules, search cut-none)
+loop-holds c = (search rules, search rules, search cut_none)
 
 front-requires : tie.Need-front-requires invariant-loop decreases-loop
 front-requires c κs = search rules
@@ -48,8 +48,8 @@ same_length c = search rules
 returns : tie.Need-returns invariant-loop decreases-loop
 returns c = search rules
 
-pub cut-parts_spec : {M : Type 1} → statement M
-cut-parts_spec =
+pub cut_parts_spec : {M : Type 1} → statement M
+cut_parts_spec =
     tie.close
     (tie.spec
     invariant-loop

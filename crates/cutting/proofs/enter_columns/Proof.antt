@@ -3,11 +3,11 @@ use mathlib.Core.Path.{◌≡◌, refl}
 use Prim.Native.Nat.{◌≤◌, ◌-◌}
 use lib.ListN.{length}
 use borrow.Author.Rules.{rules}
-use Rattle.sheet.proofs.Amounts.{amount-there}
+use Rattle.sheet.proofs.Amounts.{amount_there}
 use native.Mathlib.Omega.{arith}
 use Rattle.cutting.specs.Inner.{Entered}
-use Rattle.groups.proofs.Measured.{grouped_at, grouped-few, grouped-long}
-use Rattle.cutting.proofs.Rows.{behind-low, entered-end, entered-none, entered_on, row_fits, row_low}
+use Rattle.groups.proofs.Measured.{grouped_at, grouped_few, grouped_long}
+use Rattle.cutting.proofs.Rows.{behind_low, entered_end, entered_none, entered_on, row_fits, row_low}
 use Rattle.cutting.proofs.enter_columns.Statement.{statement}
 use Rattle.cutting.proofs.enter_columns.Tie as tie
 
@@ -19,12 +19,12 @@ abbrev decreases-loop : tie.decreases-loop
 decreases-loop s amounts bits i cells₀ r₀ col₀ cells r col = s.p - col
 
 loop-holds : tie.Need-loop-init invariant-loop decreases-loop
-loop-holds c = (search rules, search rules, entered-none _ _ _ _ _ refl refl refl c.before.before.before.requires.grouped.cuts.some)
+loop-holds c = (search rules, search rules, entered_none _ _ _ _ _ refl refl refl c.before.before.before.requires.grouped.cuts.some)
 
 amount-requires : tie.Need-amount-requires invariant-loop decreases-loop
 amount-requires c κs =
     let s = c.before.before.before.before.before.before in
-    amount-there _ _ _ _ _ s.requires.inside (search rules) s.requires.grouped.sheet.amounts_are
+    amount_there _ _ _ _ _ s.requires.inside (search rules) s.requires.grouped.sheet.amounts_are
 
 raised-requires : tie.Need-raised-requires invariant-loop decreases-loop
 raised-requires c κs =
@@ -36,7 +36,7 @@ add-t12 c =
     let raised = c.before in
     let start = raised.before.before.before.before in
     let few = start.before.before.before.before.requires.grouped.cuts.few in
-    let low = behind-low raised.before.amount.result start.loop.r.held (omega arith) (omega (arith, few, start.loop.invariant.2.short)) in
+    let low = behind_low raised.before.amount.result start.loop.r.held (omega arith) (omega (arith, few, start.loop.invariant.2.short)) in
     omega (arith, row_low _ _ _ _ _ _ _ start.loop.invariant.2 few, raised.raised.ensures, low)
 
 mul-t13 : tie.Need-overflow-mul-t13 invariant-loop decreases-loop
@@ -46,7 +46,7 @@ shared-slice-read-t11 : tie.Need-shared-slice-read-t11 invariant-loop decreases-
 shared-slice-read-t11 c =
     let start = c.before.before.before.before.before.before in
     let s = start.before.before.before.before in
-    omega (arith, grouped-long s.requires.grouped)
+    omega (arith, grouped_long s.requires.grouped)
 
 cast-t15 : tie.Need-overflow-cast-t15 invariant-loop decreases-loop
 cast-t15 c = omega (arith, c.shared-slice-known3.given c.before.before.before.before.before.before.loop.col)
@@ -61,7 +61,7 @@ cut-parts-requires c κs =
     let start = c.before.before.before.before.before.before.before.before in
     let s = start.before.before.before.before in
     let is = grouped_at s.requires.grouped start.loop.col (search rules) in
-    let few = grouped-few s.requires.grouped in
+    let few = grouped_few s.requires.grouped in
     let fits = row_fits _ _ _ _ _ _ _ start.loop.invariant.2 _ (search rules) is few s.requires.room start.loop.invariant.1 in
     (s.requires.grouped.cuts.some, s.requires.grouped.cuts.few, fits)
 
@@ -87,10 +87,10 @@ same_length c = search rules
 returns : tie.Need-returns invariant-loop decreases-loop
 returns c =
     let start = c.before.before in
-    entered-end _ _ _ _ _ _ _ start.loop.invariant.2 (search rules) (search rules)
+    entered_end _ _ _ _ _ _ _ start.loop.invariant.2 (search rules) (search rules)
 
-pub enter-columns_spec : {M : Type 1} → statement M
-enter-columns_spec =
+pub enter_columns_spec : {M : Type 1} → statement M
+enter_columns_spec =
     tie.close
     (tie.spec
     invariant-loop

@@ -3,8 +3,8 @@ use borrow.Author.Rules.{rules, Fits-under}
 use Prim.Native.Nat.{◌^◌}
 use native.Mathlib.Omega.{arith}
 use Rattle.groups.specs.Groups.{most_members}
-use Rattle.groups.proofs.Measured.{grouped-count, grouped-few}
-use Rattle.cutting.proofs.Rows.{part_cell, part-last, row_end, row_low}
+use Rattle.groups.proofs.Measured.{grouped_count, grouped_few}
+use Rattle.cutting.proofs.Rows.{part_cell, part_last, row_end, row_low}
 use Rattle.cutting.proofs.number_parts.Statement.{statement}
 use Rattle.cutting.proofs.number_parts.Tie as tie
 
@@ -21,16 +21,16 @@ mul-cells : tie.Need-overflow-mul-cells
 mul-cells c =
     let entered = c.before.before.before.before.before in
     let s = entered.before.before.before.before.before in
-    let few = grouped-few s.requires.grouped in
-    let G = grouped-count s.requires.grouped in
+    let few = grouped_few s.requires.grouped in
+    let G = grouped_count s.requires.grouped in
     omega (arith, part_cell _ _ _ _ _ _ entered.enter-columns.ensures G (search rules) few)
 
 slice-write-cells : tie.Need-slice-write-cells
 slice-write-cells c =
     let entered = c.before.before.before.before.before in
     let s = entered.before.before.before.before.before in
-    let few = grouped-few s.requires.grouped in
-    let G = grouped-count s.requires.grouped in
+    let few = grouped_few s.requires.grouped in
+    let G = grouped_count s.requires.grouped in
     let inside = part_cell _ _ _ _ _ _ entered.enter-columns.ensures G (search rules) few in
     omega (arith, s.requires.room)
 
@@ -41,9 +41,9 @@ returns : tie.Need-returns
 returns c =
     let entered = c.before.before.before.before.before in
     let s = entered.before.before.before.before.before in
-    let few = grouped-few s.requires.grouped in
-    let G = grouped-count s.requires.grouped in
-    part-last _ _ _ _ _ _ entered.enter-columns.ensures G (search rules) few s.requires.room
+    let few = grouped_few s.requires.grouped in
+    let G = grouped_count s.requires.grouped in
+    part_last _ _ _ _ _ _ entered.enter-columns.ensures G (search rules) few s.requires.room
 
 same-length-2 : tie.Need-same-length-2
 same-length-2 c = search rules
@@ -51,7 +51,7 @@ same-length-2 c = search rules
 returns-2 : tie.Need-returns-2
 returns-2 c =
     let entered = c.before.before.before.before in
-    let G = grouped-count entered.before.before.before.before.before.requires.grouped in
+    let G = grouped_count entered.before.before.before.before.before.requires.grouped in
     row_end _ _ _ _ _ _ entered.enter-columns.ensures G (search rules)
 
 pub number_parts_spec : {M : Type 1} → statement M

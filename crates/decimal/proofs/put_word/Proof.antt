@@ -5,7 +5,7 @@ use Prim.Native.Nat.{◌+◌, ◌-◌, ◌≤◌}
 use native.Mathlib.Omega.{arith}
 use lib.ListN.{length, take, length-set}
 use Rattle.decimal.specs.Inner.{Put}
-use Rattle.decimal.proofs.Putting.{put-none, put_byte, put-bytes}
+use Rattle.decimal.proofs.Putting.{put_none, put_byte, put_bytes}
 use Rattle.decimal.proofs.put_word.Statement.{statement}
 use Rattle.decimal.proofs.put_word.Tie as tie
 
@@ -18,7 +18,7 @@ decreases-loop word at text₀ i₀ text i = length word - i
 loop-holds : tie.Need-loop-init invariant-loop decreases-loop
 loop-holds c =
     let e : c.args.at + 0 ≡ c.args.at = omega arith in
-    (search rules, refl, rw e (put-none _ _))
+    (search rules, refl, rw e (put_none _ _))
 
 shared-slice-read-text : tie.Need-shared-slice-read-text invariant-loop decreases-loop
 shared-slice-read-text c = search rules
@@ -47,7 +47,7 @@ same_length : tie.Need-same-length invariant-loop decreases-loop
 same_length c = search rules
 
 returns : tie.Need-returns invariant-loop decreases-loop
-returns c = put-bytes _ _ _ _ _ c.before.loop.invariant.2 c.loop-test.false
+returns c = put_bytes _ _ _ _ _ c.before.loop.invariant.2 c.loop-test.false
 
 pub put_word_spec : {M : Type 1} → statement M
 put_word_spec =

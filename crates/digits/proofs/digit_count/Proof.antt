@@ -27,5 +27,5 @@ div-result c = search rules
 returns-2 : tie.Need-returns-2
 returns-2 c = count_word _ _ c.before.requires.k_some (omega arith)
 
-pub digit-count_spec : {M : Type 1} → statement M
-digit-count_spec = tie.close (tie.spec cast-bits sub-bits returns add-result sub-result div-result returns-2)
+pub digit_count_spec : {M : Type 1} → statement M
+digit_count_spec = tie.close (tie.spec cast-bits sub-bits returns add-result sub-result div-result returns-2)

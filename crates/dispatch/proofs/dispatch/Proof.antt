@@ -5,7 +5,7 @@ use lib.Seq.{length-take-le}
 use Rattle.answers.proofs.Clauses.{answer_clause, first_slice_clause, only_slice_clause, second_slice_clause}
 use Rattle.chain.specs.Chain.{pairs}
 use Rattle.layout.specs.Layout.{edition1}
-use Rattle.writing.proofs.Told.{write-room}
+use Rattle.writing.proofs.Told.{write_room}
 use Rattle.dispatch.proofs.Dispatching.{not_written, then_read}
 use Rattle.dispatch.proofs.dispatch.Statement.{statement}
 use Rattle.dispatch.proofs.dispatch.Tie as tie
@@ -24,7 +24,7 @@ slice-reshare-prefix-read c =
     let n = c.before in
     let w = n.before.before.before.before in
     let a = w.before.before.before.before.before.before.before.args in
-    write-room edition1 a.p (pairs a.steps.now) a.outputs.now a.bytes.now _ (answer_clause w.write.ensures) _ n.count.given.1 _
+    write_room edition1 a.p (pairs a.steps.now) a.outputs.now a.bytes.now _ (answer_clause w.write.ensures) _ n.count.given.1 _
     (only_slice_clause w.write.ensures)
 
 slice-aggregate-read : tie.Need-slice-aggregate-read

@@ -6,8 +6,8 @@ use Rattle.decimal.proofs.Choices.{choosing}
 use Rattle.ends.proofs.is_cut.Statement.{statement}
 use Rattle.ends.proofs.is_cut.Tie as tie
 
-pub is-cut_spec : {M : Type 1} → statement M
+pub is_cut_spec : {M : Type 1} → statement M
 unfolding is_cut ◌≠?◌
-is-cut_spec =
+is_cut_spec =
     tie.close
     (tie.spec (λ c. search choosing) (λ c. search rules) (λ c. search rules) (λ c. search choosing))

@@ -3,11 +3,11 @@ use mathlib.Core.Path.{◌≡◌, sym}
 use Rattle.chain.specs.Verdict.{fine}
 use Rattle.chain.specs.Judgement.{verdict_of}
 use Rattle.chain.specs.Chain.{shape_rule}
-use Rattle.chain.proofs.Rules.{told-fine, told-refused, answer-refused, answer-done}
+use Rattle.chain.proofs.Rules.{told_fine, told_refused_lem, answer_refused, answer_done}
 use Rattle.layout.specs.Layout.{edition1}
 use Rattle.layout.specs.File.{extent_answer}
 use Rattle.layout.specs.Inner.{Sized, extent_of}
-use Rattle.layout.proofs.Editions.{edition1-sound}
+use Rattle.layout.proofs.Editions.{edition1_sound}
 use Rattle.layout.proofs.Held.{shape_sized}
 use borrow.Author.Rules.{rules}
 use Rattle.extent.proofs.extent.Statement.{statement}
@@ -20,13 +20,13 @@ judged c = rw c.before.first-edition.ensures at c.judge-shape.ensures
 
 passed : (c : tie.After-enum-told) → let a = c.before.before.before.before.args in
     fine ≡ shape_rule edition1.limit a.p a.q a.n
-passed c = told-fine _ _ (judged c.before.before) c.enum_told.given.1
+passed c = told_fine _ _ (judged c.before.before) c.enum_told.given.1
 
 sized : (c : tie.After-enum-told) → let a = c.before.before.before.before.args in Sized edition1 a.p a.q a.n
 sized c = shape_sized edition1 _ _ _ (sym (passed c))
 
 extent-of-requires : tie.Need-extent-of-requires
-extent-of-requires c κs = rw c.before.before.before.first-edition.ensures (record { sound = edition1-sound; sized = sized c })
+extent-of-requires c κs = rw c.before.before.before.first-edition.ensures (record { sound = edition1_sound; sized = sized c })
 
 -- what was found
 found : (c : tie.After-extent-of) → let a = c.before.before.before.before.before.args in
@@ -35,11 +35,11 @@ found c = rw c.before.before.before.before.first-edition.ensures at c.extent-of.
 
 returns : tie.Need-returns
 unfolding extent_answer
-returns c = answer-refused _ _ _ _ (told-refused _ _ _ _ (judged c.before.before.before) c.before.number.given.1)
+returns c = answer_refused _ _ _ _ (told_refused_lem _ _ _ _ (judged c.before.before.before) c.before.number.given.1)
 
 returns-2 : tie.Need-returns-2
 unfolding extent_answer
-returns-2 c = rw (found c) (answer-done _ _ (passed c.before))
+returns-2 c = rw (found c) (answer_done _ _ (passed c.before))
 
 pub extent_spec : {M : Type 1} → statement M
 extent_spec =

@@ -3,7 +3,7 @@ use mathlib.Core.Path.{◌≡◌, refl, ◌∙◌}
 use Prim.Native.Nat.{◌+◌, ◌-◌, ◌*◌}
 use native.Mathlib.Omega.{arith}
 use lib.ListN.{length, take}
-use Rattle.fields.proofs.Putting.{Putting, filed_from, put_start, one-room, one_on, both_fits, two_room, two_on, put-end}
+use Rattle.fields.proofs.Putting.{Putting, filed_from, put_start, one_room, one_on, both_fits, two_room, two_on, put_end}
 use borrow.Author.Rules.{rules}
 use Rattle.fields.proofs.put_fields.Statement.{statement}
 use Rattle.fields.proofs.put_fields.Tie as tie
@@ -96,7 +96,7 @@ put-requires-2 c κs =
     let t = c.before.before.before in
     let l = t.before.before in
     let s = l.before.before.before in
-    one-room _ _ _ _ _ _ _ _ s.requires.there l.loop.invariant.1 _ t.if1.true c.wide3.ensures
+    one_room _ _ _ _ _ _ _ _ s.requires.there l.loop.invariant.1 _ t.if1.true c.wide3.ensures
 
 same_length : tie.Need-same-length invariant-loop decreases-loop
 same_length c =
@@ -110,16 +110,16 @@ returns c =
     let l = t.before.before in
     let s = l.before.before.before in
     let last = one_on _ _ _ _ _ _ _ _ s.requires.there l.loop.invariant.1 _ t.if1.true p.before.wide3.ensures _ _ p.put2.ensures p.put2.auto.1.0 in
-    put-end _ _ _ _ _ _ _ _ last (omega (arith, t.before.loop-test.false))
+    put_end _ _ _ _ _ _ _ _ last (omega (arith, t.before.loop-test.false))
 
 same-length-2 : tie.Need-same-length-2 invariant-loop decreases-loop
 same-length-2 c = c.before.before.loop.invariant.0
 
 returns-2 : tie.Need-returns-2 invariant-loop decreases-loop
-returns-2 c = put-end _ _ _ _ _ _ _ _ c.before.before.loop.invariant.1 c.if1.false
+returns-2 c = put_end _ _ _ _ _ _ _ _ c.before.before.loop.invariant.1 c.if1.false
 
-pub put-fields_spec : {M : Type 1} → statement M
-put-fields_spec =
+pub put_fields_spec : {M : Type 1} → statement M
+put_fields_spec =
     tie.close
     (tie.spec
     invariant-loop

@@ -1,7 +1,7 @@
 -- A short file's fields are those of the copy that begins with it (`long-taken`).
 use native.Mathlib.Omega.{arith}
 use borrow.Author.Rules.{rules}
-use Rattle.fields.proofs.Taking.{long-room, long-taken}
+use Rattle.fields.proofs.Taking.{long_room, long_taken}
 use Rattle.fields.proofs.take_fields.Statement.{statement}
 use Rattle.fields.proofs.take_fields.Tie as tie
 
@@ -9,17 +9,17 @@ take-long-requires : tie.Need-take-long-requires
 take-long-requires c κs =
     let copied = c.before.before.before in
     let start = copied.before.before.before.before.before in
-    long-room _ _ _ copied.lengthen.ensures _ _ _ _ start.requires (search rules) (omega arith)
+    long_room _ _ _ copied.lengthen.ensures _ _ _ _ start.requires (search rules) (omega arith)
 
 returns : tie.Need-returns
 returns c =
     let read = c.before.before in
     let copied = read.before.before.before.before in
     let start = copied.before.before.before.before.before in
-    long-taken _ _ _ copied.lengthen.ensures _ _ _ _ start.requires _ _ read.take_long.ensures
+    long_taken _ _ _ copied.lengthen.ensures _ _ _ _ start.requires _ _ read.take_long.ensures
 
-pub take-fields_spec : {M : Type 1} → statement M
-take-fields_spec =
+pub take_fields_spec : {M : Type 1} → statement M
+take_fields_spec =
     tie.close
     (tie.spec (λ c. search rules) (λ c κs. search rules) (λ c. search rules) take-long-requires (λ c. search rules) returns (λ c κs. search rules)
     (λ c. search rules) (λ c. search rules))

@@ -5,7 +5,7 @@ use native.Mathlib.Omega.{arith}
 use lib.ListN.{length, length-set}
 use Rattle.chain.specs.Written.{over}
 use Rattle.bits.specs.Bits.{fields_at}
-use Rattle.fields.proofs.Taking.{Taking, take_start, one-room, one_on, two_room, two_on, take-end, number_fits}
+use Rattle.fields.proofs.Taking.{Taking, take_start, one_room, one_on, two_room, two_on, take-end, number_fits}
 use borrow.Author.Rules.{rules}
 use Rattle.fields.proofs.take_long.Statement.{statement}
 use Rattle.fields.proofs.take_long.Tie as tie
@@ -52,7 +52,7 @@ loop-again c =
 take-requires : tie.Need-take-requires invariant-loop decreases-loop
 take-requires c κs =
     let l = c.before.before in
-    one-room _ _ _ _ _ _ l.before.before.before.requires.room _ _ _ l.loop.invariant.1 c.if1.true
+    one_room _ _ _ _ _ _ l.before.before.before.requires.room _ _ _ l.loop.invariant.1 c.if1.true
 
 cast-out : tie.Need-overflow-cast-out invariant-loop decreases-loop
 cast-out c =
@@ -79,8 +79,8 @@ same-length-2 c = c.before.before.loop.invariant.0
 returns-2 : tie.Need-returns-2 invariant-loop decreases-loop
 returns-2 c = take-end _ _ _ _ _ _ _ _ c.if1.false c.before.before.loop.invariant.1
 
-pub take-long_spec : {M : Type 1} → statement M
-take-long_spec =
+pub take_long_spec : {M : Type 1} → statement M
+take_long_spec =
     tie.close
     (tie.spec invariant-loop decreases-loop loop-holds (λ c. search rules) take-two-requires cast-first cast-second (λ c. search rules) slice-write-out (λ c. search rules)
     (λ c. search rules) slice-write-out-2 (λ c. search rules) (λ c. search rules) loop-again take-requires cast-out (λ c. search rules) slice-write-out-3

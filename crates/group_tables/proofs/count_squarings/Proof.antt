@@ -22,8 +22,8 @@ cast-cells c =
     let start = c.before.before.before in
     omega (arith, c.lessened.ensures, c.before.shared-slice-known2.given start.loop.col)
 
-pub count-squarings_spec : {M : Type 1} → statement M
-count-squarings_spec =
+pub count_squarings_spec : {M : Type 1} → statement M
+count_squarings_spec =
     tie.close
     (tie.spec invariant-loop decreases-loop (λ c. search filling) (λ c. search rules) (λ c. search rules) cast-lessened (λ c κs. search rules) cast-cells
     (λ c. search rules) (λ c. search rules) (λ c. search rules) (λ c. search rules) (λ c. search (rules, filling)) (λ c. search rules) (λ c. search filling))

@@ -1,18 +1,18 @@
 -- The inputs are laid, the squarings stored, and the tables after them, each where the room for all leaves room for it.
 use borrow.Author.Rules.{rules}
-use Rattle.group_tables.proofs.Making.{groups_made, inputs-room, listed_long, squares_room, tables_room}
+use Rattle.group_tables.proofs.Making.{groups_made, inputs_room, listed_long, squares_room, tables_room}
 use Rattle.group_tables.proofs.make_groups.Statement.{statement}
 use Rattle.group_tables.proofs.make_groups.Tie as tie
 
 number-inputs-requires : tie.Need-number-inputs-requires
 number-inputs-requires c κs =
     let s = c.before.before.before.before in
-    inputs-room s.requires
+    inputs_room s.requires
 
 make-squarings-requires : tie.Need-make-squarings-requires
 make-squarings-requires c κs =
     let s = c.before.before.before.before.before.before.before.before in
-    record { asked = (inputs-room s.requires).columns; room = squares_room s.requires }
+    record { asked = (inputs_room s.requires).columns; room = squares_room s.requires }
 
 slice-reshare-prefix-make-tables : tie.Need-slice-reshare-prefix-make-tables
 slice-reshare-prefix-make-tables c = search rules

@@ -1,7 +1,7 @@
 -- The counted squarings are those of the bits; what they make is stored as square_columns promises.
 use borrow.Author.Rules.{rules}
 use native.Mathlib.Omega.{arith}
-use Rattle.group_tables.proofs.Making.{counted-long, counted-squarings}
+use Rattle.group_tables.proofs.Making.{counted_long, counted_squarings}
 use Rattle.group_tables.proofs.make_squarings.Statement.{statement}
 use Rattle.group_tables.proofs.make_squarings.Tie as tie
 
@@ -17,14 +17,14 @@ array-share-prefix-counts c = search rules
 slice-aggregate-square-columns : tie.Need-slice-aggregate-square-columns
 slice-aggregate-square-columns c =
     let counted = c.before.before in
-    counted-long counted.before.before.before.before.args.bits.now _ _ counted.count-squarings.ensures
+    counted_long counted.before.before.before.before.args.bits.now _ _ counted.count-squarings.ensures
 
 square-columns-requires : tie.Need-square-columns-requires
 square-columns-requires c κs =
     let counted = c.before.before.before in
     let s = counted.before.before.before.before in
-    let long = counted-long s.args.bits.now _ _ counted.count-squarings.ensures in
-    let same = counted-squarings s.args.bits.now _ _ counted.count-squarings.ensures in
+    let long = counted_long s.args.bits.now _ _ counted.count-squarings.ensures in
+    let same = counted_squarings s.args.bits.now _ _ counted.count-squarings.ensures in
     record { asked = omega (arith, s.requires.asked); room = rw same s.requires.room }
 
 same_length : tie.Need-same-length
@@ -34,7 +34,7 @@ returns : tie.Need-returns
 returns c =
     let squared = c.before.before in
     let counted = c.before.before.before.before.before.before in
-    let same = counted-squarings counted.before.before.before.before.args.bits.now _ _ counted.count-squarings.ensures in
+    let same = counted_squarings counted.before.before.before.before.args.bits.now _ _ counted.count-squarings.ensures in
     rw same at squared.square-columns.ensures
 
 pub make_squarings_spec : {M : Type 1} → statement M

@@ -4,12 +4,12 @@ use Prim.Native.Nat.{◌≤◌, ◌-◌}
 use lib.ListN.{length}
 use Rattle.products.specs.Inner.{steps_in, StepsStored}
 use borrow.Author.Rules.{rules}
-use Rattle.products.proofs.Emitted.{stored-own}
+use Rattle.products.proofs.Emitted.{stored_own}
 use native.Mathlib.Omega.{arith}
 use Rattle.groups.specs.Groups.{group_tables}
-use Rattle.groups.proofs.Counting.{group-inside}
-use Rattle.subsets.proofs.Places.{ends, ends-few}
-use Rattle.group_tables.proofs.Tabling.{table-asked, table_on, table-room, tables_end}
+use Rattle.groups.proofs.Counting.{group_inside}
+use Rattle.subsets.proofs.Places.{ends, ends_few}
+use Rattle.group_tables.proofs.Tabling.{table_asked, table_on, table_room, tables_end}
 use Rattle.group_tables.proofs.make_tables.Statement.{statement}
 use Rattle.group_tables.proofs.make_tables.Tie as tie
 
@@ -23,35 +23,35 @@ decreases-loop s members steps₀ end₀ g₀ steps end g = s.groups - g
 loop-holds : tie.Need-loop-init invariant-loop decreases-loop
 loop-holds c =
     let s = c.before.before in
-    (search rules, search rules, stored-own s.args.steps.now s.args.progress s.requires.room.so_far)
+    (search rules, search rules, stored_own s.args.steps.now s.args.progress s.requires.room.so_far)
 
 mul-from : tie.Need-overflow-mul-from invariant-loop decreases-loop
 mul-from c =
     let start = c.before.before.before in
     let s = start.before.before.before in
     let a = s.args in
-    let inside = group-inside a.s.c a.s.inputs start.loop.g a.s.groups s.requires.cuts.some s.requires.cuts.groups_are (search rules) in
-    omega (arith, s.requires.cuts.inputs-few)
+    let inside = group_inside a.s.c a.s.inputs start.loop.g a.s.groups s.requires.cuts.some s.requires.cuts.groups_are (search rules) in
+    omega (arith, s.requires.cuts.inputs_few)
 
 group-size-requires : tie.Need-group-size-requires invariant-loop decreases-loop
 group-size-requires c κs =
     let start = c.before.before.before in
     let s = start.before.before.before in
     let a = s.args in
-    let inside = group-inside a.s.c a.s.inputs start.loop.g a.s.groups s.requires.cuts.some s.requires.cuts.groups_are (search rules) in
+    let inside = group_inside a.s.c a.s.inputs start.loop.g a.s.groups s.requires.cuts.some s.requires.cuts.groups_are (search rules) in
     inside
 
 add-to : tie.Need-overflow-add-to invariant-loop decreases-loop
 add-to c =
     let start = c.before.before.before.before in
     let s = start.before.before.before in
-    omega (arith, ends-few s.args.s s.requires.cuts s.args.members.now s.requires.long start.loop.g _ (search rules) c.group-size.ensures)
+    omega (arith, ends_few s.args.s s.requires.cuts s.args.members.now s.requires.long start.loop.g _ (search rules) c.group-size.ensures)
 
 mul-make-table : tie.Need-overflow-mul-make-table invariant-loop decreases-loop
 mul-make-table c =
     let start = c.before.before.before.before in
     let s = start.before.before.before in
-    omega (arith, ends-few s.args.s s.requires.cuts s.args.members.now s.requires.long start.loop.g _ (search rules) c.group-size.ensures)
+    omega (arith, ends_few s.args.s s.requires.cuts s.args.members.now s.requires.long start.loop.g _ (search rules) c.group-size.ensures)
 
 sub-make-table : tie.Need-overflow-sub-make-table invariant-loop decreases-loop
 sub-make-table c = search rules
@@ -72,8 +72,8 @@ make-table-requires c κs =
     let s = start.before.before.before in
     let is = sized.group-size.ensures in
     record {
-      asked = table-asked s.requires start.loop.g (search rules) is start.loop.invariant.2;
-      room = table-room s.requires start.loop.g (search rules) is start.loop.invariant.2;
+      asked = table_asked s.requires start.loop.g (search rules) is start.loop.invariant.2;
+      room = table_room s.requires start.loop.g (search rules) is start.loop.invariant.2;
     }
 
 add-g : tie.Need-overflow-add-g invariant-loop decreases-loop

@@ -6,7 +6,7 @@ use Rattle.chain.specs.Written.{laid}
 use Rattle.methods.specs.Powers.{power_at}
 use borrow.Author.Rules.{rules}
 use Rattle.digits.specs.Range.{list_to}
-use Rattle.groups.proofs.Numbering.{fill_start, filled-end, filled_on}
+use Rattle.groups.proofs.Numbering.{fill_start, filled_end, filled_on}
 use Rattle.group_tables.proofs.number_column.Statement.{statement}
 use Rattle.group_tables.proofs.number_column.Tie as tie
 
@@ -44,7 +44,7 @@ same_length : tie.Need-same-length invariant-loop decreases-loop
 same_length c = search rules
 
 returns : tie.Need-returns invariant-loop decreases-loop
-returns c = search filled-end
+returns c = search filled_end
 
 pub number_column_spec : {M : Type 1} → statement M
 number_column_spec =

@@ -9,7 +9,7 @@ use borrow.Author.Rules.{rules}
 use Rattle.digits.specs.Range.{sum_to}
 use native.Mathlib.Omega.{arith}
 use Rattle.groups.specs.Inner.{bit_inputs, bits_less}
-use Rattle.groups.proofs.Numbering.{column-few, column_on, column-room, first_number, first_on, inputs_end, inputs_on, number_room}
+use Rattle.groups.proofs.Numbering.{column_few, column_on, column_room, first_number, first_on, inputs_end, inputs_on, number_room}
 use Rattle.group_tables.proofs.number_inputs.Statement.{statement}
 use Rattle.group_tables.proofs.number_inputs.Tie as tie
 
@@ -38,14 +38,14 @@ number-column-requires c κs =
     let start = c.before.before.before in
     let s = start.before.before.before in
     let room = number_room s.requires start.loop.col start.loop.invariant.2 start.loop.invariant.3 (search rules) in
-    let cells = column-room s.requires start.loop.col start.loop.invariant.2 start.loop.invariant.3 (search rules) in
+    let cells = column_room s.requires start.loop.col start.loop.invariant.2 start.loop.invariant.3 (search rules) in
     (omega (arith, s.requires.columns), room, cells start.loop.cells start.loop.invariant.1)
 
 add_at : tie.Need-overflow-add-at invariant-loop decreases-loop
 add_at c =
     let start = c.before.before.before.before.before.before in
     let s = start.before.before.before in
-    omega (arith, column-few s.requires start.loop.col start.loop.invariant.2 start.loop.invariant.3 (search rules))
+    omega (arith, column_few s.requires start.loop.col start.loop.invariant.2 start.loop.invariant.3 (search rules))
 
 lessened-requires : tie.Need-lessened-requires invariant-loop decreases-loop
 lessened-requires c κs = search rules

@@ -52,8 +52,8 @@ returns c =
     let all = sum-end _ start.loop.col _ _ start.loop.invariant.0 c.loop-test.false start.loop.invariant.1 in
     record { is = all; low = search rules }
 
-pub column-sum_spec : {M : Type 1} → statement M
-column-sum_spec =
+pub column_sum_spec : {M : Type 1} → statement M
+column_sum_spec =
     tie.close
     (tie.spec
     invariant-loop

@@ -2,7 +2,7 @@
 use borrow.Author.Rules.{rules}
 use lib.ListN.{take}
 use Rattle.groups.specs.Inner.{Narrow}
-use Rattle.groups.proofs.Measured.{columns-grouped, measured-long, measured-narrow}
+use Rattle.groups.proofs.Measured.{columns_grouped, measured_long, measured_narrow}
 use Rattle.groups.proofs.group_columns.Statement.{statement}
 use Rattle.groups.proofs.group_columns.Tie as tie
 
@@ -10,7 +10,7 @@ use Rattle.groups.proofs.group_columns.Tie as tie
 narrow : (c : tie.After-measure-digits) → Narrow (take c.before.before.before.before.args.p c.measure-digits.new.1.1.1.0)
 narrow c =
     let s = c.before.before.before.before in
-    measured-narrow s.args.p s.args.largest.now _ _ c.measure-digits.ensures s.requires.columns (λ j. (c.before.before.before.shared-slice-known.given j).fits)
+    measured_narrow s.args.p s.args.largest.now _ _ c.measure-digits.ensures s.requires.columns (λ j. (c.before.before.before.shared-slice-known.given j).fits)
 
 measure-digits-requires : tie.Need-measure-digits-requires
 measure-digits-requires c κs = search rules
@@ -22,7 +22,7 @@ slice-aggregate-column-sum : tie.Need-slice-aggregate-column-sum
 slice-aggregate-column-sum c =
     let told = c.before.before.before in
     let s = told.before.before.before.before in
-    measured-long s.args.p s.args.largest.now _ _ told.measure-digits.ensures
+    measured_long s.args.p s.args.largest.now _ _ told.measure-digits.ensures
 
 column-sum-requires : tie.Need-column-sum-requires
 column-sum-requires c κs =
@@ -39,7 +39,7 @@ slice-aggregate-column-sum-2 : tie.Need-slice-aggregate-column-sum-2
 slice-aggregate-column-sum-2 c =
     let told = c.before.before.before.before.before.before in
     let s = told.before.before.before.before in
-    measured-long s.args.p s.args.largest.now _ _ told.measure-digits.ensures
+    measured_long s.args.p s.args.largest.now _ _ told.measure-digits.ensures
 
 column-sum-requires-2 : tie.Need-column-sum-requires-2
 column-sum-requires-2 c κs =
@@ -55,10 +55,10 @@ returns c =
     let s = told.before.before.before.before in
     let w = c.before.before.before.column-sum.ensures in
     let groups = c.before.before.group-count.ensures in
-    columns-grouped _ s.args.largest.now _ _ s.requires told.measure-digits.ensures w groups c.column-sum2.ensures
+    columns_grouped _ s.args.largest.now _ _ s.requires told.measure-digits.ensures w groups c.column-sum2.ensures
 
-pub group-columns_spec : {M : Type 1} → statement M
-group-columns_spec =
+pub group_columns_spec : {M : Type 1} → statement M
+group_columns_spec =
     tie.close
     (tie.spec
     measure-digits-requires

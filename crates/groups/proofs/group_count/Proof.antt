@@ -17,5 +17,5 @@ div-result c = search rules
 returns : tie.Need-returns
 returns c = record { is = refl; low = search groups_few }
 
-pub group-count_spec : {M : Type 1} → statement M
-group-count_spec = tie.close (tie.spec add-result sub-result div-result returns)
+pub group_count_spec : {M : Type 1} → statement M
+group_count_spec = tie.close (tie.spec add-result sub-result div-result returns)

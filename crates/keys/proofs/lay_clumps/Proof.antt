@@ -1,14 +1,14 @@
 -- The first place, and then the rows.
 use borrow.Author.Rules.{rules}
-use Rattle.keys.proofs.Clumps.{first-asked, clumps-laid}
+use Rattle.keys.proofs.Clumps.{first_asked, clumps_laid}
 use Rattle.keys.proofs.lay_clumps.Statement.{statement}
 use Rattle.keys.proofs.lay_clumps.Tie as tie
 
 lay-rows-requires : tie.Need-lay-rows-requires
-lay-rows-requires c κs = first-asked _ _ _ _ _ c.before.before.requires
+lay-rows-requires c κs = first_asked _ _ _ _ _ c.before.before.requires
 
 returns : tie.Need-returns
-returns c = clumps-laid _ _ _ _ _ c.before.before.before.before.before.requires _ _ c.before.before.lay-rows.ensures
+returns c = clumps_laid _ _ _ _ _ c.before.before.before.before.before.requires _ _ c.before.before.lay-rows.ensures
 
 same_length : tie.Need-same-length
 same_length c = (returns c).laid.apart.size

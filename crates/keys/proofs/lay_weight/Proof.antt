@@ -2,7 +2,7 @@
 use borrow.Author.Rules.{rules, Fits-under}
 use Prim.Native.Nat.{◌^◌}
 use native.Mathlib.Omega.{arith}
-use Rattle.keys.proofs.Laying.{MembersTo, members-none, members-room, members_on, members_pass, members-all}
+use Rattle.keys.proofs.Laying.{MembersTo, members_none, members_room, members_on, members_pass, members_all}
 use Rattle.keys.proofs.lay_weight.Statement.{statement}
 use Rattle.keys.proofs.lay_weight.Tie as tie
 
@@ -33,7 +33,7 @@ cast-s c =
 slice-write-s : tie.Need-slice-write-s invariant-loop decreases-loop
 slice-write-s c =
     let turn = c.before.before in
-    members-room _ _ _ _ _ turn.before.before.before.requires _ _ _ _ turn.before.loop.invariant turn.loop-test.true _ c.before.power.ensures c.if1.true
+    members_room _ _ _ _ _ turn.before.before.before.requires _ _ _ _ turn.before.loop.invariant turn.loop-test.true _ c.before.power.ensures c.if1.true
 
 loop-again : tie.Need-loop-preserved invariant-loop decreases-loop
 loop-again c =
@@ -47,10 +47,10 @@ loop-again-2 c =
     c.if1.false
 
 returns : tie.Need-returns invariant-loop decreases-loop
-returns c = members-all _ _ _ _ _ _ _ _ _ c.before.loop.invariant c.loop-test.false
+returns c = members_all _ _ _ _ _ _ _ _ _ c.before.loop.invariant c.loop-test.false
 
 pub lay_weight_spec : {M : Type 1} → statement M
 lay_weight_spec =
     tie.close
-    (tie.spec invariant-loop decreases-loop (λ c. members-none _ _ _ _ _) (λ c. search rules) power-requires sub-s sub-s-2 cast-s (λ c. search rules) slice-write-s
+    (tie.spec invariant-loop decreases-loop (λ c. members_none _ _ _ _ _) (λ c. search rules) power-requires sub-s sub-s-2 cast-s (λ c. search rules) slice-write-s
     (λ c. search rules) (λ c. search rules) loop-again (λ c. search rules) loop-again-2 (λ c. search rules) returns)

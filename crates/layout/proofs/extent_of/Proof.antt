@@ -4,21 +4,21 @@ use Prim.Native.Nat.{◌+◌, ◌*◌, ◌^◌, ◌<◌}
 use native.Mathlib.Omega.{arith}
 use Rattle.layout.specs.File.{width}
 use Rattle.layout.proofs.Lengths.{count_fits}
-use Rattle.layout.proofs.Widths.{width-by-cases}
+use Rattle.layout.proofs.Widths.{width_by_cases_lem}
 use borrow.Author.Rules.{rules}
 use Rattle.layout.proofs.extent_of.Statement.{statement}
 use Rattle.layout.proofs.extent_of.Tie as tie
 
-is-width : (c : tie.After-by-cases) → c.by_cases.result ≡ width c.before.args.p c.before.args.n
-is-width c =
+is_width : (c : tie.After-by-cases) → c.by_cases.result ≡ width c.before.args.p c.before.args.n
+is_width c =
     let s = c.before in
-    c.by_cases.ensures ∙ width-by-cases s.args.layout s.requires.sound s.args.p s.args.q s.args.n s.requires.sized
+    c.by_cases.ensures ∙ width_by_cases_lem s.args.layout s.requires.sound s.args.p s.args.q s.args.n s.requires.sized
 
 -- all bits of the fields together
 low : (c : tie.After-by-cases) → let a = c.before.args in 14 + a.layout.bits + (2 * a.n + a.q) * c.by_cases.result < 2 ^ 32
 low c =
     let s = c.before in
-    rw (is-width c) (count_fits s.args.layout s.requires.sound s.args.p s.args.q s.args.n s.requires.sized)
+    rw (is_width c) (count_fits s.args.layout s.requires.sound s.args.p s.args.q s.args.n s.requires.sized)
 
 mul-total-2 : tie.Need-overflow-mul-total-2
 mul-total-2 c = record { fits = omega (arith, low c.before) }
@@ -30,7 +30,7 @@ add-t8 : tie.Need-overflow-add-t8
 add-t8 c = record { fits = omega (arith, low c.before) }
 
 returns : tie.Need-returns
-returns c = rw (is-width c.before)
+returns c = rw (is_width c.before)
 
 pub extent_of_spec : {M : Type 1} → statement M
 extent_of_spec =

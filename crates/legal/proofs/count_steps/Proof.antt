@@ -20,8 +20,8 @@ invariant-loop p steps n legal₀ squarings₀ v₀ s₀ legal squarings v s =
 abbrev decreases-loop : tie.decreases-loop
 decreases-loop p steps n legal₀ squarings₀ v₀ s₀ legal squarings v s = n - s
 
-pub count-steps_spec : {M : Type 1} → statement M
-count-steps_spec =
+pub count_steps_spec : {M : Type 1} → statement M
+count_steps_spec =
     tie.close
     (tie.spec invariant-loop decreases-loop (λ c. search rules) (λ c. search rules) (λ c. search (rules, adding)) (λ c κs. search rules) (λ c κs. search rules)
     (λ c. search rules) (λ c κs. search rules) (λ c. search rules) (λ c. search rules) (λ c. search rules) (λ c. search rules)

@@ -1,6 +1,6 @@
 -- Each call asks what the one before it left, and the three together leave the level cut.
 use borrow.Author.Rules.{rules}
-use Rattle.level.proofs.Cutting.{rank_asked, clumps-asked, level-cut}
+use Rattle.level.proofs.Cutting.{rank_asked, clumps_asked, level_cut}
 use Rattle.level.proofs.cut_level.Statement.{statement}
 use Rattle.level.proofs.cut_level.Tie as tie
 
@@ -13,18 +13,18 @@ lay-clumps-requires : tie.Need-lay-clumps-requires
 lay-clumps-requires c κs =
     let start = c.before.before.before.before.before.before.before.before.before.before.before.before in
     let size = c.before.before.before.before.before.key-count.ensures in
-    rw size (clumps-asked _ _ _ _ _ _ _ start.requires _ _ c.before.before.before.before.before.before.before.before.cut-rows.ensures _ _ (rw size at c.before.before.before.rank.ensures))
+    rw size (clumps_asked _ _ _ _ _ _ _ start.requires _ _ c.before.before.before.before.before.before.before.before.cut-rows.ensures _ _ (rw size at c.before.before.before.rank.ensures))
 
 returns : tie.Need-returns
 returns c =
     let start = c.before.before.before.before.before.before.before.before.before.before.before.before.before.before.before in
     let size = c.before.before.before.before.before.before.before.before.key-count.ensures in
     rw size
-    (level-cut _ _ _ _ _ _ _ start.requires _ _ c.before.before.before.before.before.before.before.before.before.before.before.cut-rows.ensures _ _ (rw size at c.before.before.before.before.before.before.rank.ensures) _ _
+    (level_cut _ _ _ _ _ _ _ start.requires _ _ c.before.before.before.before.before.before.before.before.before.before.before.cut-rows.ensures _ _ (rw size at c.before.before.before.before.before.before.rank.ensures) _ _
     (rw size at c.before.before.lay-clumps.ensures))
 
-pub cut-level_spec : {M : Type 1} → statement M
-cut-level_spec =
+pub cut_level_spec : {M : Type 1} → statement M
+cut_level_spec =
     tie.close
     (tie.spec (λ c. search rules) (λ c κs. search rules) (λ c κs. search rules) (λ c. search rules) (λ c. search rules) (λ c. search rules) rank-requires
     (λ c. search rules) lay-clumps-requires (λ c. search rules) returns)

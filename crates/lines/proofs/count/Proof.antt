@@ -3,7 +3,7 @@ use borrow.Author.Rules.{rules}
 use native.Mathlib.Omega.{arith}
 use Rattle.text.specs.Text.{tab}
 use Rattle.lines.specs.Lines.{semicolon, comma}
-use Rattle.lines.proofs.Lines.{same_low, digit_low, begun-low, tally_is}
+use Rattle.lines.proofs.Lines.{same_low, digit_low, begun_low, tally_is}
 use Rattle.lines.proofs.count.Statement.{statement}
 use Rattle.lines.proofs.count.Tie as tie
 
@@ -11,13 +11,13 @@ same-requires : tie.Need-same-requires
 same-requires c κs = search rules
 
 add-t5 : tie.Need-overflow-add-t5
-add-t5 c = let s = c.before.before in omega (arith, c.before.same.ensures, same_low s.args.b tab, s.requires.low.tabs-low)
+add-t5 c = let s = c.before.before in omega (arith, c.before.same.ensures, same_low s.args.b tab, s.requires.low.tabs_low)
 
 same-requires-2 : tie.Need-same-requires-2
 same-requires-2 c κs = search rules
 
 add-t7 : tie.Need-overflow-add-t7
-add-t7 c = let s = c.before.before.before.before in omega (arith, c.before.same2.ensures, same_low s.args.b semicolon, s.requires.low.semicolons-low)
+add-t7 c = let s = c.before.before.before.before in omega (arith, c.before.same2.ensures, same_low s.args.b semicolon, s.requires.low.semicolons_low)
 
 same-requires-3 : tie.Need-same-requires-3
 same-requires-3 c κs = search rules
@@ -25,7 +25,7 @@ same-requires-3 c κs = search rules
 add-t9 : tie.Need-overflow-add-t9
 add-t9 c =
     let s = c.before.before.before.before.before.before in
-    omega (arith, c.before.same3.ensures, same_low s.args.b comma, s.requires.low.commas-low)
+    omega (arith, c.before.same3.ensures, same_low s.args.b comma, s.requires.low.commas_low)
 
 digit-requires : tie.Need-digit-requires
 digit-requires c κs = search rules
@@ -41,7 +41,7 @@ begins-requires c κs = search rules
 add-t13 : tie.Need-overflow-add-t13
 add-t13 c =
     let s = c.before.before.before.before.before.before.before.before.before.before in
-    omega (arith, c.before.begins.ensures, begun-low s.args.gap s.args.b, s.requires.gap_low, s.requires.low.words_low)
+    omega (arith, c.before.begins.ensures, begun_low s.args.gap s.args.b, s.requires.gap_low, s.requires.low.words_low)
 
 returns : tie.Need-returns
 returns c =

@@ -15,5 +15,5 @@ fields-requires c κs = tally_made _ _ c.tally-of.ensures (search rules)
 returns : tie.Need-returns
 returns c = c.fields.ensures ∙ ap (λ t. fields_in t c.before.before.before.args.by) c.before.tally-of.ensures
 
-pub field-count_spec : {M : Type 1} → statement M
-field-count_spec = tie.close (tie.spec tally-of-requires fields-requires returns)
+pub field_count_spec : {M : Type 1} → statement M
+field_count_spec = tie.close (tie.spec tally-of-requires fields-requires returns)

@@ -1,7 +1,7 @@
 -- Each return is one way of parting.
 use borrow.Author.Rules.{rules}
 use native.Mathlib.Omega.{arith}
-use Rattle.lines.proofs.Lines.{separators_made, fields-by}
+use Rattle.lines.proofs.Lines.{separators_made, fields_by}
 use Rattle.lines.proofs.fields.Statement.{statement}
 use Rattle.lines.proofs.fields.Tie as tie
 
@@ -27,7 +27,7 @@ returns-2 : tie.Need-returns-2
 returns-2 c = search rules
 
 returns-3 : tie.Need-returns-3
-returns-3 c = fields-by _ _ _ _ c.before.before.by.given.1 c.separators.ensures
+returns-3 c = fields_by _ _ _ _ c.before.before.by.given.1 c.separators.ensures
 
 pub fields_spec : {M : Type 1} → statement M
 fields_spec =

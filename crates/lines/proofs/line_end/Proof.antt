@@ -5,7 +5,7 @@ use Prim.Native.Nat.{◌+◌, ◌-◌, ◌≤◌}
 use native.Mathlib.Omega.{arith}
 use lib.ListN.{length, drop}
 use Rattle.lines.specs.Inner.{until_newline}
-use Rattle.lines.proofs.Lines.{end-found, end_on, end_none}
+use Rattle.lines.proofs.Lines.{end_found, end_on, end_none}
 use Rattle.lines.proofs.line_end.Statement.{statement}
 use Rattle.lines.proofs.line_end.Tie as tie
 
@@ -22,7 +22,7 @@ shared-slice-read-if1 : tie.Need-shared-slice-read-if1 invariant-loop decreases-
 shared-slice-read-if1 c = search rules
 
 returns : tie.Need-returns invariant-loop decreases-loop
-returns c = end-found _ _ _ c.before.before.before.loop.invariant.2 c.before.before.loop-test.true c.if1.true
+returns c = end_found _ _ _ c.before.before.before.loop.invariant.2 c.before.before.loop-test.true c.if1.true
 
 add-i : tie.Need-overflow-add-i invariant-loop decreases-loop
 add-i c = search rules

@@ -1,6 +1,6 @@
 -- The outputs' values over the front of the column's part of the table are laid from its first cell on.
 use borrow.Author.Rules.{rules}
-use Rattle.listing.proofs.Tables.{over-part}
+use Rattle.listing.proofs.Tables.{over_part}
 use Rattle.listing.proofs.gather.Statement.{statement}
 use Rattle.listing.proofs.gather.Tie as tie
 
@@ -26,7 +26,7 @@ same_length : tie.Need-same-length
 same_length c = search rules
 
 returns : tie.Need-returns
-returns c = over-part _ _ _ _ c.before.before.show.ensures
+returns c = over_part _ _ _ _ c.before.before.show.ensures
 
 pub gather_spec : {M : Type 1} → statement M
 gather_spec =

@@ -1,6 +1,6 @@
 -- The verdict on the file decides which text is written over the front.
 use borrow.Author.Rules.{rules}
-use Rattle.listing.proofs.Listed.{columns-few, payslips-few, steps-few, listed_refused, listed_chain}
+use Rattle.listing.proofs.Listed.{columns_few, payslips_few, steps_few, listed_refused, listed_chain}
 use Rattle.listing.proofs.list.Statement.{statement}
 use Rattle.listing.proofs.list.Tie as tie
 
@@ -35,9 +35,9 @@ put-chain-requires : tie.Need-put-chain-requires
 put-chain-requires c κs =
     let k = c.before.before.before in
     let t = k.before.before.before.before.before.before in
-    let columns = columns-few _ _ t.measure-file.ensures.told_is _ _ _ k.p.given.1 in
-    let payslips = payslips-few _ _ t.measure-file.ensures.told_is _ _ _ k.p.given.1 in
-    let steps = steps-few _ _ t.measure-file.ensures.told_is _ _ _ k.p.given.1 in
+    let columns = columns_few _ _ t.measure-file.ensures.told_is _ _ _ k.p.given.1 in
+    let payslips = payslips_few _ _ t.measure-file.ensures.told_is _ _ _ k.p.given.1 in
+    let steps = steps_few _ _ t.measure-file.ensures.told_is _ _ _ k.p.given.1 in
     search rules
 
 returns : tie.Need-returns

@@ -6,11 +6,11 @@ use native.Mathlib.Omega.{arith}
 use lib.ListN.{length}
 use Rattle.chain.specs.Chain.{pairs}
 use Rattle.chain.proofs.Rules.{not_fine}
-use Rattle.chain.proofs.Limits.{outputs-low}
+use Rattle.chain.proofs.Limits.{outputs_low}
 use Rattle.chain.proofs.Pairs.{length_pairs}
 use Rattle.verify.specs.Verify.{earliest}
-use Rattle.verify.proofs.Places.{earliest-next}
-use Rattle.verify.proofs.Columns.{large_in, exponents-large, exponents-fine}
+use Rattle.verify.proofs.Places.{earliest_next}
+use Rattle.verify.proofs.Columns.{large_in, exponents_large, exponents_fine}
 use Rattle.listing.specs.Inner.{TableHolds}
 use Rattle.listing.proofs.Tables.{at_outputs, filled_on}
 use Rattle.listing.proofs.measure.Statement.{statement}
@@ -39,20 +39,20 @@ gather-requires c κs =
     let l = b.before.before.before in
     let s = l.before.before.before.before.before in
     record {
-      column-low = omega (arith, b.before.before.loop-test.true, s.requires.chain-sound.steps-sound.p-low);
+      column_low = omega (arith, b.before.before.loop-test.true, s.requires.chain_sound.steps_sound.p_low);
       figures_able =
           record {
-            figures_fit = s.requires.outputs-few;
-            outputs-within = λ i h. omega (
+            figures_fit = s.requires.outputs_few;
+            outputs_within = λ i h. omega (
               arith,
-              outputs-low (s.args.p + length (pairs s.args.steps.now)) 1 s.args.outputs.now s.requires.chain-sound.outputs-fine i h,
+              outputs_low (s.args.p + length (pairs s.args.steps.now)) 1 s.args.outputs.now s.requires.chain_sound.outputs_fine i h,
               length_pairs s.args.steps.now,
               b.column.auto.1.1.1.0,
               l.loop.invariant.1,
-              s.requires.chain-sound.steps-sound.room,
+              s.requires.chain_sound.steps_sound.room,
             );
           };
-      table-whole = l.loop.invariant.2 ∙ s.requires.table-whole;
+      table_whole = l.loop.invariant.2 ∙ s.requires.table_whole;
     }
 
 earlier-requires : tie.Need-earlier-requires invariant-loop decreases-loop
@@ -73,9 +73,9 @@ loop-again c =
       search rules,
       b.column.auto.1.1.1.0 ∙ l.loop.invariant.1,
       g.gather.auto.1.1.1.0 ∙ l.loop.invariant.2,
-      earliest-next l.loop.c (large_in s.args.p (pairs s.args.steps.now)) _ _ _ c.earlier.ensures l.loop.invariant.3 b.column.ensures.place,
-      filled_on s.args.p l.loop.c (pairs s.args.steps.now) s.args.outputs.now _ _ _ _ _ _ _ s.requires.chain-sound.outputs-fine
-          s.requires.outputs-few (omega (arith, b.before.before.loop-test.true, s.requires.chain-sound.steps-sound.p-low)) (l.loop.invariant.2 ∙ s.requires.table-whole)
+      earliest_next l.loop.c (large_in s.args.p (pairs s.args.steps.now)) _ _ _ c.earlier.ensures l.loop.invariant.3 b.column.ensures.place,
+      filled_on s.args.p l.loop.c (pairs s.args.steps.now) s.args.outputs.now _ _ _ _ _ _ _ s.requires.chain_sound.outputs_fine
+          s.requires.outputs_few (omega (arith, b.before.before.loop-test.true, s.requires.chain_sound.steps_sound.p_low)) (l.loop.invariant.2 ∙ s.requires.table_whole)
           c.earlier.ensures b.column.ensures l.loop.invariant.4 g.gather.ensures,
     )
 
@@ -89,7 +89,7 @@ returns : tie.Need-returns invariant-loop decreases-loop
 returns c =
     let l = c.before.before.loop in
     record {
-      told_is = exponents-large _ _ _ _ c.before.loop-test.false l.invariant.0 l.invariant.3 c.if1.true;
+      told_is = exponents_large _ _ _ _ c.before.loop-test.false l.invariant.0 l.invariant.3 c.if1.true;
       holds = λ f. absurd (not_fine f);
     }
 
@@ -103,7 +103,7 @@ returns-2 : tie.Need-returns-2 invariant-loop decreases-loop
 returns-2 c =
     let l = c.before.before.loop in
     record {
-      told_is = exponents-fine _ _ _ _ c.before.loop-test.false l.invariant.0 l.invariant.3 c.if1.false;
+      told_is = exponents_fine _ _ _ _ c.before.loop-test.false l.invariant.0 l.invariant.3 c.if1.false;
       holds = λ f. record { each = λ i j hi hj. (l.invariant.4 c.if1.false).each i j hi (omega (arith, c.before.loop-test.false)) };
     }
 

@@ -5,16 +5,16 @@ use native.Mathlib.Omega.{arith}
 use lib.Seq.{length-take-le}
 use Rattle.answers.proofs.Clauses.{answer_clause, first_slice_clause, second_slice_clause}
 use Rattle.chain.specs.Judgement.{verdict_of}
-use Rattle.chain.proofs.Rules.{told-refused, told-fine}
+use Rattle.chain.proofs.Rules.{told_refused_lem, told_fine}
 use Rattle.layout.specs.Layout.{edition1}
-use Rattle.reading.proofs.Told.{read-counts}
-use Rattle.reading.proofs.Good.{Good, read-refused, read-good}
-use Rattle.listing.proofs.Judged.{listing-refused, too_long, unread, columns-few, steps-fine, outputs-fine, outputs-few, room, measured, listing-done}
+use Rattle.reading.proofs.Told.{read_counts}
+use Rattle.reading.proofs.Good.{Good, read_refused, read_good}
+use Rattle.listing.proofs.Judged.{listing_refused, too_long, unread, columns_few, steps_fine, outputs_fine, outputs_few, room, measured, listing_done}
 use Rattle.listing.proofs.measure_file.Statement.{statement}
 use Rattle.listing.proofs.measure_file.Tie as tie
 
 returns : tie.Need-returns
-returns c = listing-refused _ _ 6 0 (too_long _ c.if1.true)
+returns c = listing_refused _ _ 6 0 (too_long _ c.if1.true)
 
 read-requires : tie.Need-read-requires
 read-requires c κs = search rules
@@ -26,51 +26,51 @@ enum-known-p : tie.Need-enum-known-p
 enum-known-p c = search rules
 
 -- what the file that was read tells
-read-file : (c : tie.After-p)
+read_file : (c : tie.After-p)
     → let r = c.before.before.before.before.before.before in
     Good edition1 r.before.before.before.before.before.before.before.before.before.args.bytes.now r.read.new.1.0 r.read.new.1.1.0
     c.p.given.0.0 c.p.given.0.1.0 c.p.given.0.1.1.0.steps
-read-file c =
+read_file c =
     let r = c.before.before.before.before.before.before in
     let s = r.before.before.before.before.before.before.before.before.before in
     let a = s.args in
     let e = r.read.ensures in
-    read-good edition1 a.bytes.now a.steps.now a.outputs.now (omega (arith, s.requires.steps-whole)) (omega (arith, s.requires.outputs-whole)) _ (answer_clause e) _ _ _
+    read_good edition1 a.bytes.now a.steps.now a.outputs.now (omega (arith, s.requires.steps_whole)) (omega (arith, s.requires.outputs_whole)) _ (answer_clause e) _ _ _
     c.p.given.1 _ _ (first_slice_clause e) (second_slice_clause e)
 
 mul-measure : tie.Need-overflow-mul-measure
-mul-measure c = omega (arith, (read-file c.before.before).taken.few)
+mul-measure c = omega (arith, (read_file c.before.before).taken.few)
 
 slice-reshare-prefix-measure : tie.Need-slice-reshare-prefix-measure
-slice-reshare-prefix-measure c = (read-file c.before.before).taken.steps-room
+slice-reshare-prefix-measure c = (read_file c.before.before).taken.steps_room
 
 slice-aggregate-measure : tie.Need-slice-aggregate-measure
-slice-aggregate-measure c = sym (length-take-le _ _ (read-file c.before.before.before).taken.steps-room)
+slice-aggregate-measure c = sym (length-take-le _ _ (read_file c.before.before.before).taken.steps_room)
 
 slice-reshare-prefix-measure-2 : tie.Need-slice-reshare-prefix-measure-2
-slice-reshare-prefix-measure-2 c = (read-file c.before.before.before).taken.outputs-room
+slice-reshare-prefix-measure-2 c = (read_file c.before.before.before).taken.outputs_room
 
 slice-aggregate-measure-2 : tie.Need-slice-aggregate-measure-2
-slice-aggregate-measure-2 c = sym (length-take-le _ _ (read-file c.before.before.before.before).taken.outputs-room)
+slice-aggregate-measure-2 c = sym (length-take-le _ _ (read_file c.before.before.before.before).taken.outputs_room)
 
 measure-requires : tie.Need-measure-requires
 measure-requires c κs =
     let k = c.before.before.before.before.before.before in
     let s = k.before.before.before.before.before.before.before.before.before.before.before.before.before.before.before in
-    let t = read-file k in
+    let t = read_file k in
     record {
-      chain-sound =
+      chain_sound =
           record {
-            steps-sound =
+            steps_sound =
                 record {
-                  p-low = columns-few _ _ _ _ _ _ t;
-                  steps-fine = steps-fine _ _ _ _ _ _ t;
-                  room = omega (arith, room _ _ _ _ _ _ t, s.requires.scratch-whole);
+                  p_low = columns_few _ _ _ _ _ _ t;
+                  steps_fine = steps_fine _ _ _ _ _ _ t;
+                  room = omega (arith, room _ _ _ _ _ _ t, s.requires.scratch_whole);
                 };
-            outputs-fine = outputs-fine _ _ _ _ _ _ t;
+            outputs_fine = outputs_fine _ _ _ _ _ _ t;
           };
-      outputs-few = outputs-few _ _ _ _ _ _ t;
-      table-whole = s.requires.table-whole;
+      outputs_few = outputs_few _ _ _ _ _ _ t;
+      table_whole = s.requires.table_whole;
     }
 
 enum-known-number-2 : tie.Need-enum-known-number-2
@@ -91,9 +91,9 @@ returns-2 c =
     let r = n.before.before.before.before.before.before in
     let s = r.before.before.before.before.before.before.before.before.before in
     let a = s.args in
-    listing-refused _ _ _ _
+    listing_refused _ _ _ _
     (unread _ r.before.before.before.if1.false _ _
-    (read-refused edition1 a.bytes.now a.steps.now a.outputs.now (omega (arith, s.requires.steps-whole)) (omega (arith, s.requires.outputs-whole)) _
+    (read_refused edition1 a.bytes.now a.steps.now a.outputs.now (omega (arith, s.requires.steps_whole)) (omega (arith, s.requires.outputs_whole)) _
     (answer_clause r.read.ensures) _ _ n.number.given.1))
 
 same-length-3 : tie.Need-same-length-3
@@ -113,8 +113,8 @@ returns-3 c =
     let m = c.before.before.before.before.before.before.before in
     let k = m.before.before.before.before.before.before.before in
     let r = k.before.before.before.before.before.before in
-    listing-refused _ _ _ _
-    (measured _ _ _ _ _ _ (read-file k) r.before.before.before.if1.false _ (told-refused _ _ _ _ m.measure.ensures.told_is c.before.number2.given.1))
+    listing_refused _ _ _ _
+    (measured _ _ _ _ _ _ (read_file k) r.before.before.before.if1.false _ (told_refused_lem _ _ _ _ m.measure.ensures.told_is c.before.number2.given.1))
 
 same-length-7 : tie.Need-same-length-7
 same-length-7 c = search rules
@@ -135,8 +135,8 @@ returns-4 c =
     let r = k.before.before.before.before.before.before in
     let passed = c.enum_told.given.1 in
     let a = r.before.before.before.before.before.before.before.before.before.args in
-    let told = read-counts edition1 a.bytes.now a.steps.now a.outputs.now _ (answer_clause r.read.ensures) _ _ _ k.p.given.1 in
-    listing-done _ _ _ _ _ _ (read-file k) r.before.before.before.if1.false _ _ told (told-fine _ _ m.measure.ensures.told_is passed)
+    let told = read_counts edition1 a.bytes.now a.steps.now a.outputs.now _ (answer_clause r.read.ensures) _ _ _ k.p.given.1 in
+    listing_done _ _ _ _ _ _ (read_file k) r.before.before.before.if1.false _ _ told (told_fine _ _ m.measure.ensures.told_is passed)
     (m.measure.ensures.holds (ap verdict_of passed))
 
 pub measure_file_spec : {M : Type 1} → statement M

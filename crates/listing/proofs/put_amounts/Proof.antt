@@ -8,9 +8,9 @@ use Rattle.digits.specs.Range.{list_to}
 use Rattle.listing.specs.Listing.{more_fields}
 use Rattle.listing.specs.Inner.{amount_in, most_field}
 use Rattle.decimal.specs.Inner.{Put}
-use Rattle.decimal.proofs.Decimal.{decimal-short}
-use Rattle.decimal.proofs.Putting.{put-none}
-use Rattle.listing.proofs.Lines.{put-amount}
+use Rattle.decimal.proofs.Decimal.{decimal_short}
+use Rattle.decimal.proofs.Putting.{put_none}
+use Rattle.listing.proofs.Lines.{put_amount}
 use Rattle.listing.proofs.put_amounts.Statement.{statement}
 use Rattle.listing.proofs.put_amounts.Tie as tie
 
@@ -22,15 +22,15 @@ abbrev decreases-loop : tie.decreases-loop
 decreases-loop i p table at text₀ end₀ c₀ text end c = p - c
 
 -- the amount at hand is of 32 bits
-amount-low : (c : tie.After-shared-slice-known2 invariant-loop decreases-loop)
+amount_low : (c : tie.After-shared-slice-known2 invariant-loop decreases-loop)
     → let l = c.before.before in
     get_or l.before.before.before.args.table.now (64 * l.loop.c + l.before.before.before.args.i) 0 < 10 ^ 10
-amount-low c =
+amount_low c =
     let l = c.before.before in
     omega (arith, (c.shared-slice-known2.given (64 * l.loop.c + l.before.before.before.args.i)).fits)
 
 loop-holds : tie.Need-loop-init invariant-loop decreases-loop
-loop-holds c = (search rules, refl, omega arith, put-none _ _)
+loop-holds c = (search rules, refl, omega arith, put_none _ _)
 
 mul-put-field : tie.Need-overflow-mul-put-field invariant-loop decreases-loop
 mul-put-field c = search rules
@@ -49,7 +49,7 @@ put-field-requires c κs =
     let k = c.before in
     let l = k.before.before in
     let s = l.before.before.before in
-    omega (arith, decimal-short 9 _ (amount-low k), l.loop.invariant.1, l.loop.invariant.2, k.before.loop-test.true, s.requires.room)
+    omega (arith, decimal_short 9 _ (amount_low k), l.loop.invariant.1, l.loop.invariant.2, k.before.loop-test.true, s.requires.room)
 
 add-c : tie.Need-overflow-add-c invariant-loop decreases-loop
 add-c c = search rules
@@ -65,8 +65,8 @@ loop-again c =
     let s = l.before.before.before in (
       search rules,
       b.put-field.auto.1.1.0 ∙ l.loop.invariant.1,
-      omega (arith, decimal-short 9 _ (amount-low k), b.put-field.ensures.place, l.loop.invariant.2),
-      put-amount _ _ (amount_in s.args.table.now s.args.i) _ _ _ _ _ (omega (arith, s.requires.room)) l.loop.invariant.3 b.put-field.ensures,
+      omega (arith, decimal_short 9 _ (amount_low k), b.put-field.ensures.place, l.loop.invariant.2),
+      put_amount _ _ (amount_in s.args.table.now s.args.i) _ _ _ _ _ (omega (arith, s.requires.room)) l.loop.invariant.3 b.put-field.ensures,
     )
 
 same_length : tie.Need-same-length invariant-loop decreases-loop

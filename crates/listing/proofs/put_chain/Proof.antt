@@ -1,7 +1,7 @@
 -- The first line and the payslips' lines are the chain's text.
 use borrow.Author.Rules.{rules}
 use Rattle.listing.specs.Inner.{amount_in}
-use Rattle.listing.proofs.Lines.{put-listing}
+use Rattle.listing.proofs.Lines.{put_listing}
 use Rattle.listing.proofs.put_chain.Statement.{statement}
 use Rattle.listing.proofs.put_chain.Tie as tie
 
@@ -19,7 +19,7 @@ returns c =
     let k = c.before.before in
     let j = k.before.before.before.before in
     let s = j.before.before.before.before in
-    put-listing _ _ _ (amount_in s.args.table.now) _ _ _ _ _ j.put-sizes.ensures.put k.put-payslips.ensures
+    put_listing _ _ _ (amount_in s.args.table.now) _ _ _ _ _ j.put-sizes.ensures.put k.put-payslips.ensures
 
-pub put-chain_spec : {M : Type 1} → statement M
-put-chain_spec = tie.close (tie.spec put-sizes-requires put-payslips-requires same_length returns)
+pub put_chain_spec : {M : Type 1} → statement M
+put_chain_spec = tie.close (tie.spec put-sizes-requires put-payslips-requires same_length returns)

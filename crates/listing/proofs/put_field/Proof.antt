@@ -3,7 +3,7 @@ use borrow.Author.Rules.{rules}
 use mathlib.Core.Path.{◌∙◌}
 use native.Mathlib.Omega.{arith}
 use lib.ListN.{length-set}
-use Rattle.listing.proofs.Lines.{put-blank}
+use Rattle.listing.proofs.Lines.{put_blank}
 use Rattle.listing.proofs.put_field.Statement.{statement}
 use Rattle.listing.proofs.put_field.Tie as tie
 
@@ -20,8 +20,8 @@ same_length : tie.Need-same-length
 same_length c = c.before.before.put-decimal.auto.1.1.0 ∙ simp length-set
 
 returns : tie.Need-returns
-returns c = put-blank _ _ _ _ _ (omega (arith, c.before.before.before.before.before.requires)) c.before.before.put-decimal.ensures
+returns c = put_blank _ _ _ _ _ (omega (arith, c.before.before.before.before.before.requires)) c.before.before.put-decimal.ensures
 
-pub put-field_spec : {M : Type 1} → statement M
-put-field_spec =
+pub put_field_spec : {M : Type 1} → statement M
+put_field_spec =
     tie.close (tie.spec slice-write-text add-put-decimal put-decimal-requires same_length returns)

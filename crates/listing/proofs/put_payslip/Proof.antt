@@ -4,7 +4,7 @@ use Prim.Native.Nat.{◌+◌, ◌≤◌}
 use native.Mathlib.Omega.{arith}
 use mathlib.Core.Path.{◌∙◌}
 use lib.ListN.{length-set}
-use Rattle.decimal.proofs.Decimal.{decimal-short}
+use Rattle.decimal.proofs.Decimal.{decimal_short}
 use Rattle.listing.proofs.Lines.{put_line}
 use Rattle.listing.proofs.put_payslip.Statement.{statement}
 use Rattle.listing.proofs.put_payslip.Tie as tie
@@ -15,13 +15,13 @@ add-put-decimal c = search rules
 put-decimal-requires : tie.Need-put-decimal-requires
 put-decimal-requires c κs =
     let s = c.before.before.before in
-    omega (arith, decimal-short 1 (s.args.i + 1) (omega (arith, s.requires.inside)), s.requires.room)
+    omega (arith, decimal_short 1 (s.args.i + 1) (omega (arith, s.requires.inside)), s.requires.room)
 
 put-amounts-requires : tie.Need-put-amounts-requires
 put-amounts-requires c κs =
     let k = c.before.before.before in
     let s = k.before.before.before.before in
-    let short = decimal-short 1 (s.args.i + 1) (omega (arith, s.requires.inside)) in
+    let short = decimal_short 1 (s.args.i + 1) (omega (arith, s.requires.inside)) in
     search rules
 
 -- where the newline goes
@@ -31,7 +31,7 @@ line_end_lem c =
     let k = c.before.before in
     let j = k.before.before.before.before in
     let s = j.before.before.before.before in
-    omega (arith, decimal-short 1 (s.args.i + 1) (omega (arith, s.requires.inside)), j.put-decimal.ensures.place, k.put-amounts.ensures.short, s.requires.p-low)
+    omega (arith, decimal_short 1 (s.args.i + 1) (omega (arith, s.requires.inside)), j.put-decimal.ensures.place, k.put-amounts.ensures.short, s.requires.p_low)
 
 slice-write-text : tie.Need-slice-write-text
 slice-write-text c =
@@ -61,8 +61,8 @@ returns c =
       short = omega (arith, line_end_lem c);
     }
 
-pub put-payslip_spec : {M : Type 1} → statement M
-put-payslip_spec =
+pub put_payslip_spec : {M : Type 1} → statement M
+put_payslip_spec =
     tie.close
     (tie.spec
     add-put-decimal

@@ -7,7 +7,7 @@ use lib.ListN.{length}
 use Rattle.listing.specs.Listing.{payslip_lines}
 use Rattle.listing.specs.Inner.{amount_in, most_line}
 use Rattle.decimal.specs.Inner.{Put}
-use Rattle.decimal.proofs.Putting.{put-none}
+use Rattle.decimal.proofs.Putting.{put_none}
 use Rattle.listing.proofs.Lines.{put_next}
 use Rattle.listing.proofs.put_payslips.Statement.{statement}
 use Rattle.listing.proofs.put_payslips.Tie as tie
@@ -20,7 +20,7 @@ abbrev decreases-loop : tie.decreases-loop
 decreases-loop p q table at text₀ end₀ i₀ text end i = q - i
 
 loop-holds : tie.Need-loop-init invariant-loop decreases-loop
-loop-holds c = (search rules, refl, omega arith, put-none _ _)
+loop-holds c = (search rules, refl, omega arith, put_none _ _)
 
 put-payslip-requires : tie.Need-put-payslip-requires invariant-loop decreases-loop
 put-payslip-requires c κs = search rules
@@ -52,8 +52,8 @@ returns c =
     let e : l.i ≡ s.args.q = omega (arith, l.invariant.0, c.loop-test.false) in
     rw e at l.invariant.3
 
-pub put-payslips_spec : {M : Type 1} → statement M
-put-payslips_spec =
+pub put_payslips_spec : {M : Type 1} → statement M
+put_payslips_spec =
     tie.close
     (tie.spec
     invariant-loop

@@ -4,8 +4,8 @@ use Prim.Native.Nat.{◌≤◌}
 use native.Mathlib.Omega.{arith}
 use mathlib.Core.Path.{◌∙◌}
 use lib.ListN.{length-set}
-use Rattle.decimal.proofs.Decimal.{decimal-short}
-use Rattle.listing.proofs.Lines.{put-refusal}
+use Rattle.decimal.proofs.Decimal.{decimal_short}
+use Rattle.listing.proofs.Lines.{put_refusal}
 use Rattle.listing.proofs.put_refused.Statement.{statement}
 use Rattle.listing.proofs.put_refused.Tie as tie
 
@@ -19,7 +19,7 @@ put-decimal-requires : tie.Need-put-decimal-requires
 put-decimal-requires c κs =
     let k = c.before.before.before in
     let s = k.before.before.before.before in
-    omega (arith, decimal-short 9 s.args.number (omega (arith, s.ranges.number.fits)), k.put_word.ensures.place, k.put_word.auto.1.1.0, s.requires)
+    omega (arith, decimal_short 9 s.args.number (omega (arith, s.ranges.number.fits)), k.put_word.ensures.place, k.put_word.auto.1.1.0, s.requires)
 
 -- where the newline goes
 line_end_lem : (c : tie.After-slice-known3) → c.before.before.put-decimal.result ≤ 18
@@ -27,7 +27,7 @@ line_end_lem c =
     let k = c.before.before in
     let j = k.before.before.before.before in
     let s = j.before.before.before.before in
-    omega (arith, decimal-short 9 s.args.number (omega (arith, s.ranges.number.fits)), j.put_word.ensures.place, k.put-decimal.ensures.place)
+    omega (arith, decimal_short 9 s.args.number (omega (arith, s.ranges.number.fits)), j.put_word.ensures.place, k.put-decimal.ensures.place)
 
 slice-write-text : tie.Need-slice-write-text
 slice-write-text c =
@@ -50,10 +50,10 @@ returns c =
     let k = c.before.before in
     let j = k.before.before.before.before in
     let s = j.before.before.before.before in
-    put-refusal _ _ _ _ _ _ j.put_word.ensures k.put-decimal.ensures (omega (arith, line_end_lem c, j.put_word.auto.1.1.0, s.requires))
+    put_refusal _ _ _ _ _ _ j.put_word.ensures k.put-decimal.ensures (omega (arith, line_end_lem c, j.put_word.auto.1.1.0, s.requires))
 
-pub put-refused_spec : {M : Type 1} → statement M
-put-refused_spec =
+pub put_refused_spec : {M : Type 1} → statement M
+put_refused_spec =
     tie.close
     (tie.spec
     slice-aggregate-put-word

@@ -5,7 +5,7 @@ use native.Mathlib.Omega.{arith}
 use mathlib.Core.Path.{◌∙◌}
 use lib.ListN.{length, length-set}
 use Rattle.decimal.specs.Decimal.{decimal}
-use Rattle.decimal.proofs.Decimal.{decimal-short}
+use Rattle.decimal.proofs.Decimal.{decimal_short}
 use Rattle.listing.proofs.Lines.{put_two, put_line}
 use Rattle.listing.proofs.put_sizes.Statement.{statement}
 use Rattle.listing.proofs.put_sizes.Tie as tie
@@ -14,10 +14,10 @@ use Rattle.listing.proofs.put_sizes.Tie as tie
 short : (s : tie.Start)
     → (length (decimal s.args.p) ≤ 2) × (length (decimal s.args.q) ≤ 2) × (length (decimal s.args.n) ≤ 5)
 short s = (
-  decimal-short 1 s.args.p (omega (arith, s.requires.sizes-low.p-low)),
-  decimal-short 1 s.args.q (omega (arith, s.requires.sizes-low.q_low)),
-  decimal-short 4 s.args.n
-      (omega (arith, s.requires.n-low)),
+  decimal_short 1 s.args.p (omega (arith, s.requires.sizes_low.p_low)),
+  decimal_short 1 s.args.q (omega (arith, s.requires.sizes_low.q_low)),
+  decimal_short 4 s.args.n
+      (omega (arith, s.requires.n_low)),
 )
 
 put-decimal-requires : tie.Need-put-decimal-requires
@@ -83,8 +83,8 @@ returns c =
       short = omega (arith, line_end_lem c);
     }
 
-pub put-sizes_spec : {M : Type 1} → statement M
-put-sizes_spec =
+pub put_sizes_spec : {M : Type 1} → statement M
+put_sizes_spec =
     tie.close
     (tie.spec
     put-decimal-requires

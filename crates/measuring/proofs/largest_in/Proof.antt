@@ -2,7 +2,7 @@
 use borrow.Author.Rules.{rules}
 use mathlib.Core.Path.{◌≡◌}
 use Prim.Native.Nat.{◌≤◌, ◌-◌}
-use Rattle.sheet.proofs.Amounts.{amount-there}
+use Rattle.sheet.proofs.Amounts.{amount_there}
 use Rattle.measuring.proofs.Columns.{largest_to, finding_largest}
 use Rattle.measuring.proofs.largest_in.Statement.{statement}
 use Rattle.measuring.proofs.largest_in.Tie as tie
@@ -16,5 +16,5 @@ decreases-loop p q amounts c most₀ i₀ most i = q - i
 pub largest_in_spec : {M : Type 1} → statement M
 largest_in_spec =
     tie.close
-    (tie.spec invariant-loop decreases-loop (λ c. search (rules, finding_largest)) (λ c κs. search (rules, amount-there)) (λ c κs. search rules) (λ c. search rules)
+    (tie.spec invariant-loop decreases-loop (λ c. search (rules, finding_largest)) (λ c κs. search (rules, amount_there)) (λ c κs. search rules) (λ c. search rules)
     (λ c. search rules) (λ c. search (rules, finding_largest)) (λ c. search finding_largest))

@@ -3,7 +3,7 @@ use borrow.Author.Rules.{rules}
 use Prim.Native.Nat.{◌-◌}
 use Rattle.methods.specs.Powers.{largest_in}
 use Rattle.methods.proofs.Filling.{FilledTo, filling}
-use Rattle.measuring.proofs.Columns.{all-largest}
+use Rattle.measuring.proofs.Columns.{all_largest}
 use Rattle.measuring.proofs.measure_columns.Statement.{statement}
 use Rattle.measuring.proofs.measure_columns.Tie as tie
 
@@ -17,4 +17,4 @@ pub measure_columns_spec : {M : Type 1} → statement M
 measure_columns_spec =
     tie.close
     (tie.spec invariant-loop decreases-loop (λ c. search filling) (λ c κs. search rules) (λ c. search rules) (λ c. search rules) (λ c. search rules) (λ c. search rules)
-    (λ c. search (rules, filling)) (λ c. search rules) (λ c. search (rules, all-largest)))
+    (λ c. search (rules, filling)) (λ c. search rules) (λ c. search (rules, all_largest)))

@@ -53,8 +53,8 @@ same_length c = search rules
 returns : tie.Need-returns invariant-loop decreases-loop
 returns c = search squaring_columns
 
-pub square-columns_spec : {M : Type 1} → statement M
-square-columns_spec =
+pub square_columns_spec : {M : Type 1} → statement M
+square_columns_spec =
     tie.close
     (tie.spec
     invariant-loop

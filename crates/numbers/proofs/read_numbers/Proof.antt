@@ -1,6 +1,6 @@
 -- The text is cut off, or what was parsed is told.
 use borrow.Author.Rules.{rules}
-use Rattle.text.proofs.Outcomes.{numbers-cut, numbers-read}
+use Rattle.text.proofs.Outcomes.{numbers_cut, numbers_read}
 use Rattle.numbers.proofs.read_numbers.Statement.{statement}
 use Rattle.numbers.proofs.read_numbers.Tie as tie
 
@@ -11,7 +11,7 @@ cut-text-requires : tie.Need-cut-text-requires
 cut-text-requires c κs = search rules
 
 returns : tie.Need-returns
-returns c = numbers-cut _ _ c.before.before.is_cut.ensures _ c.before.if1.true _ _ c.cut-text.ensures
+returns c = numbers_cut _ _ c.before.before.is_cut.ensures _ c.before.if1.true _ _ c.cut-text.ensures
 
 parse-requires : tie.Need-parse-requires
 parse-requires c κs = search rules
@@ -25,10 +25,10 @@ same_length c = search rules
 returns-2 : tie.Need-returns-2
 returns-2 c =
     let k = c.before.before.before in
-    numbers-read _ _ k.before.before.before.is_cut.ensures _ k.before.before.if1.false _ _ _ _ k.parse.ensures c.tell-parsed.ensures
+    numbers_read _ _ k.before.before.before.is_cut.ensures _ k.before.before.if1.false _ _ _ _ k.parse.ensures c.tell-parsed.ensures
 
-pub read-numbers_spec : {M : Type 1} → statement M
-read-numbers_spec =
+pub read_numbers_spec : {M : Type 1} → statement M
+read_numbers_spec =
     tie.close
     (tie.spec
     is-cut-requires

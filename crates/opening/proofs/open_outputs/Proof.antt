@@ -2,7 +2,7 @@
 use borrow.Author.Rules.{rules, Fits-under}
 use Prim.Native.Nat.{◌^◌}
 use native.Mathlib.Omega.{arith}
-use Rattle.opening.proofs.Opening.{first-asked, level-asked, second-asked, outputs_opened, outs_inside}
+use Rattle.opening.proofs.Opening.{first_asked, level_asked, second_asked, outputs_opened, outs_inside}
 use Rattle.opening.proofs.open_outputs.Statement.{statement}
 use Rattle.opening.proofs.open_outputs.Tie as tie
 
@@ -25,13 +25,13 @@ sub-members : tie.Need-overflow-sub-members
 sub-members c = (outs_inside _ _ _ _ c.before.before.requires).1
 
 transpose-requires : tie.Need-transpose-requires
-transpose-requires c κs = first-asked _ _ _ _ c.before.before.before.before.requires
+transpose-requires c κs = first_asked _ _ _ _ c.before.before.before.before.requires
 
 cut-level-requires : tie.Need-cut-level-requires
-cut-level-requires c κs = level-asked _ _ _ _ c.before.before.before.before.before.before.before.before.requires _ _ c.before.before.before.transpose.ensures
+cut-level-requires c κs = level_asked _ _ _ _ c.before.before.before.before.before.before.before.before.requires _ _ c.before.before.before.transpose.ensures
 
 transpose-requires-2 : tie.Need-transpose-requires-2
-transpose-requires-2 c κs = second-asked _ _ _ _ c.before.before.before.before.before.before.before.before.before.before.before.before.requires _ _ c.before.before.before.before.before.before.before.transpose.ensures _ _ c.before.before.before.cut_level.ensures
+transpose-requires-2 c κs = second_asked _ _ _ _ c.before.before.before.before.before.before.before.before.before.before.before.before.requires _ _ c.before.before.before.before.before.before.before.transpose.ensures _ _ c.before.before.before.cut_level.ensures
 
 returns : tie.Need-returns
 returns c =

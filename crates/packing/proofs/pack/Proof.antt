@@ -3,27 +3,27 @@ use borrow.Author.Rules.{rules}
 use mathlib.Core.Path.{◌≡◌, sym}
 use native.Mathlib.Omega.{arith}
 use Rattle.chain.specs.Verdict.{fine}
-use Rattle.chain.proofs.Rules.{told-fine, told-refused}
-use Rattle.chain.proofs.OneSlice.{given_refused, too_short, long-enough, refused_leaves, done_leaves}
+use Rattle.chain.proofs.Rules.{told_fine, told_refused_lem}
+use Rattle.chain.proofs.OneSlice.{given_refused, too_short, long_enough, refused_leaves, done_leaves}
 use Rattle.packed.specs.Packed.{writable_rule, pack_rule, pack_answer, pack_bytes}
 use Rattle.packed.proofs.Given.{Writable, writable}
 use Rattle.packing.proofs.pack.Statement.{statement}
 use Rattle.packing.proofs.pack.Tie as tie
 
-found-fine : (e : tie.After-enum-told)
+found_fine : (e : tie.After-enum-told)
     → let s = e.before.before.before.before.before.args in
     fine ≡ writable_rule s.p s.q s.amounts.now
-found-fine e = told-fine _ _ e.before.before.judge-writable.ensures e.enum_told.given.1
+found_fine e = told_fine _ _ e.before.before.judge-writable.ensures e.enum_told.given.1
 
 can_write : (e : tie.After-enum-told)
     → let s = e.before.before.before.before.before.args in
     Writable s.p s.q s.amounts.now
-can_write e = writable _ _ _ (sym (found-fine e))
+can_write e = writable _ _ _ (sym (found_fine e))
 
 returns : tie.Need-returns
 unfolding pack_rule pack_answer pack_bytes
 returns c =
-    refused_leaves _ _ _ _ 5 0 (too_short _ _ _ (found-fine c.before) (omega (arith, (can_write c.before).many, c.if1.true)))
+    refused_leaves _ _ _ _ 5 0 (too_short _ _ _ (found_fine c.before) (omega (arith, (can_write c.before).many, c.if1.true)))
 
 store-requires : tie.Need-store-requires
 store-requires c κs =
@@ -34,7 +34,7 @@ returns-2 : tie.Need-returns-2
 unfolding pack_rule pack_answer pack_bytes
 returns-2 c =
     refused_leaves _ _ _ _ _ _
-    (given_refused _ _ _ _ _ (told-refused _ _ _ _ c.before.before.before.judge-writable.ensures c.before.number.given.1))
+    (given_refused _ _ _ _ _ (told_refused_lem _ _ _ _ c.before.before.before.judge-writable.ensures c.before.number.given.1))
 
 returns-3 : tie.Need-returns-3
 unfolding pack_rule pack_answer pack_bytes
@@ -42,7 +42,7 @@ returns-3 c =
     let stored = c.before.before in
     let room = stored.before.before in
     let many = (can_write room.before).many in
-    rw (← many) (done_leaves _ _ _ _ _ (long-enough _ _ _ (found-fine room.before) (omega (arith, many, room.if1.false))) stored.store.ensures)
+    rw (← many) (done_leaves _ _ _ _ _ (long_enough _ _ _ (found_fine room.before) (omega (arith, many, room.if1.false))) stored.store.ensures)
 
 pub pack_spec : {M : Type 1} → statement M
 pack_spec =

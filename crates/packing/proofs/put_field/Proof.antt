@@ -6,7 +6,7 @@ use Prim.Native.Nat.{ℕ}
 use native.Mathlib.Omega.{arith}
 use lib.ListN.{length-set}
 use Rattle.chain.specs.Written.{laid}
-use Rattle.packing.proofs.Stored.{five_stored, field-parted}
+use Rattle.packing.proofs.Stored.{five_stored, field_parted}
 use Rattle.packing.proofs.put_field.Statement.{statement}
 use Rattle.packing.proofs.put_field.Tie as tie
 
@@ -34,10 +34,10 @@ returns c =
     let third = three.pair3.ensures in
     let fourth = four.pair4.ensures in
     five_stored start.args.bytes.now start.args.at _ _ _ _ _ start.requires.room
-    ∙ ap (λ (l : List ℕ). laid start.args.at l start.args.bytes.now) (sym (field-parted start.args.amount start.requires.amount-low ∙ sym cc))
+    ∙ ap (λ (l : List ℕ). laid start.args.at l start.args.bytes.now) (sym (field_parted start.args.amount start.requires.amount_low ∙ sym cc))
 
-pub put-field_spec : {M : Type 1} → statement M
-put-field_spec =
+pub put_field_spec : {M : Type 1} → statement M
+put_field_spec =
     tie.close
     (tie.spec (λ c κs. search rules) (λ c. search rules) (λ c κs. search rules) (λ c. search rules) slice-write-bytes-2 (λ c κs. search rules)
     (λ c. search rules) slice-write-bytes-3 (λ c κs. search rules) (λ c. search rules) slice-write-bytes-4 (λ c. search rules) (λ c. search rules)

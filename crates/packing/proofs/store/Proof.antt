@@ -18,7 +18,7 @@ put-field-requires c κs =
     let turn = c.before.before in
     let start = turn.before.before.before.before in
     record {
-      amount-low = start.requires.amounts_low turn.before.loop.i turn.loop-test.true;
+      amount_low = start.requires.amounts_low turn.before.loop.i turn.loop-test.true;
       room = omega (arith, start.requires.room, turn.loop-test.true, turn.before.loop.invariant.long);
     }
 

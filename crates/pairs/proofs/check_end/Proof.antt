@@ -4,9 +4,9 @@ use mathlib.Core.Path.{sym}
 use Prim.Native.Nat.{◌+◌, ◌≤◌, ◌<◌}
 use native.Mathlib.Omega.{arith}
 use lib.ListN.{length}
-use Rattle.chain.proofs.Rules.{told-fine, judging}
+use Rattle.chain.proofs.Rules.{told_fine, judging}
 use Rattle.pairs.specs.Inner.{squarings_in}
-use Rattle.pairs.proofs.Tasks.{check-refused, check_finished}
+use Rattle.pairs.proofs.Tasks.{check_refused, check_finished}
 use Rattle.pairs.proofs.check_end.Statement.{statement}
 use Rattle.pairs.proofs.check_end.Tie as tie
 
@@ -14,10 +14,10 @@ use Rattle.pairs.proofs.check_end.Tie as tie
 fits : (e : tie.After-enum-told)
     → let a = e.before.before.before.before.args in
     (squarings_in a.task ≤ a.n) × (a.p + a.n < length a.scratch.now)
-fits e = e.before.before.before.before.requires (sym (told-fine _ _ e.before.before.found.ensures e.enum_told.given.1))
+fits e = e.before.before.before.before.requires (sym (told_fine _ _ e.before.before.found.ensures e.enum_told.given.1))
 
-pub check-end_spec : {M : Type 1} → statement M
-check-end_spec =
+pub check_end_spec : {M : Type 1} → statement M
+check_end_spec =
     tie.close
     (tie.spec
     (λ c κs. search rules)
@@ -28,6 +28,6 @@ check-end_spec =
     (λ c. let h = (fits c.before.before).1 in search rules)
     (λ c. let h = (fits c.before.before).1 in search rules)
     (λ c κs. omega (arith, (fits c.before.before.before).1))
-    (λ c. search (judging, check-refused) depth 8)
+    (λ c. search (judging, check_refused) depth 8)
     (λ c. search rules)
     (λ c. search (rules, judging, check_finished) depth 8))

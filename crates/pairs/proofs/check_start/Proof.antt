@@ -1,13 +1,13 @@
 -- What was found before, or is found now, is kept; else the steps are to be added.
 use borrow.Author.Rules.{rules}
 use mathlib.Core.Path.{sym}
-use Rattle.chain.proofs.Rules.{told-fine, judging}
+use Rattle.chain.proofs.Rules.{told_fine, judging}
 use Rattle.pairs.proofs.Tasks.{unless_adding, keeping}
 use Rattle.pairs.proofs.check_start.Statement.{statement}
 use Rattle.pairs.proofs.check_start.Tie as tie
 
 judge-end-requires : tie.Need-judge-end-requires
-judge-end-requires c κs = c.before.before.before.before.requires (sym (told-fine _ _ c.before.before.found.ensures c.enum_told.given.1))
+judge-end-requires c κs = c.before.before.before.before.requires (sym (told_fine _ _ c.before.before.found.ensures c.enum_told.given.1))
 
 pub check_start_spec : {M : Type 1} → statement M
 check_start_spec =

@@ -63,8 +63,8 @@ use Rattle.pairs.specs.declared.Task.{Task}
 use Rattle.pairs.specs.contracts.Task as E
 use Rattle.pairs.proofs.Calls.{cells_at, Cells, Leaves, calls_lent}
 use Rattle.pairs.proofs.Counts.{Turns, to_turns, asks_turns, said_turns}
-use Rattle.pairs.proofs.Folded.{steps-none, steps_next, steps-length, ready_at, turns_few}
-use Rattle.pairs.proofs.Machine.{task_val, task_vals, TaskIs, task_tells, task-is, task_typed, has-task}
+use Rattle.pairs.proofs.Folded.{steps_none, steps_next, steps-length, ready_at, turns_few}
+use Rattle.pairs.proofs.Machine.{task_val, task_vals, TaskIs, task_tells, task_is, task_typed, has_task}
 use Rattle.pairs.specs.contracts.turns as turns
 use Rattle.pairs.proofs.turns.Symbol as turns-def
 use Rattle.pairs.proofs.turns.Symbol.{name as #pairs·turns}
@@ -147,7 +147,7 @@ module _ {M : Type 1} {𝓤 : Ura M} (𝓛 : Logic 𝓤) (at_mem : Memory → SP
       suffices ! _ (ends_at 𝓛 this.ended stayed (this.clauses 𝓛 at_mem run) (((κ, (κ₂, tt)), (q, (q₂, tt)), tt, x, at), tt)
       (task_val r) r (tt, (tt, (l, tt))) (tt, (tt, (len, tt)))) $ says ! e $
       nothing ! $ move ! (4 ∷ 0 ∷ []) $ join ! $ move ! (2 ∷ 0 ∷ []) $ join ! $ frame ! $
-      nothing ! $ move ! (2 ∷ 0 ∷ []) $ fjoin ! $ move ! (1 ∷ 0 ∷ []) $ fjoin ! $ nothing ! $ fjoin ! $ frame ! $ has-task ! r is $ done !
+      nothing ! $ move ! (2 ∷ 0 ∷ []) $ fjoin ! $ move ! (1 ∷ 0 ∷ []) $ fjoin ! $ nothing ! $ fjoin ! $ frame ! $ has_task ! r is $ done !
 
   -- ---- a call of `advance` with step j, where the task is t and the cells are l
   module _ (t : Task) (l : List ℕ) (j : ℕ) where
@@ -180,7 +180,7 @@ module _ {M : Type 1} {𝓤 : Ura M} (𝓛 : Logic 𝓤) (at_mem : Memory → SP
           move ! (0 ∷ 2 ∷ []) $ join ! $ frame ! $ nothing ! $ move ! (1 ∷ 0 ∷ []) $ fjoin ! $
           owned ! u32 (Is u32) (uint_Makes 𝓛 w32) step_at_lem.second _ (refl, b-fits) $ fjoin ! $
           owned ! u32 (Is u32) (uint_Makes 𝓛 w32) step_at_lem.first _ (refl, a-fits) $ fjoin ! $
-          owned ! usize (Is usize) (uint_Makes 𝓛 w64) j _ (refl, j-fits) $ fjoin ! $ has-task ! t is $ fjoin ! $ done !
+          owned ! usize (Is usize) (uint_Makes 𝓛 w64) j _ (refl, j-fits) $ fjoin ! $ has_task ! t is $ fjoin ! $ done !
 
       leaves : length l ≡ length zs → (w : Val) → ent 𝓤 ((Advance 𝓛 at_mem run).post to w)
           (mean 𝓛 (later (some (λ (t' : Task). some (λ (l' : List ℕ). Leaves 𝓤 ν δ (length zs) (‵ ftrue) E.the_row Advanced w t' l')))))
@@ -214,7 +214,7 @@ module _ {M : Type 1} {𝓤 : Ura M} (𝓛 : Logic 𝓤) (at_mem : Memory → SP
       so_far : left task cells ≡ after_steps t₀ zs ys at
 
     abbrev no_step : Turn
-    no_step = record { at = 0; within = zero-le; task = t₀; cells = zs; fits = is₀; so_far = steps-none t₀ zs ys }
+    no_step = record { at = 0; within = zero-le; task = t₀; cells = zs; fits = is₀; so_far = steps_none t₀ zs ys }
 
     long : (u : Turn) → length u.cells ≡ length zs
     long u = ap (λ (s : Left). length s.cells) u.so_far ∙ steps-length t₀ zs ys u.at
@@ -286,11 +286,11 @@ module _ {M : Type 1} {𝓤 : Ura M} (𝓛 : Logic 𝓤) (at_mem : Memory → SP
           (and_then ! (load ! (from ! (fld ! refl (stop !))) (look_in ! 4 (sub ! 0 refl (whole !))))
           (and_then ! (load ! (from ! (fld ! refl (stop !))) (look_in ! 4 (sub ! 1 refl (whole !))))
           (and_then ! (load ! (from ! (stop !)) (look ! 10 refl)) (no_more !)))))) (λ t' l' is len e.
-          land ! (from ! (stop !)) (store ! 12 refl (task_typed 𝓛 t' (task-is t' _ is))) $ move ! (2 ∷ []) $ dropᴷ ! $
+          land ! (from ! (stop !)) (store ! 12 refl (task_typed 𝓛 t' (task_is t' _ is))) $ move ! (2 ∷ []) $ dropᴷ ! $
           assigns_last ! (bin ! (load ! (from ! (stop !)) (look ! 3 refl)) (lit ! tt) (record { fits = next_i })) (from ! (stop !))
           (store ! 3 refl (tt, record { fits = next_i })) $
           forget ! 4 refl $ forget ! 5 refl $ forget ! 6 refl $ forget ! 7 refl $ forget ! 8 refl $ forget ! 9 refl $ forget ! 10 refl $
-          again ! Nearer At u (next t' l' (task-is t' _ is) e) falls))
+          again ! Nearer At u (next t' l' (task_is t' _ is) e) falls))
         where
           j : ℕ
           j = u.at
@@ -412,7 +412,7 @@ module _ {M : Type 1} {𝓤 : Ura M} (𝓛 : Logic 𝓤) (at_mem : Memory → SP
       (λ κs. (task_tells, (shr_slice_Tells (named 0) κs.0 R, (mut_slice_Tells (named 1) κs.1.0 u32, tt))))
       (λ κs qs bounds a g are. needs 𝓤 (Able a.0 0 a.1.0.now (length a.1.1.0.now)) _ (λ able.
       walk 𝓛 at_mem run κs.0 κs.1.0 qs.0 qs.1.0 a.1.0.ptr.0 a.1.0.ptr.1 a.1.1.0.ptr.0 a.1.1.0.ptr.1 a.1.0.name
-      a.1.1.0.ghost_name a.0 a.1.0.now a.1.1.0.now (task-is a.0 _ are.0) are.1.0.0.1 are.1.1.0.0.1 able 𝓣 known known₂))
+      a.1.1.0.ghost_name a.0 a.1.0.now a.1.1.0.now (task_is a.0 _ are.0) are.1.0.0.1 are.1.1.0.0.1 able 𝓣 known known₂))
 
 this_meets : {M : Type 1} {𝓤 : Ura M} (𝓛 : Logic 𝓤) → (at_mem : Memory → SProp 𝓤) (run : Routine → Fun 𝓤) (𝓣 : Tables 𝓤 𝓛.H)
     → Triple 𝓤 (𝓣.C #pairs·turns) (Turns 𝓛 at_mem run) → Triple 𝓤 (𝓣.C #pairs·advance) (Advance 𝓛 at_mem run)

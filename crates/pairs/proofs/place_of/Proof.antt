@@ -1,7 +1,7 @@
 -- Each case of what was found tells its own place.
 use borrow.Author.Rules.{rules}
-use Rattle.chain.proofs.Rules.{told-refused, told-fine}
-use Rattle.pairs.proofs.Tasks.{place-refused, place-fine}
+use Rattle.chain.proofs.Rules.{told_refused_lem, told_fine}
+use Rattle.pairs.proofs.Tasks.{place_refused, place_fine}
 use Rattle.pairs.proofs.place_of.Statement.{statement}
 use Rattle.pairs.proofs.place_of.Tie as tie
 
@@ -15,10 +15,10 @@ enum_told : tie.Need-enum-told
 enum_told c = search rules
 
 returns : tie.Need-returns
-returns c = place-refused _ _ _ (told-refused _ _ _ _ c.before.before.before.found.ensures c.before.number.given.1)
+returns c = place_refused _ _ _ (told_refused_lem _ _ _ _ c.before.before.before.found.ensures c.before.number.given.1)
 
 returns-2 : tie.Need-returns-2
-returns-2 c = place-fine _ (told-fine _ _ c.before.before.found.ensures c.enum_told.given.1)
+returns-2 c = place_fine _ (told_fine _ _ c.before.before.found.ensures c.enum_told.given.1)
 
 pub place_of_spec : {M : Type 1} → statement M
 place_of_spec = tie.close (tie.spec found-requires enum-known-number enum_told returns returns-2)

@@ -3,7 +3,7 @@ use borrow.Author.Rules.{rules}
 use mathlib.Core.Path.{sym}
 use native.Mathlib.Omega.{arith}
 use lib.ListN.{length}
-use Rattle.chain.proofs.Rules.{told-fine, judging}
+use Rattle.chain.proofs.Rules.{told_fine, judging}
 use Rattle.pairs.specs.Inner.{squarings_in, RunEndAble}
 use Rattle.pairs.proofs.Tasks.{ending}
 use Rattle.pairs.proofs.run_end.Statement.{statement}
@@ -13,10 +13,10 @@ use Rattle.pairs.proofs.run_end.Tie as tie
 able : (e : tie.After-enum-told)
     → let a = e.before.before.before.before.before.before.args in
     RunEndAble a.n (squarings_in a.task) a.outputs.now (length a.values.now) (length a.figures.now)
-able e = e.before.before.before.before.before.before.requires (sym (told-fine _ _ e.before.before.found.ensures e.enum_told.given.1))
+able e = e.before.before.before.before.before.before.requires (sym (told_fine _ _ e.before.before.found.ensures e.enum_told.given.1))
 
-pub run-end_spec : {M : Type 1} → statement M
-run-end_spec =
+pub run_end_spec : {M : Type 1} → statement M
+run_end_spec =
     tie.close
     (tie.spec
     (λ c κs. search rules)
@@ -24,7 +24,7 @@ run-end_spec =
     (λ c. search rules)
     (λ c κs. (able c.before.before).shown)
     (λ c κs. search rules)
-    (λ c κs. omega (arith, (able c.before.before.before.before.before.before).squarings-few, c.squarings.ensures))
+    (λ c κs. omega (arith, (able c.before.before.before.before.before.before).squarings_few, c.squarings.ensures))
     (λ c. search (judging, ending) depth 8)
     (λ c. search rules)
     (λ c. search rules)

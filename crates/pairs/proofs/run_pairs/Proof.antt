@@ -56,9 +56,9 @@ use Rattle.pairs.specs.contracts.Task as K
 use Rattle.pairs.proofs.Task.TheLaws as K'
 use Rattle.pairs.proofs.Calls.{shares, cells_at, Cells, Leaves, calls_lent}
 use Rattle.pairs.proofs.Facts.{three_facts, ends_saying}
-use Rattle.pairs.proofs.Machine.{task_val, task_vals, TaskIs, task_tells, task-told, task-is, task_typed, has-task}
+use Rattle.pairs.proofs.Machine.{task_val, task_vals, TaskIs, task_tells, task_told, task_is, task_typed, has_task}
 use Rattle.pairs.proofs.Passes.{Pass, passes}
-use Rattle.pairs.proofs.Running.{open_able, start_able, multiply_able, end_able, ran-answer, ran-values, ran-figures}
+use Rattle.pairs.proofs.Running.{open_able, start_able, multiply_able, end_able, ran_answer, ran_values, ran_figures}
 use Rattle.pairs.proofs.pass.Symbol as pass-def
 use Rattle.pairs.proofs.pass.Symbol.{name as #pairs·pass}
 use Rattle.pairs.proofs.pass.Met as pass-thm
@@ -238,7 +238,7 @@ module _ {M : Type 1} {𝓤 : Ura M} (𝓛 : Logic 𝓤) (at_mem : Memory → SP
           nothing ! $ owned ! usize (Is usize) (uint_Makes 𝓛 w64) places _ (refl, g₄.0) $ fjoin ! $ move ! (1 ∷ 0 ∷ []) $ fjoin ! $
           move ! (2 ∷ 0 ∷ []) $ fjoin ! $ owned ! u32 (Is u32) (uint_Makes 𝓛 w32) m _ (refl, m-fits) $ fjoin ! $ move ! (1 ∷ 0 ∷ []) $ fjoin ! $
           owned ! usize (Is usize) (uint_Makes 𝓛 w64) (length x.now) _ (refl, g.0) $ fjoin ! $
-          owned ! usize (Is usize) (uint_Makes 𝓛 w64) p _ (refl, p-fits) $ fjoin ! $ has-task ! t is $ fjoin ! $ done !
+          owned ! usize (Is usize) (uint_Makes 𝓛 w64) p _ (refl, p-fits) $ fjoin ! $ has_task ! t is $ fjoin ! $ done !
 
       leaves_start : length l ≡ room → (w : Val) → ent 𝓤 ((Start 𝓛 at_mem run).post to_start w)
           (mean 𝓛 (later (some (λ (t' : Task). some (λ (l' : List ℕ). Leaves 𝓤 ν δ room Back K.the_row Started w t' l')))))
@@ -281,7 +281,7 @@ module _ {M : Type 1} {𝓤 : Ura M} (𝓛 : Logic 𝓤) (at_mem : Memory → SP
         qed 𝓛 (‵ (flft κ₁ q₁) ∷ ‵ (flft κ₃ q₃) ∷ ‵ (flft κ₄ q₄) ∷ Outputs ∷ Values l ∷ Figures ∷ []) ∵ says ! able $
         nothing ! $ move ! (3 ∷ 0 ∷ []) $ join ! $ move ! (2 ∷ 0 ∷ []) $ join ! $ move ! (1 ∷ 0 ∷ []) $ join ! $ frame ! $
         nothing ! $ move ! (3 ∷ 0 ∷ []) $ fjoin ! $ move ! (2 ∷ 0 ∷ []) $ fjoin ! $ move ! (1 ∷ 0 ∷ []) $ fjoin ! $
-        owned ! usize (Is usize) (uint_Makes 𝓛 w64) (length x.now) _ (refl, g.0) $ fjoin ! $ has-task ! t is $ fjoin ! $ done !
+        owned ! usize (Is usize) (uint_Makes 𝓛 w64) (length x.now) _ (refl, g.0) $ fjoin ! $ has_task ! t is $ fjoin ! $ done !
 
     abbrev EndedAs : Ran → List ℕ → List ℕ → Type 0
     EndedAs r l' fs = RunEnded (found_by t) (length x.now) (squarings_in t) x₁.now l l' x₄.now fs (ran_of r)
@@ -325,7 +325,7 @@ module _ {M : Type 1} {𝓤 : Ura M} (𝓛 : Logic 𝓤) (at_mem : Memory → SP
         split ! $ move ! (1 ∷ []) $ use1 𝓛 (raw (fact 𝓤 (Opened t₁))) (said_open t₁) $ heard ! (Opened t₁) (λ opened.
         split ! $ move ! (1 ∷ []) $ peeks ! K.the_row (Is K.the_row) (shows 𝓛 K.the_row) t₁ (w ∷ []) (λ is.
         land ! (from ! (stop !)) (init ! 39 refl ((EL.lawful K.the_type K'.the_laws 𝓛 tt).typed t₁ _ is).0) $
-        rewrite ! 39 (λ (u : Val). ‵ (fat full_share K'.mir b₉ 0 u)) (task-told t₁ w is) refl $ dropᴷ ! $ split ! $ move ! (1 ∷ []) $ dropᴷ ! $
+        rewrite ! 39 (λ (u : Val). ‵ (fat full_share K'.mir b₉ 0 u)) (task_told t₁ w is) refl $ dropᴷ ! $ split ! $ move ! (1 ∷ []) $ dropᴷ ! $
         move ! (2 ∷ 3 ∷ 4 ∷ 5 ∷ 6 ∷ 7 ∷ 1 ∷ 0 ∷ []) $
         -- the steps are judged
         assigns ! (addr ! (from ! (fld ! refl (hop ! (look_in ! 44 (sub ! 0 refl (whole !))) (stop !))))) (from ! (stop !)) (init ! 28 refl (tt, tt)) $
@@ -333,7 +333,7 @@ module _ {M : Type 1} {𝓤 : Ura M} (𝓛 : Logic 𝓤) (at_mem : Memory → SP
         (and_then ! (load ! (from ! (fld ! refl (stop !))) (look_in ! 44 (sub ! 1 refl (whole !)))) (no_more !)))) (from ! (stop !))
         (init ! 26 refl (tt, (tt, (record { fits = g₃.0 }, tt)))) $
         move ! (2 ∷ []) $ shares ! (named 0) κ R x (vx ∷ []) $ move ! (4 ∷ 0 ∷ []) $ join ! $ move ! (2 ∷ 3 ∷ 0 ∷ []) $
-        passes 𝓛 at_mem run κ q x t₁ x₃.ref_ptr room x₃.now ! fm known (named 3) κ₃ q₃ x₃.ghost_name refl g₃ (task-is t₁ w is)
+        passes 𝓛 at_mem run κ q x t₁ x₃.ref_ptr room x₃.now ! fm known (named 3) κ₃ q₃ x₃.ghost_name refl g₃ (task_is t₁ w is)
         (open_able p x.now x₁.now m x₂.now x₃.now places t₁ opened room)
         (λ ν δ. (and_then ! (load ! (from ! (stop !)) (look ! 37 refl)) (and_then ! (load ! (from ! (stop !)) (look ! 51 refl)) (and_then ! (load !
         (from ! (stop !)) (look ! 25 refl)) (no_more !))))) (λ t₂ l₂ is₂ len₂ gone.
@@ -355,7 +355,7 @@ module _ {M : Type 1} {𝓤 : Ura M} (𝓛 : Logic 𝓤) (at_mem : Memory → SP
         (from ! (stop !)) (look ! 38 refl)) (and_then ! (load ! (from ! (stop !)) (look ! 48 refl)) (and_then ! (load ! (from ! (stop !)) (look ! 46 refl))
         (and_then ! (load ! (from ! (stop !)) (look ! 44 refl)) (and_then ! (load ! (from ! (stop !)) (look ! 20 refl)) (and_then ! (load !
         (from ! (stop !)) (look ! 28 refl)) (no_more !)))))))))) (λ t₃ l₃ is₃ len₃ begun.
-        land ! (from ! (stop !)) (init ! 33 refl (task_typed 𝓛 t₃ (task-is t₃ _ is₃))) $
+        land ! (from ! (stop !)) (init ! 33 refl (task_typed 𝓛 t₃ (task_is t₃ _ is₃))) $
         move ! (2 ∷ []) $ split ! $ move ! (2 ∷ 3 ∷ 6 ∷ 7 ∷ 5 ∷ 0 ∷ 4 ∷ 1 ∷ []) $
         -- the steps are multiplied
         assigns ! (addr ! (from ! (fld ! refl (hop ! (look_in ! 44 (sub ! 0 refl (whole !))) (stop !))))) (from ! (stop !)) (init ! 20 refl (tt, tt)) $
@@ -363,7 +363,7 @@ module _ {M : Type 1} {𝓤 : Ura M} (𝓛 : Logic 𝓤) (at_mem : Memory → SP
         (and_then ! (load ! (from ! (fld ! refl (stop !))) (look_in ! 44 (sub ! 1 refl (whole !)))) (no_more !)))) (from ! (stop !))
         (init ! 18 refl (tt, (tt, (record { fits = g₃.0 }, tt)))) $
         move ! (2 ∷ []) $ shares ! (named 0) κ R x (vx ∷ []) $ move ! (4 ∷ 0 ∷ []) $ join ! $ move ! (2 ∷ 3 ∷ 0 ∷ []) $
-        passes 𝓛 at_mem run κ q x t₃ x₃.ptr room l₃ ! fm known (named 3) κ₃ q₃ x₃.name len₃ g₃ (task-is t₃ _ is₃)
+        passes 𝓛 at_mem run κ q x t₃ x₃.ptr room l₃ ! fm known (named 3) κ₃ q₃ x₃.name len₃ g₃ (task_is t₃ _ is₃)
         (multiply_able p x.now x₁.now m x₂.now x₃.now places t₁ opened t₂ l₂ gone t₃ l₃ begun len₃)
         (λ ν δ. (and_then ! (load ! (from ! (stop !)) (look ! 33 refl)) (and_then ! (load ! (from ! (stop !)) (look ! 51 refl)) (and_then ! (load !
         (from ! (stop !)) (look ! 17 refl)) (no_more !))))) (λ t₄ l₄ is₄ len₄ gone'.
@@ -410,9 +410,9 @@ module _ {M : Type 1} {𝓤 : Ura M} (𝓛 : Logic 𝓤) (at_mem : Memory → SP
         -- [the result; the tokens; the figures' last list; true; the values'; steps'; κ's token; bases'; κ₂'s]
         move ! (1 ∷ []) $ split ! $ move ! (1 ∷ []) $ split ! $ move ! (1 ∷ []) $ split ! $
         keep ! (9 ∷ 3 ∷ 11 ∷ 2 ∷ 0 ∷ 7 ∷ 5 ∷ 4 ∷ []) $ by ! (exits w₅ r ws.1.1.1.0 ws.1.1.1.1.0
-        (ran-answer p x.now x₁.now m x₂.now x₃.now places t₁ opened t₂ l₂ gone t₃ l₃ begun len₃ t₄ l₄ gone' x₄.now ws.1.1.1.1.0 ws.1.1.1.0 (ran_of r) refl e)
-        (ran-values p x.now x₁.now m x₂.now x₃.now places t₁ opened t₂ l₂ gone t₃ l₃ begun len₃ t₄ l₄ gone' x₄.now ws.1.1.1.1.0 ws.1.1.1.0 (ran_of r) refl e)
-        (ran-figures p x.now x₁.now m x₂.now x₃.now places t₁ opened t₂ l₂ gone t₃ l₃ begun len₃ t₄ l₄ gone' x₄.now ws.1.1.1.1.0 ws.1.1.1.0 (ran_of r) refl e)
+        (ran_answer p x.now x₁.now m x₂.now x₃.now places t₁ opened t₂ l₂ gone t₃ l₃ begun len₃ t₄ l₄ gone' x₄.now ws.1.1.1.1.0 ws.1.1.1.0 (ran_of r) refl e)
+        (ran_values p x.now x₁.now m x₂.now x₃.now places t₁ opened t₂ l₂ gone t₃ l₃ begun len₃ t₄ l₄ gone' x₄.now ws.1.1.1.1.0 ws.1.1.1.0 (ran_of r) refl e)
+        (ran_figures p x.now x₁.now m x₂.now x₃.now places t₁ opened t₂ l₂ gone t₃ l₃ begun len₃ t₄ l₄ gone' x₄.now ws.1.1.1.1.0 ws.1.1.1.0 (ran_of r) refl e)
         (len₅ ∙ len₄) len₆)))))))))))))))))))))))))))))))))))))))
 
 module _ {M : Type 1} {𝓤 : Ura M} (𝓛 : Logic 𝓤) (at_mem : Memory → SProp 𝓤) (run : Routine → Fun 𝓤) (𝓣 : Tables 𝓤 𝓛.H)
@@ -472,9 +472,9 @@ this_meets {𝓤 = 𝓤} 𝓛 at_mem run 𝓣 known known₁ known₂ known₃ =
     (this.clauses 𝓛 at_mem run) (WpFn 𝓤 𝓛.H 𝓣.C 𝓣.Λ code.function) (WpFn-mono 𝓤 𝓛.H 𝓛.laws 𝓣 code.function)
     (this_walks 𝓛 at_mem run 𝓣 known known₁ known₂ known₃)
 
-pub run-pairs_spec : {M : Type 1} → stated.statement M
+pub run_pairs_spec : {M : Type 1} → stated.statement M
 unfolding code.routine tables_of
-run-pairs_spec 𝓤 𝓛 𝓜 𝓡 =
+run_pairs_spec 𝓤 𝓛 𝓜 𝓡 =
     entered 𝓤 𝓛.H (triple_of 𝓛 this.signature (this.spec 𝓛 𝓜.mem 𝓡.run))
     (tables 𝓤 𝓛.H 𝓜 𝓡 code.env).C (tables 𝓤 𝓛.H 𝓜 𝓡 code.env).Λ #pairs·run-pairs code.function (code.unfolded 𝓤 𝓛.H 𝓜 𝓡)
     (this_meets 𝓛 𝓜.mem 𝓡.run (tables_of 𝓤 𝓛.H 𝓜 (tables 𝓤 𝓛.H 𝓜 𝓡 code.env))

@@ -3,7 +3,7 @@ use borrow.Author.Rules.{rules}
 use mathlib.Core.Path.{◌≡◌, sym, ◌∙◌}
 use native.Mathlib.Omega.{arith}
 use Rattle.chain.specs.Verdict.{fine}
-use Rattle.chain.proofs.Rules.{pass, then_fine, told-fine, told-refused, told-after, judging}
+use Rattle.chain.proofs.Rules.{pass, then_fine, told_fine, told_refused_lem, told_after, judging}
 use Rattle.rest.proofs.Rest.{ended}
 use Rattle.pairs.specs.Inner.{RunAble, found_by}
 use Rattle.pairs.proofs.Tasks.{start_refused, start_fine, starting}
@@ -12,7 +12,7 @@ use Rattle.pairs.proofs.run_start.Tie as tie
 
 -- nothing was found before
 found_none : (e : tie.After-enum-told) → fine ≡ found_by e.before.before.before.before.before.before.args.task
-found_none e = told-fine _ _ e.before.before.found.ensures e.enum_told.given.1
+found_none e = told_fine _ _ e.before.before.found.ensures e.enum_told.given.1
 
 -- and so the run's arguments are as they should be
 able : (e : tie.After-enum-told)
@@ -45,9 +45,9 @@ start-requires : tie.Need-start-requires
 start-requires c κs =
     let f = c.before.before.before in
     let a = able f.before.before in
-    let fine-both = then_fine _ _ (sym (told-fine _ _ f.judge-figures.ensures c.before.enum-told2.given.1)) in
+    let fine-both = then_fine _ _ (sym (told_fine _ _ f.judge-figures.ensures c.before.enum-told2.given.1)) in
     let fits = (ended _ _ _ _ (sym f.before.judge-end.ensures ∙ fine-both.0)).cells_fit in
-    (a.modulus, omega (arith, a.bases-are-p))
+    (a.modulus, omega (arith, a.bases_are_p))
 
 squarings-requires : tie.Need-squarings-requires
 squarings-requires c κs = search rules
@@ -62,8 +62,8 @@ returns-2 : tie.Need-returns-2
 returns-2 c =
     let f = c.before.before.before in
     let n = found_none f.before.before in
-    let told = told-after _ _ _ _ f.before.judge-end.ensures f.judge-figures.ensures in
-    start_refused _ _ _ _ _ _ _ _ (pass _ _ _ n (told-refused _ _ _ _ told c.before.number2.given.1))
+    let told = told_after _ _ _ _ f.before.judge-end.ensures f.judge-figures.ensures in
+    start_refused _ _ _ _ _ _ _ _ (pass _ _ _ n (told_refused_lem _ _ _ _ told c.before.number2.given.1))
 
 same_length : tie.Need-same-length
 same_length c = search rules
@@ -73,8 +73,8 @@ returns-3 c =
     let e = c.before.before.before.before.before.before in
     let f = e.before.before in
     let n = found_none f.before.before in
-    let told = told-after _ _ _ _ f.before.judge-end.ensures f.judge-figures.ensures in
-    start_fine _ _ _ _ _ _ _ _ _ (pass _ _ _ n (told-fine _ _ told e.enum-told2.given.1)) (search rules) (search rules) (search rules)
+    let told = told_after _ _ _ _ f.before.judge-end.ensures f.judge-figures.ensures in
+    start_fine _ _ _ _ _ _ _ _ _ (pass _ _ _ n (told_fine _ _ told e.enum-told2.given.1)) (search rules) (search rules) (search rules)
 
 pub run_start_spec : {M : Type 1} → statement M
 run_start_spec =

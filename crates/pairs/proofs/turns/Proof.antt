@@ -1,6 +1,6 @@
 -- Each case of what was found gives its own number.
 use borrow.Author.Rules.{rules}
-use Rattle.chain.proofs.Rules.{told-refused, judging}
+use Rattle.chain.proofs.Rules.{told_refused_lem, judging}
 use Rattle.pairs.proofs.Tasks.{no_turns, turning}
 use Rattle.pairs.proofs.turns.Statement.{statement}
 use Rattle.pairs.proofs.turns.Tie as tie
@@ -15,7 +15,7 @@ enum_told : tie.Need-enum-told
 enum_told c = search rules
 
 returns : tie.Need-returns
-returns c = no_turns _ _ _ _ (told-refused _ _ _ _ c.before.before.before.found.ensures c.before.number.given.1)
+returns c = no_turns _ _ _ _ (told_refused_lem _ _ _ _ c.before.before.before.found.ensures c.before.number.given.1)
 
 returns-2 : tie.Need-returns-2
 returns-2 c = search (judging, turning)

@@ -71,12 +71,12 @@ use Rattle.pairs.specs.declared.Task.TheVariants.{Judging, Adding}
 use Rattle.pairs.specs.contracts.Task as K
 use Rattle.pairs.proofs.Task.TheLaws as K'
 use Rattle.pairs.proofs.Calls.{shares, cells_at, Cells, Leaves, calls_lent}
-use Rattle.pairs.proofs.Checking.{Standing, stands_none, open_able, scratch-same, start_able, turn_below, column-room, comparable, add_able, stands_next, end_able}
-use Rattle.pairs.proofs.Checking.{checked-answer, checked-scratch}
+use Rattle.pairs.proofs.Checking.{Standing, stands_none, open_able, scratch_same, start_able, turn_below, column_room, comparable, add_able, stands_next, end_able}
+use Rattle.pairs.proofs.Checking.{checked_answer, checked_scratch}
 use Rattle.pairs.proofs.Counts.{Turns, to_turns, asks_turns, said_turns}
 use Rattle.pairs.proofs.Facts.{two_facts, ends_saying}
-use Rattle.pairs.proofs.Machine.{task_val, task_vals, TaskIs, task_tells, task-told, task-is, task_typed, has-task}
-use Rattle.pairs.proofs.Machine.{found_val, found_vals, FoundIs, found_tells, found-is, none_is, found_typed, has-found}
+use Rattle.pairs.proofs.Machine.{task_val, task_vals, TaskIs, task_tells, task_told, task_is, task_typed, has_task}
+use Rattle.pairs.proofs.Machine.{found_val, found_vals, FoundIs, found_tells, found_is, none_is, found_typed, has_found}
 use Rattle.pairs.proofs.Passes.{Pass, Gone, Steps, passes}
 use Rattle.pairs.proofs.pass.Symbol as pass-def
 use Rattle.pairs.proofs.pass.Symbol.{name as #pairs·pass}
@@ -268,7 +268,7 @@ module _ {M : Type 1} {𝓤 : Ura M} (𝓛 : Logic 𝓤) (at_mem : Memory → SP
         qed 𝓛 (‵ (flft κ₁ q₁) ∷ Outputs ∷ []) ∵ says ! able $ nothing ! $ move ! (1 ∷ 0 ∷ []) $ join ! $ frame ! $
         nothing ! $ owned ! usize (Is usize) (uint_Makes 𝓛 w64) room _ (refl, g₃.0) $ fjoin ! $ move ! (1 ∷ 0 ∷ []) $ fjoin ! $
         owned ! usize (Is usize) (uint_Makes 𝓛 w64) (length x.now) _ (refl, g.0) $ fjoin ! $
-        owned ! usize (Is usize) (uint_Makes 𝓛 w64) p _ (refl, p-fits) $ fjoin ! $ has-task ! t is $ fjoin ! $ done !
+        owned ! usize (Is usize) (uint_Makes 𝓛 w64) p _ (refl, p-fits) $ fjoin ! $ has_task ! t is $ fjoin ! $ done !
 
     abbrev Started : Task → Type 0
     Started t' = t' ≡ unless (found_by t then end_rule p (length x.now) x₁.now room) (Adding p (squarings_in t))
@@ -347,7 +347,7 @@ module _ {M : Type 1} {𝓤 : Ura M} (𝓛 : Logic 𝓤) (at_mem : Memory → SP
           -- [the scratch; outputs'; amounts']
           nothing ! $ move ! (1 ∷ 0 ∷ []) $ fjoin ! $ move ! (2 ∷ 0 ∷ []) $ fjoin ! $ move ! (1 ∷ 0 ∷ []) $ fjoin ! $
           owned ! usize (Is usize) (uint_Makes 𝓛 w64) c _ (refl, c_fits) $ fjoin ! $
-          owned ! usize (Is usize) (uint_Makes 𝓛 w64) p _ (refl, p-fits) $ fjoin ! $ has-task ! t is $ fjoin ! $ has-found ! f f-is $ fjoin ! $ done !
+          owned ! usize (Is usize) (uint_Makes 𝓛 w64) p _ (refl, p-fits) $ fjoin ! $ has_task ! t is $ fjoin ! $ has_found ! f f-is $ fjoin ! $ done !
 
       leaves_take : length l ≡ room → (w : Val) → ent 𝓤 ((Take 𝓛 at_mem run).post to_take w)
           (mean 𝓛 (later (some (λ (f' : Found). some (λ (l' : List ℕ). Leaves 𝓤 ν δ room Back F.the_row Taken w f' l')))))
@@ -383,7 +383,7 @@ module _ {M : Type 1} {𝓤 : Ura M} (𝓛 : Logic 𝓤) (at_mem : Memory → SP
     asks_end is f-is able =
         qed 𝓛 (‵ (flft κ₃ q₃) ∷ Scratch l ∷ []) ∵ says ! able $ nothing ! $ move ! (1 ∷ 0 ∷ []) $ join ! $ frame ! $
         nothing ! $ move ! (1 ∷ 0 ∷ []) $ fjoin ! $ owned ! usize (Is usize) (uint_Makes 𝓛 w64) (length x.now) _ (refl, g.0) $ fjoin ! $
-        owned ! usize (Is usize) (uint_Makes 𝓛 w64) p _ (refl, p-fits) $ fjoin ! $ has-found ! f f-is $ fjoin ! $ has-task ! t is $ fjoin ! $ done !
+        owned ! usize (Is usize) (uint_Makes 𝓛 w64) p _ (refl, p-fits) $ fjoin ! $ has_found ! f f-is $ fjoin ! $ has_task ! t is $ fjoin ! $ done !
 
     abbrev EndedAs : Verified → List ℕ → Type 0
     EndedAs r l' = CheckEnded (found_by t) f (length x.now) (squarings_in t) (p + length x.now + 1) l l' (verified_of r)
@@ -470,14 +470,14 @@ module _ {M : Type 1} {𝓤 : Ura M} (𝓛 : Logic 𝓤) (at_mem : Memory → SP
           (to_begin c l) (‵ ftrue) (‵ ftrue) (Begun c l) (λ ν δ. asks_begin c l ν δ c_fits below fits) (λ ν δ. leaves_begin c l ν δ len)
           (λ ν δ. (and_then ! (load ! (from ! (stop !)) (look ! 58 refl)) (and_then ! (load ! (from ! (stop !)) (look ! 36 refl)) (and_then ! (load !
           (from ! (stop !)) (look ! 20 refl)) (no_more !))))) (λ t l' is len' begun.
-          land ! (from ! (stop !)) (init ! 35 refl (task_typed 𝓛 t (task-is t _ is))) $ move ! (2 ∷ []) $ dropᴷ ! $
+          land ! (from ! (stop !)) (init ! 35 refl (task_typed 𝓛 t (task_is t _ is))) $ move ! (2 ∷ []) $ dropᴷ ! $
           -- the steps are added
           assigns ! (addr ! (from ! (fld ! refl (hop ! (look_in ! 50 (sub ! 0 refl (whole !))) (stop !))))) (from ! (stop !)) (init ! 18 refl (tt, tt)) $
           assigns ! (agg ! (and_then ! (load ! (from ! (stop !)) (look ! 18 refl))
           (and_then ! (load ! (from ! (fld ! refl (stop !))) (look_in ! 50 (sub ! 1 refl (whole !)))) (no_more !)))) (from ! (stop !))
           (init ! 16 refl (tt, (tt, (record { fits = g₃.0 }, tt)))) $
           move ! (2 ∷ []) $ shares ! (named 0) κ R x (vx ∷ []) $ move ! (4 ∷ 0 ∷ []) $ join ! $ move ! (2 ∷ 3 ∷ 0 ∷ []) $
-          passes 𝓛 at_mem run κ q x t x₃.ptr room l' ! (fm_of 𝓤 H 𝓛.laws 𝓣) known (named 3) κ₃ q₃ x₃.name len' g₃ (task-is t _ is) (able t l' begun len')
+          passes 𝓛 at_mem run κ q x t x₃.ptr room l' ! (fm_of 𝓤 H 𝓛.laws 𝓣) known (named 3) κ₃ q₃ x₃.name len' g₃ (task_is t _ is) (able t l' begun len')
           (λ ν δ. (and_then ! (load ! (from ! (stop !)) (look ! 33 refl)) (and_then ! (load ! (from ! (stop !)) (look ! 55 refl)) (and_then ! (load !
           (from ! (stop !)) (look ! 15 refl)) (no_more !))))) (λ t' l'' is' len'' passed.
           land ! (from ! (stop !)) (init ! 32 refl (task_typed 𝓛 t' is')) $ move ! (0 ∷ 1 ∷ 3 ∷ 2 ∷ []) $
@@ -495,12 +495,12 @@ module _ {M : Type 1} {𝓤 : Ura M} (𝓛 : Logic 𝓤) (at_mem : Memory → SP
           (from ! (stop !)) (look ! 56 refl)) (and_then ! (load ! (from ! (stop !)) (look ! 34 refl)) (and_then ! (load ! (from ! (stop !)) (look ! 52 refl))
           (and_then ! (load ! (from ! (stop !)) (look ! 50 refl)) (and_then ! (load !
           (from ! (stop !)) (look ! 10 refl)) (no_more !))))))))) (λ f' l''' f-is len''' taken.
-          land ! (from ! (stop !)) (store ! 37 refl (found_typed 𝓛 f' (found-is f' f-is))) $
+          land ! (from ! (stop !)) (store ! 37 refl (found_typed 𝓛 f' (found_is f' f-is))) $
           move ! (2 ∷ []) $ split ! $ move ! (2 ∷ 3 ∷ 6 ∷ 7 ∷ 5 ∷ 0 ∷ 4 ∷ 1 ∷ []) $
           assigns_last ! (bin ! (load ! (from ! (stop !)) (look ! 36 refl)) (lit ! tt) (record { fits = next_c })) (from ! (stop !))
           (store ! 36 refl (tt, record { fits = next_c })) $
           forget ! 34 refl $ forget ! 32 refl $ forget ! 24 refl $ forget ! 22 refl $ forget ! 20 refl $ forget ! 18 refl $ forget ! 16 refl $ forget ! 14 refl $ forget ! 12 refl $
-          again ! Nearer At u (next t l' begun t' l'' passed f' l''' (found-is f' f-is) len''' taken) falls)))
+          again ! Nearer At u (next t l' begun t' l'' passed f' l''' (found_is f' f-is) len''' taken) falls)))
         where
           c : ℕ
           c = u.at
@@ -527,7 +527,7 @@ module _ {M : Type 1} {𝓤 : Ura M} (𝓛 : Logic 𝓤) (at_mem : Memory → SP
           below = turn_below p x.now x₁.now x₂.now x₃.now t₁ opened t₂ l₂ gone t₃ started k count c less
 
           fits : p < length l
-          fits = column-room p x.now x₁.now x₂.now x₃.now t₁ opened t₂ l₂ gone t₃ started k count c less f l len
+          fits = column_room p x.now x₁.now x₂.now x₃.now t₁ opened t₂ l₂ gone t₃ started k count c less f l len
 
           able : (t : Task) (l' : List ℕ) → Begun c l t l' → length l' ≡ room → Able t 0 x.now (length l')
           able = add_able p x.now x₁.now x₂.now x₃.now t₁ opened t₂ l₂ gone t₃ started k count c less f l len
@@ -594,9 +594,9 @@ module _ {M : Type 1} {𝓤 : Ura M} (𝓛 : Logic 𝓤) (at_mem : Memory → SP
           move ! (12 ∷ 13 ∷ []) $ free1 ! $ move ! (10 ∷ 11 ∷ []) $ free1 ! $ free0 ! $
           -- [the result; κ₃'s token; the last list; true; steps'; κ's token; outputs'; κ₁'s; amounts'; κ₂'s]
           move ! (1 ∷ []) $ split ! $ keep ! (6 ∷ 8 ∷ 10 ∷ 0 ∷ 3 ∷ 2 ∷ []) $ by ! (exits w r ws.1.1.1.1.0
-          (checked-answer p x.now x₁.now x₂.now x₃.now t₁ opened t₂ l₂ gone t₃ started k count u.at all u.found u.cells u.long u.stands
+          (checked_answer p x.now x₁.now x₂.now x₃.now t₁ opened t₂ l₂ gone t₃ started k count u.at all u.found u.cells u.long u.stands
           ws.1.1.1.1.0 (verified_of r) e)
-          (checked-scratch p x.now x₁.now x₂.now x₃.now t₁ opened t₂ l₂ gone t₃ started k count u.at all u.found u.cells u.long u.stands
+          (checked_scratch p x.now x₁.now x₂.now x₃.now t₁ opened t₂ l₂ gone t₃ started k count u.at all u.found u.cells u.long u.stands
           ws.1.1.1.1.0 (verified_of r) e)
           (len ∙ u.long))))))))
         where
@@ -646,7 +646,7 @@ module _ {M : Type 1} {𝓤 : Ura M} (𝓛 : Logic 𝓤) (at_mem : Memory → SP
       split ! $ move ! (1 ∷ []) $ use1 𝓛 (raw (fact 𝓤 (Opened t₁))) (said_open t₁) $ heard ! (Opened t₁) (λ opened.
       split ! $ move ! (1 ∷ []) $ peeks ! K.the_row (Is K.the_row) (shows 𝓛 K.the_row) t₁ (w ∷ []) (λ is.
       land ! (from ! (stop !)) (init ! 47 refl ((EL.lawful K.the_type K'.the_laws 𝓛 tt).typed t₁ _ is).0) $
-      rewrite ! 47 (λ (u : Val). ‵ (fat full_share task b₇ 0 u)) (task-told t₁ w is) refl $ dropᴷ ! $ split ! $ move ! (1 ∷ []) $ dropᴷ ! $
+      rewrite ! 47 (λ (u : Val). ‵ (fat full_share task b₇ 0 u)) (task_told t₁ w is) refl $ dropᴷ ! $ split ! $ move ! (1 ∷ []) $ dropᴷ ! $
       move ! (2 ∷ 3 ∷ 4 ∷ 5 ∷ 6 ∷ 7 ∷ 1 ∷ 0 ∷ []) $
       -- the steps are judged
       assigns ! (addr ! (from ! (fld ! refl (hop ! (look_in ! 50 (sub ! 0 refl (whole !))) (stop !))))) (from ! (stop !)) (init ! 28 refl (tt, tt)) $
@@ -654,12 +654,12 @@ module _ {M : Type 1} {𝓤 : Ura M} (𝓛 : Logic 𝓤) (at_mem : Memory → SP
       (and_then ! (load ! (from ! (fld ! refl (stop !))) (look_in ! 50 (sub ! 1 refl (whole !)))) (no_more !)))) (from ! (stop !))
       (init ! 26 refl (tt, (tt, (record { fits = g₃.0 }, tt)))) $
       move ! (2 ∷ []) $ shares ! (named 0) κ R x (vx ∷ []) $ move ! (4 ∷ 0 ∷ []) $ join ! $ move ! (2 ∷ 3 ∷ 0 ∷ []) $
-      passes 𝓛 at_mem run κ q x t₁ x₃.ref_ptr room x₃.now ! (fm_of 𝓤 H 𝓛.laws 𝓣) known (named 3) κ₃ q₃ x₃.ghost_name refl g₃ (task-is t₁ w is)
+      passes 𝓛 at_mem run κ q x t₁ x₃.ref_ptr room x₃.now ! (fm_of 𝓤 H 𝓛.laws 𝓣) known (named 3) κ₃ q₃ x₃.ghost_name refl g₃ (task_is t₁ w is)
       (open_able p x.now x₁.now x₂.now x₃.now t₁ opened room)
       (λ ν δ. (and_then ! (load ! (from ! (stop !)) (look ! 45 refl)) (and_then ! (load ! (from ! (stop !)) (look ! 55 refl)) (and_then ! (load !
       (from ! (stop !)) (look ! 25 refl)) (no_more !))))) (λ t₂ l₂ is₂ len₂ gone.
       land ! (from ! (stop !)) (init ! 44 refl (task_typed 𝓛 t₂ is₂)) $ move ! (0 ∷ 1 ∷ 3 ∷ 2 ∷ []) $
-      rewrite ! 0 (λ (l : List ℕ). Scratch l) (scratch-same p x.now x₁.now x₂.now x₃.now t₁ opened t₂ l₂ gone) refl $
+      rewrite ! 0 (λ (l : List ℕ). Scratch l) (scratch_same p x.now x₁.now x₂.now x₃.now t₁ opened t₂ l₂ gone) refl $
       -- 12, 5
       assigns ! (of_opd ! (load ! (from ! (fld ! refl (stop !))) (look_in ! 50 (sub ! 1 refl (whole !)))))
       (from ! (stop !)) (store ! 30 refl (tt, record { fits = g₃.0 })) $
@@ -675,10 +675,10 @@ module _ {M : Type 1} {𝓤 : Ura M} (𝓛 : Logic 𝓤) (at_mem : Memory → SP
       split ! $ move ! (1 ∷ []) $ use1 𝓛 (raw (fact 𝓤 (Started t₂ t₃))) (said_start t₂ t₃) $ heard ! (Started t₂ t₃) (λ started.
       split ! $ move ! (1 ∷ []) $ peeks ! K.the_row (Is K.the_row) (shows 𝓛 K.the_row) t₃ (w₃ ∷ []) (λ is₃.
       land ! (from ! (stop !)) (init ! 43 refl ((EL.lawful K.the_type K'.the_laws 𝓛 tt).typed t₃ _ is₃).0) $
-      rewrite ! 43 (λ (u : Val). ‵ (fat full_share task b₉ 0 u)) (task-told t₃ w₃ is₃) refl $ dropᴷ ! $ split ! $ move ! (1 ∷ []) $ dropᴷ ! $
+      rewrite ! 43 (λ (u : Val). ‵ (fat full_share task b₉ 0 u)) (task_told t₃ w₃ is₃) refl $ dropᴷ ! $ split ! $ move ! (1 ∷ []) $ dropᴷ ! $
       move ! (2 ∷ 3 ∷ 4 ∷ 5 ∷ 1 ∷ 0 ∷ []) $
       -- how many columns are to be held
-      use0 𝓛 (raw ((Turns 𝓛 at_mem run).pre (to_turns 𝓛 at_mem run t₃ p))) (asks_turns 𝓛 at_mem run t₃ p (task-is t₃ w₃ is₃) p-fits) $
+      use0 𝓛 (raw ((Turns 𝓛 at_mem run).pre (to_turns 𝓛 at_mem run t₃ p))) (asks_turns 𝓛 at_mem run t₃ p (task_is t₃ w₃ is₃) p-fits) $
       calls_at ! (fm_of 𝓤 H 𝓛.laws 𝓣) (Turns 𝓛 at_mem run) known-turns (to_turns 𝓛 at_mem run t₃ p)
       (and_then ! (load ! (from ! (stop !)) (look ! 43 refl)) (and_then ! (load ! (from ! (stop !)) (look ! 59 refl)) (no_more !))) (λ w₄.
       use1 𝓛 (later (some (λ (r : ℕ). (‵ ftrue ⊛ ‵ (usize.own_val r (w₄ ∷ []))) ⊛ raw (ensured 𝓛 turns.ended (turns.clauses 𝓛 at_mem run) tt
@@ -692,13 +692,13 @@ module _ {M : Type 1} {𝓤 : Ura M} (𝓛 : Logic 𝓤) (at_mem : Memory → SP
       (init ! 38 refl (found_typed 𝓛 (record { large = 0; other = 0 }) none_is)) $
       assigns ! (of_opd ! (lit ! tt)) (from ! (stop !)) (init ! 36 refl (tt, record { fits = lit< tt })) $
       forget ! 46 refl $ forget ! 44 refl $ forget ! 30 refl $ forget ! 28 refl $ forget ! 26 refl $
-      first ! $ blocks ! $ loops ! 𝓣 (Nearer t₁ opened t₂ l₂ gone t₃ (task-is t₃ w₃ is₃) started k is₄.1 count)
-      (Nearer_wf t₁ opened t₂ l₂ gone t₃ (task-is t₃ w₃ is₃) started k is₄.1 count)
-      (At t₁ opened t₂ l₂ gone t₃ (task-is t₃ w₃ is₃) started k is₄.1 count 𝓣 known known₁ known₂ known₃
+      first ! $ blocks ! $ loops ! 𝓣 (Nearer t₁ opened t₂ l₂ gone t₃ (task_is t₃ w₃ is₃) started k is₄.1 count)
+      (Nearer_wf t₁ opened t₂ l₂ gone t₃ (task_is t₃ w₃ is₃) started k is₄.1 count)
+      (At t₁ opened t₂ l₂ gone t₃ (task_is t₃ w₃ is₃) started k is₄.1 count 𝓣 known known₁ known₂ known₃
       b₀ b₁ b₂ b₃ b₄ b₅ b₆ b₇ b₈ b₉ b₁₀ b₁₁ b₁₂ b₁₃ b₁₄ b₁₅ b₁₆ b₁₇ b₁₈ b₁₉ b₂₀ b₂₁ b₂₂ b₂₃ b₂₄ b₂₅ b₂₆)
-      (columns_turn t₁ opened t₂ l₂ gone t₃ (task-is t₃ w₃ is₃) started k is₄.1 count 𝓣 known known₁ known₂ known₃
+      (columns_turn t₁ opened t₂ l₂ gone t₃ (task_is t₃ w₃ is₃) started k is₄.1 count 𝓣 known known₁ known₂ known₃
       b₀ b₁ b₂ b₃ b₄ b₅ b₆ b₇ b₈ b₉ b₁₀ b₁₁ b₁₂ b₁₃ b₁₄ b₁₅ b₁₆ b₁₇ b₁₈ b₁₉ b₂₀ b₂₁ b₂₂ b₂₃ b₂₄ b₂₅ b₂₆)
-      (no_column t₁ opened t₂ l₂ gone t₃ (task-is t₃ w₃ is₃) started k is₄.1 count)))))))))))))))))))))))))))))))))))))))))
+      (no_column t₁ opened t₂ l₂ gone t₃ (task_is t₃ w₃ is₃) started k is₄.1 count)))))))))))))))))))))))))))))))))))))))))
 
 module _ {M : Type 1} {𝓤 : Ura M} (𝓛 : Logic 𝓤) (at_mem : Memory → SProp 𝓤) (run : Routine → Fun 𝓤) (𝓣 : Tables 𝓤 𝓛.H)
     (known : Triple 𝓤 (𝓣.C #pairs·pass) (Pass 𝓛 at_mem run)) (known-turns : Triple 𝓤 (𝓣.C #pairs·turns) (Turns 𝓛 at_mem run))

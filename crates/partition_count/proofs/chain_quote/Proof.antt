@@ -1,7 +1,7 @@
 -- Squarings, tables and payslips of the grouping add up to the count, and with a part of every group for each payslip to the ceiling; each number is small.
 use borrow.Author.Rules.{rules}
 use native.Mathlib.Omega.{arith}
-use Rattle.partition_count.proofs.Joining.{most-fits, quote_all}
+use Rattle.partition_count.proofs.Joining.{most_fits, quote_all}
 use Rattle.partition_count.proofs.chain_quote.Statement.{statement}
 use Rattle.partition_count.proofs.chain_quote.Tie as tie
 
@@ -27,7 +27,7 @@ mul-ceiling : tie.Need-overflow-mul-ceiling
 mul-ceiling c =
     let most = c.before in
     let s = most.before.before.before.before.before.before.before.before in
-    omega (arith, most-fits s.args.s s.args.amounts.now s.args.bits.now s.requires _ most.lessened.ensures)
+    omega (arith, most_fits s.args.s s.args.amounts.now s.args.bits.now s.requires _ most.lessened.ensures)
 
 add-ceiling : tie.Need-overflow-add-ceiling
 add-ceiling c =
@@ -36,9 +36,9 @@ add-ceiling c =
     let s = tabled.before.before.before in
     omega (
       arith,
-      most-fits s.args.s s.args.amounts.now s.args.bits.now s.requires _ most.lessened.ensures,
+      most_fits s.args.s s.args.amounts.now s.args.bits.now s.requires _ most.lessened.ensures,
       tabled.tables-count.ensures.low,
-      s.requires.cuts.squarings-few,
+      s.requires.cuts.squarings_few,
     )
 
 returns : tie.Need-returns

@@ -1,7 +1,7 @@
 -- The cells hold the numbers of the payslip's parts, so their signs count its nonempty parts.
 use borrow.Author.Rules.{rules}
 use native.Mathlib.Omega.{arith}
-use Rattle.groups.proofs.Measured.{numbers-long}
+use Rattle.groups.proofs.Measured.{numbers_long}
 use Rattle.partition_count.proofs.Joining.{joins_told}
 use Rattle.partition_count.proofs.payslip_count.Statement.{statement}
 use Rattle.partition_count.proofs.payslip_count.Tie as tie
@@ -16,13 +16,13 @@ slice-aggregate-joins : tie.Need-slice-aggregate-joins
 slice-aggregate-joins c =
     let numbered = c.before.before.before in
     let a = numbered.before.before.before.before.before.args in
-    numbers-long a.s a.amounts.now a.i _ _ numbered.number-parts.ensures
+    numbers_long a.s a.amounts.now a.i _ _ numbered.number-parts.ensures
 
 joins-requires : tie.Need-joins-requires
 joins-requires c κs =
     let numbered = c.before.before.before in
     let s = numbered.before.before.before.before.before in
-    omega (arith, numbers-long s.args.s s.args.amounts.now s.args.i _ _ numbered.number-parts.ensures, s.requires.grouped.cuts.groups_few)
+    omega (arith, numbers_long s.args.s s.args.amounts.now s.args.i _ _ numbered.number-parts.ensures, s.requires.grouped.cuts.groups_few)
 
 same_length : tie.Need-same-length
 same_length c = search rules
@@ -33,8 +33,8 @@ returns c =
     let a = numbered.before.before.before.before.before.args in
     record { is = joins_told a.s a.amounts.now a.i _ _ numbered.number-parts.ensures _ c.joins.ensures.is; low = c.joins.ensures.low }
 
-pub payslip-count_spec : {M : Type 1} → statement M
-payslip-count_spec =
+pub payslip_count_spec : {M : Type 1} → statement M
+payslip_count_spec =
     tie.close
     (tie.spec
     number-parts-requires

@@ -54,8 +54,8 @@ returns c =
     let q = start.before.before.before.before.args.s.q in
     record { is = sum-end _ start.loop.i q _ (search rules) (search rules) start.loop.invariant.2; low = search rules }
 
-pub payslips-count_spec : {M : Type 1} → statement M
-payslips-count_spec =
+pub payslips_count_spec : {M : Type 1} → statement M
+payslips_count_spec =
     tie.close
     (tie.spec
     invariant-loop

@@ -1,7 +1,7 @@
 -- The quote of the grouped sheet, whose columns, payslips and parameter are those given.
 use borrow.Author.Rules.{rules}
 use mathlib.Core.Path.{sym, ◌∙◌}
-use Rattle.groups.proofs.Measured.{grouped-long, sheet-grouped}
+use Rattle.groups.proofs.Measured.{grouped_long, sheet_grouped}
 use Rattle.partition_count.proofs.Joining.{quote_given}
 use Rattle.partition_count.proofs.quote.Statement.{statement}
 use Rattle.partition_count.proofs.quote.Tie as tie
@@ -19,20 +19,20 @@ slice-aggregate-chain-quote : tie.Need-slice-aggregate-chain-quote
 slice-aggregate-chain-quote c =
     let g = c.before.before in
     let s = g.before.before.before.before in
-    let told = sheet-grouped s.requires g.group-columns.ensures in
-    sym (grouped-long told.grouped ∙ told.same-p)
+    let told = sheet_grouped s.requires g.group-columns.ensures in
+    sym (grouped_long told.grouped ∙ told.same_p)
 
 chain-quote-requires : tie.Need-chain-quote-requires
 chain-quote-requires c κs =
     let g = c.before.before in
     let s = g.before.before.before.before in
-    (sheet-grouped s.requires g.group-columns.ensures).grouped
+    (sheet_grouped s.requires g.group-columns.ensures).grouped
 
 returns : tie.Need-returns
 returns c =
     let g = c.before.before.before in
     let s = g.before.before.before.before in
-    quote_given (sheet-grouped s.requires g.group-columns.ensures) c.chain-quote.ensures
+    quote_given (sheet_grouped s.requires g.group-columns.ensures) c.chain-quote.ensures
 
 pub quote_spec : {M : Type 1} → statement M
 quote_spec =

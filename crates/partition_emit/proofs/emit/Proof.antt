@@ -1,7 +1,7 @@
 -- The chain of the grouped sheet, whose columns, payslips and parameter are those given.
 use borrow.Author.Rules.{rules}
 use mathlib.Core.Path.{sym, ◌∙◌}
-use Rattle.groups.proofs.Measured.{grouped-long, sheet-grouped}
+use Rattle.groups.proofs.Measured.{grouped_long, sheet_grouped}
 use Rattle.partition_emit.proofs.Whole.{chain_given, room_given}
 use Rattle.partition_emit.proofs.emit.Statement.{statement}
 use Rattle.partition_emit.proofs.emit.Tie as tie
@@ -19,8 +19,8 @@ slice-aggregate-make-chain : tie.Need-slice-aggregate-make-chain
 slice-aggregate-make-chain c =
     let g = c.before.before in
     let s = g.before.before.before.before.before.before in
-    let told = sheet-grouped s.requires.asked g.group-columns.ensures in
-    sym (grouped-long told.grouped ∙ told.same-p)
+    let told = sheet_grouped s.requires.asked g.group-columns.ensures in
+    sym (grouped_long told.grouped ∙ told.same_p)
 
 slice-aggregate-make-chain-2 : tie.Need-slice-aggregate-make-chain-2
 slice-aggregate-make-chain-2 c = search rules
@@ -32,9 +32,9 @@ make-chain-requires : tie.Need-make-chain-requires
 make-chain-requires c κs =
     let g = c.before.before.before.before.before.before in
     let s = g.before.before.before.before.before.before in
-    let told = sheet-grouped s.requires.asked g.group-columns.ensures in
+    let told = sheet_grouped s.requires.asked g.group-columns.ensures in
     let room = room_given told s.requires.room in
-    record { grouped = told.grouped; members-room = search rules; cells-room = search rules; fits = room }
+    record { grouped = told.grouped; members_room = search rules; cells_room = search rules; fits = room }
 
 same_length : tie.Need-same-length
 same_length c = search rules
@@ -46,7 +46,7 @@ returns : tie.Need-returns
 returns c =
     let g = c.before.before.before.before.before.before.before.before.before.before.before.before.before in
     let s = g.before.before.before.before.before.before in
-    chain_given (sheet-grouped s.requires.asked g.group-columns.ensures) c.before.before.before.before.before.before.make-chain.ensures
+    chain_given (sheet_grouped s.requires.asked g.group-columns.ensures) c.before.before.before.before.before.before.make-chain.ensures
 
 pub emit_spec : {M : Type 1} → statement M
 emit_spec =

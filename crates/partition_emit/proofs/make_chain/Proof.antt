@@ -1,14 +1,14 @@
 -- The squarings and tables are stored, then the payslips after them, and make the chain.
 use borrow.Author.Rules.{rules}
-use Rattle.groups.proofs.Measured.{sheet-inputs, sheet-long}
-use Rattle.partition_emit.proofs.Whole.{begin_fits, chain-whole, slips_room}
+use Rattle.groups.proofs.Measured.{sheet_inputs, sheet_long_lem}
+use Rattle.partition_emit.proofs.Whole.{begin_fits, chain_whole, slips_room}
 use Rattle.partition_emit.proofs.make_chain.Statement.{statement}
 use Rattle.partition_emit.proofs.make_chain.Tie as tie
 
 make-groups-requires : tie.Need-make-groups-requires
 make-groups-requires c κs =
     let s = c.before.before.before.before.before.before.before.before in
-    begin_fits s.requires.grouped s.requires.fits _ s.requires.members-room
+    begin_fits s.requires.grouped s.requires.fits _ s.requires.members_room
 
 slice-reshare-prefix-make-payslips : tie.Need-slice-reshare-prefix-make-payslips
 slice-reshare-prefix-make-payslips c = search rules
@@ -17,15 +17,15 @@ slice-aggregate-make-payslips : tie.Need-slice-aggregate-make-payslips
 slice-aggregate-make-payslips c =
     let grouped = c.before.before.before.before.before in
     let s = grouped.before.before.before.before.before.before.before.before.before in
-    sheet-long s.requires.grouped grouped.make-groups.ensures
+    sheet_long_lem s.requires.grouped grouped.make-groups.ensures
 
 make-payslips-requires : tie.Need-make-payslips-requires
 make-payslips-requires c κs =
     let grouped = c.before.before.before.before.before.before.before.before in
     let s = grouped.before.before.before.before.before.before.before.before.before in
-    let are = sheet-inputs s.requires.grouped grouped.make-groups.ensures in
+    let are = sheet_inputs s.requires.grouped grouped.make-groups.ensures in
     record {
-      asked = record { grouped = s.requires.grouped; members-are = are; room = s.requires.cells-room };
+      asked = record { grouped = s.requires.grouped; members_are = are; room = s.requires.cells_room };
       room = slips_room s.requires.grouped s.requires.fits grouped.make-groups.ensures;
     }
 
@@ -45,7 +45,7 @@ returns : tie.Need-returns
 returns c =
     let grouped = c.before.before.before.before.before.before.before.before.before.before.before.before.before.before.before in
     let s = grouped.before.before.before.before.before.before.before.before.before in
-    chain-whole s.requires.grouped s.requires.fits grouped.make-groups.ensures c.before.before.before.before.before.before.make-payslips.ensures
+    chain_whole s.requires.grouped s.requires.fits grouped.make-groups.ensures c.before.before.before.before.before.before.make-payslips.ensures
 
 pub make_chain_spec : {M : Type 1} → statement M
 make_chain_spec =

@@ -8,7 +8,7 @@ use lib.ListN.{length}
 use Rattle.products.proofs.Emitted.{emitted_own}
 use native.Mathlib.Omega.{arith}
 use Rattle.partition_emit.specs.Inner.{parts_by}
-use Rattle.partition_emit.proofs.Paying.{part_on, part_room, parts-end}
+use Rattle.partition_emit.proofs.Paying.{part_on, part_room, parts_end_lem}
 use Rattle.partition_emit.proofs.make_parts.Statement.{statement}
 use Rattle.partition_emit.proofs.make_parts.Tie as tie
 
@@ -33,13 +33,13 @@ mul-part-value c =
 shared-slice-read-part-value : tie.Need-shared-slice-read-part-value invariant-loop decreases-loop
 shared-slice-read-part-value c =
     let start = c.before.before.before in
-    omega (arith, start.before.before.before.before.requires.asked.numbers-long)
+    omega (arith, start.before.before.before.before.requires.asked.numbers_long)
 
 part-value-requires : tie.Need-part-value-requires invariant-loop decreases-loop
 part-value-requires c κs =
     let start = c.before.before.before in
     let pre = start.before.before.before.before.requires.asked in
-    record { cuts = pre.cuts; long = pre.members-long; inside = search rules; part = pre.numbers-low start.loop.g (search rules) }
+    record { cuts = pre.cuts; long = pre.members_long; inside = search rules; part = pre.numbers_low start.loop.g (search rules) }
 
 times-requires : tie.Need-times-requires invariant-loop decreases-loop
 times-requires c κs =
@@ -81,7 +81,7 @@ returns c =
     let a = start.before.before.before.before.args in
     let steps = a.steps.now in
     let number = counts_of a.numbers.now in
-    parts-end a.s a.members.now number (steps_in steps a.progress.steps) steps _ _ _ start.loop.g start.loop.invariant.2 (search rules) (search rules)
+    parts_end_lem a.s a.members.now number (steps_in steps a.progress.steps) steps _ _ _ start.loop.g start.loop.invariant.2 (search rules) (search rules)
 
 pub make_parts_spec : {M : Type 1} → statement M
 make_parts_spec =

@@ -5,8 +5,8 @@ use mathlib.Core.List.{List}
 use Rattle.products.specs.Inner.{steps_in}
 use mathlib.Core.Path.{sym}
 use lib.ListN.{take}
-use Rattle.groups.proofs.Measured.{numbers_at, numbers-long}
-use Rattle.partition_emit.proofs.Paying.{payslip-is, payslip_numbered}
+use Rattle.groups.proofs.Measured.{numbers_at, numbers_long}
+use Rattle.partition_emit.proofs.Paying.{payslip_is, payslip_numbered}
 use Rattle.partition_emit.proofs.make_payslip.Statement.{statement}
 use Rattle.partition_emit.proofs.make_payslip.Tie as tie
 
@@ -20,7 +20,7 @@ slice-aggregate-make-parts : tie.Need-slice-aggregate-make-parts
 slice-aggregate-make-parts c =
     let numbered = c.before.before.before in
     let a = numbered.before.before.before.before.before.before.before.args in
-    numbers-long a.s a.amounts.now a.i _ _ numbered.number-parts.ensures
+    numbers_long a.s a.amounts.now a.i _ _ numbered.number-parts.ensures
 
 make-parts-requires : tie.Need-make-parts-requires
 make-parts-requires c κs =
@@ -29,8 +29,8 @@ make-parts-requires c κs =
     let a = s.args in
     let numbers : List ℕ = take a.s.groups numbered.number-parts.new.1.1.1.1.0 in
     let at = numbers_at a.s a.amounts.now a.i _ _ numbered.number-parts.ensures in
-    let long = numbers-long a.s a.amounts.now a.i _ _ numbered.number-parts.ensures in
-    let same = payslip-is s.requires.ready a.i numbers at (steps_in a.steps.now a.progress.steps) in
+    let long = numbers_long a.s a.amounts.now a.i _ _ numbered.number-parts.ensures in
+    let same = payslip_is s.requires.ready a.i numbers at (steps_in a.steps.now a.progress.steps) in
     let ready = payslip_numbered s.requires.ready a.i numbers at (sym long) in
     record { asked = ready; room = rw same s.requires.room }
 
@@ -48,7 +48,7 @@ returns c =
     let a = s.args in
     let numbers : List ℕ = take a.s.groups numbered.number-parts.new.1.1.1.1.0 in
     let at = numbers_at a.s a.amounts.now a.i _ _ numbered.number-parts.ensures in
-    let same = payslip-is s.requires.ready a.i numbers at (steps_in a.steps.now a.progress.steps) in
+    let same = payslip_is s.requires.ready a.i numbers at (steps_in a.steps.now a.progress.steps) in
     rw (← same) made.make-parts.ensures
 
 pub make_payslip_spec : {M : Type 1} → statement M

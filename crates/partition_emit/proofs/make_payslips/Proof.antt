@@ -41,7 +41,7 @@ make-payslip-requires c κs =
     let pre = s.requires.asked in
     let room : most_inputs ≤ length start.loop.cells = omega (arith, start.loop.invariant.1, pre.room) in
     let after = paying_room (payslip_of a.s a.amounts.now) (each s) start.loop.invariant.0 s.requires.room (search rules) in
-    record { ready = record { grouped = pre.grouped; members-are = pre.members-are; room = room }; inside = search rules; room = after }
+    record { ready = record { grouped = pre.grouped; members_are = pre.members_are; room = room }; inside = search rules; room = after }
 
 mul-outputs : tie.Need-overflow-mul-outputs invariant-loop decreases-loop
 mul-outputs c = search rules

@@ -8,9 +8,9 @@ use lib.Seq.{length-take-le}
 use Rattle.answers.proofs.Clauses.{answer_clause, first_slice_clause, second_slice_clause}
 use Rattle.chain.specs.Verdict.{fine}
 use Rattle.chain.specs.Chain.{most_amount, pairs}
-use Rattle.chain.proofs.Pairs.{pairs-flat}
+use Rattle.chain.proofs.Pairs.{pairs_flat}
 use Rattle.quote.specs.ByMethod.{count}
-use Rattle.compile.proofs.Filled.{Filled, filled, compile-stops, compile_passes, compile-counts}
+use Rattle.compile.proofs.Filled.{Filled, filled, compile_stops, compile_passes, compile_counts}
 use Rattle.reading.proofs.Told.{ChainTaken}
 use Rattle.layout.specs.Layout.{edition1}
 use Rattle.path.specs.Path.{Lent, lent, written, compiles}
@@ -66,7 +66,7 @@ counted_at : (c : tie.After-compiled) → let s = start (compiling c) in
 counted_at c =
     let r = compiling c in
     let s = start r in
-    compile-counts s.args.p s.args.q s.args.amounts.now s.args.method s.args.k s.args.steps.now
+    compile_counts s.args.p s.args.q s.args.amounts.now s.args.method s.args.k s.args.steps.now
     s.args.outputs.now _ (answer_clause r.compile.ensures) _ c.compiled.given.1 (low r)
 
 -- the chain that compile filled
@@ -97,7 +97,7 @@ taken_at c =
     read_alone s.args.p s.args.q s.args.amounts.now s.args.method s.args.k (low r) (slices s) s.args.m
     s.args.bases.now _ _ (first_slice_clause r.compile.ensures) (second_slice_clause r.compile.ensures)
     (accepted_at n)
-    _ _ f.steps_front f.outputs-front _ _ _ _ d.dispatch.ensures
+    _ _ f.steps_front f.outputs_front _ _ _ _ d.dispatch.ensures
     _ _ _ c.columns.given.1
 
 compile-requires : tie.Need-compile-requires
@@ -113,16 +113,16 @@ mul-dispatch : tie.Need-overflow-mul-dispatch
 mul-dispatch c = omega (arith, (filled_at c.before.before).few)
 
 slice-reshare-prefix-dispatch : tie.Need-slice-reshare-prefix-dispatch
-slice-reshare-prefix-dispatch c = (filled_at c.before.before).steps-room
+slice-reshare-prefix-dispatch c = (filled_at c.before.before).steps_room
 
 slice-aggregate-dispatch : tie.Need-slice-aggregate-dispatch
-slice-aggregate-dispatch c = sym (length-take-le _ _ (filled_at c.before.before.before).steps-room)
+slice-aggregate-dispatch c = sym (length-take-le _ _ (filled_at c.before.before.before).steps_room)
 
 slice-reshare-prefix-dispatch-2 : tie.Need-slice-reshare-prefix-dispatch-2
-slice-reshare-prefix-dispatch-2 c = (filled_at c.before.before.before).outputs-room
+slice-reshare-prefix-dispatch-2 c = (filled_at c.before.before.before).outputs_room
 
 slice-aggregate-dispatch-2 : tie.Need-slice-aggregate-dispatch-2
-slice-aggregate-dispatch-2 c = sym (length-take-le _ _ (filled_at c.before.before.before.before).outputs-room)
+slice-aggregate-dispatch-2 c = sym (length-take-le _ _ (filled_at c.before.before.before.before).outputs_room)
 
 dispatch-requires : tie.Need-dispatch-requires
 dispatch-requires c κs = search rules
@@ -137,16 +137,16 @@ mul-receive : tie.Need-overflow-mul-receive
 mul-receive c = omega (arith, (taken_at c.before.before).few)
 
 slice-reshare-prefix-receive : tie.Need-slice-reshare-prefix-receive
-slice-reshare-prefix-receive c = (taken_at c.before.before).steps-room
+slice-reshare-prefix-receive c = (taken_at c.before.before).steps_room
 
 slice-aggregate-receive : tie.Need-slice-aggregate-receive
-slice-aggregate-receive c = sym (length-take-le _ _ (taken_at c.before.before.before).steps-room)
+slice-aggregate-receive c = sym (length-take-le _ _ (taken_at c.before.before.before).steps_room)
 
 slice-reshare-prefix-receive-2 : tie.Need-slice-reshare-prefix-receive-2
-slice-reshare-prefix-receive-2 c = (taken_at c.before.before.before).outputs-room
+slice-reshare-prefix-receive-2 c = (taken_at c.before.before.before).outputs_room
 
 slice-aggregate-receive-2 : tie.Need-slice-aggregate-receive-2
-slice-aggregate-receive-2 c = sym (length-take-le _ _ (taken_at c.before.before.before.before).outputs-room)
+slice-aggregate-receive-2 c = sym (length-take-le _ _ (taken_at c.before.before.before.before).outputs_room)
 
 receive-requires : tie.Need-receive-requires
 receive-requires c κs = search rules
@@ -169,7 +169,7 @@ returns c =
     let s = start r in
     not_compiled s.args.p s.args.q s.args.amounts.now s.args.method s.args.k (low r) (slices s) s.args.m
     s.args.bases.now _ _ (first_slice_clause r.compile.ensures) (second_slice_clause r.compile.ensures) _ _
-    (compile-stops s.args.p s.args.q s.args.amounts.now s.args.method s.args.k s.args.steps.now
+    (compile_stops s.args.p s.args.q s.args.amounts.now s.args.method s.args.k s.args.steps.now
     s.args.outputs.now _ (answer_clause r.compile.ensures) _ _ c.before.number.given.1)
 
 same-length-3 : tie.Need-same-length-3
@@ -197,7 +197,7 @@ returns-2 c =
     not_dispatched s.args.p s.args.q s.args.amounts.now s.args.method s.args.k (low r) (slices s) s.args.m
     s.args.bases.now _ _ (first_slice_clause r.compile.ensures) (second_slice_clause r.compile.ensures)
     (accepted_at n)
-    _ _ f.steps_front f.outputs-front _ _ _ _ d.dispatch.ensures
+    _ _ f.steps_front f.outputs_front _ _ _ _ d.dispatch.ensures
     _ _ c.before.number2.given.1
 
 same-length-8 : tie.Need-same-length-8
@@ -237,10 +237,10 @@ returns-3 c =
     not_received s.args.p s.args.q s.args.amounts.now s.args.method s.args.k (low r) (slices s) s.args.m
     s.args.bases.now _ _ (first_slice_clause r.compile.ensures) (second_slice_clause r.compile.ensures)
     (accepted_at n)
-    _ _ f.steps_front f.outputs-front _ _ _ _ d.dispatch.ensures
+    _ _ f.steps_front f.outputs_front _ _ _ _ d.dispatch.ensures
     _ _ _ w.columns.given.1
     _ (counted_at n)
-    _ _ t.columns (ap pairs t.steps_front ∙ pairs-flat _) t.outputs-front
+    _ _ t.columns (ap pairs t.steps_front ∙ pairs_flat _) t.outputs_front
     _ _ _ _ e.receive.ensures
     _ _ c.before.number3.given.1
 
@@ -281,10 +281,10 @@ returns-4 c =
     all_done s.args.p s.args.q s.args.amounts.now s.args.method s.args.k (low r) (slices s) s.args.m
     s.args.bases.now _ _ (first_slice_clause r.compile.ensures) (second_slice_clause r.compile.ensures)
     (accepted_at n)
-    _ _ f.steps_front f.outputs-front _ _ _ _ d.dispatch.ensures
+    _ _ f.steps_front f.outputs_front _ _ _ _ d.dispatch.ensures
     _ _ _ w.columns.given.1
     _ (counted_at n)
-    _ _ t.columns (ap pairs t.steps_front ∙ pairs-flat _) t.outputs-front
+    _ _ t.columns (ap pairs t.steps_front ∙ pairs_flat _) t.outputs_front
     _ _ _ _ e.receive.ensures
     _ c.before.made.given.1
 

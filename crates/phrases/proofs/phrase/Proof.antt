@@ -1,7 +1,7 @@
 -- The part between two starts is the number's phrase.
 use borrow.Author.Rules.{rules}
 use native.Mathlib.Omega.{arith}
-use Rattle.phrases.proofs.Phrases.{place-low, phrase-cut, phrase-rises, phrase-within, phrase-length, phrase-refused, phrase-told}
+use Rattle.phrases.proofs.Phrases.{place_low, phrase_cut, phrase_rises, phrase_within, phrase-length, phrase_refused, phrase_told}
 use Rattle.phrases.proofs.phrase.Statement.{statement}
 use Rattle.phrases.proofs.phrase.Tie as tie
 
@@ -9,16 +9,16 @@ phrase-place-requires : tie.Need-phrase-place-requires
 phrase-place-requires c κs = search rules
 
 phrase-start-requires : tie.Need-phrase-start-requires
-phrase-start-requires c κs = omega (arith, place-low c.before.before.args.number, c.phrase-place.ensures)
+phrase-start-requires c κs = omega (arith, place_low c.before.before.args.number, c.phrase-place.ensures)
 
 add-phrase-start : tie.Need-overflow-add-phrase-start
-add-phrase-start c = omega (arith, place-low c.before.before.before.args.number, c.before.phrase-place.ensures)
+add-phrase-start c = omega (arith, place_low c.before.before.before.args.number, c.before.phrase-place.ensures)
 
 phrase-start-requires-2 : tie.Need-phrase-start-requires-2
-phrase-start-requires-2 c κs = omega (arith, place-low c.before.before.before.args.number, c.before.phrase-place.ensures)
+phrase-start-requires-2 c κs = omega (arith, place_low c.before.before.before.args.number, c.before.phrase-place.ensures)
 
 sub-if1 : tie.Need-overflow-sub-if1
-sub-if1 c = search phrase-rises
+sub-if1 c = search phrase_rises
 
 returns : tie.Need-returns
 returns c =
@@ -26,16 +26,16 @@ returns c =
     let begins = ends.before in
     let is = begins.before in
     let long = phrase-length _ _ _ _ is.phrase-place.ensures begins.phrase-start.ensures ends.phrase-start2.ensures in
-    phrase-refused _ _ (rw long at c.before.if1.true)
+    phrase_refused _ _ (rw long at c.before.if1.true)
 
 slice-aggregate-put-part : tie.Need-slice-aggregate-put-part
 slice-aggregate-put-part c = search rules
 
 put-part-requires : tie.Need-put-part-requires
-put-part-requires c κs = (search phrase-rises, search phrase-within, search rules)
+put-part-requires c κs = (search phrase_rises, search phrase_within, search rules)
 
 sub-t8 : tie.Need-overflow-sub-t8
-sub-t8 c = search phrase-rises
+sub-t8 c = search phrase_rises
 
 same_length : tie.Need-same-length
 same_length c = search rules
@@ -48,8 +48,8 @@ returns-2 c =
     let begins = ends.before in
     let is = begins.before in
     let long = phrase-length _ _ _ _ is.phrase-place.ensures begins.phrase-start.ensures ends.phrase-start2.ensures in
-    let says = phrase-cut _ _ _ _ is.phrase-place.ensures begins.phrase-start.ensures ends.phrase-start2.ensures in
-    phrase-told _ _ _ _ (rw long at test.if1.false) long (rw says at put.put-part.ensures)
+    let says = phrase_cut _ _ _ _ is.phrase-place.ensures begins.phrase-start.ensures ends.phrase-start2.ensures in
+    phrase_told _ _ _ _ (rw long at test.if1.false) long (rw says at put.put-part.ensures)
 
 pub phrase_spec : {M : Type 1} → statement M
 phrase_spec =

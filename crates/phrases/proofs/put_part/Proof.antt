@@ -1,7 +1,7 @@
 -- A part put from the first place on lies over the front.
 use borrow.Author.Rules.{rules}
 use mathlib.Core.Path.{sym, ◌∙◌}
-use Rattle.chain.proofs.Written.{over-laid}
+use Rattle.chain.proofs.Written.{over_laid}
 use Rattle.phrases.proofs.put_part.Statement.{statement}
 use Rattle.phrases.proofs.put_part.Tie as tie
 
@@ -21,10 +21,10 @@ same_length : tie.Need-same-length
 same_length c = search rules
 
 returns : tie.Need-returns
-returns c = c.before.before.put_word.ensures.text ∙ sym (over-laid _ _)
+returns c = c.before.before.put_word.ensures.text ∙ sym (over_laid _ _)
 
-pub put-part_spec : {M : Type 1} → statement M
-put-part_spec =
+pub put_part_spec : {M : Type 1} → statement M
+put_part_spec =
     tie.close
     (tie.spec
     sub-put-word

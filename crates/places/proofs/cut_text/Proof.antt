@@ -14,5 +14,5 @@ returns : tie.Need-returns
 unfolding cut_text
 returns c = c.refuse.ensures
 
-pub cut-text_spec : {M : Type 1} → statement M
-cut-text_spec = tie.close (tie.spec add-refuse refuse-requires returns)
+pub cut_text_spec : {M : Type 1} → statement M
+cut_text_spec = tie.close (tie.spec add-refuse refuse-requires returns)

@@ -6,7 +6,7 @@ use native.Mathlib.Omega.{arith}
 use lib.ListN.{length}
 use borrow.Author.Tests.{ltb-true, ltb-false}
 use Rattle.places.specs.Places.{spot_of}
-use Rattle.places.proofs.Spots.{spot_left, spot_start, spot-next, spot_past, spot_reached, line_on, column_on}
+use Rattle.places.proofs.Spots.{spot_left, spot_start, spot_next, spot_past, spot_reached, line_on, column_on}
 use Rattle.places.proofs.spot_of.Statement.{statement}
 use Rattle.places.proofs.spot_of.Tie as tie
 
@@ -41,7 +41,7 @@ loop-again c =
       search rules,
       omega (arith, line_on _ _ _ e, l.invariant.1),
       omega (arith, column_on _ _ _ e, l.invariant.2),
-      spot-next _ c.before.before.before.before.before.before.args.place _ _ _ l.invariant.3 _ c.before.before.before.loop-test.true
+      spot_next _ c.before.before.before.before.before.before.args.place _ _ _ l.invariant.3 _ c.before.before.before.loop-test.true
           (ltb-true _ _ c.before.before.if1.true) e,
     )
 

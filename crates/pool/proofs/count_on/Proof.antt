@@ -4,9 +4,9 @@ use mathlib.Core.Path.{ap}
 use native.Mathlib.Omega.{arith}
 use Rattle.chain.specs.Judgement.{verdict_of}
 use Rattle.chain.specs.declared.Judgement.{Judgement}
-use Rattle.chain.proofs.Rules.{told-refused, told-fine}
+use Rattle.chain.proofs.Rules.{told_refused_lem, told_fine}
 use Rattle.pool.specs.Inner.{place_in}
-use Rattle.pool.proofs.Counted.{counted-refused, counted-passed}
+use Rattle.pool.proofs.Counted.{counted_refused, counted_passed}
 use Rattle.pool.proofs.count_on.Statement.{statement}
 use Rattle.pool.proofs.count_on.Tie as tie
 
@@ -21,4 +21,4 @@ add-t6 c =
 pub count_on_spec : {M : Type 1} → statement M
 count_on_spec =
     tie.close
-    (tie.spec (λ c. search rules) add-t6 (λ c. search rules) (λ c. search (counted-refused, told-refused)) (λ c. search (counted-passed, told-fine)))
+    (tie.spec (λ c. search rules) add-t6 (λ c. search rules) (λ c. search (counted_refused, told_refused_lem)) (λ c. search (counted_passed, told_fine)))

@@ -2,7 +2,7 @@
 use borrow.Author.Rules.{rules}
 use mathlib.Core.Path.{sym}
 use native.Mathlib.Omega.{arith}
-use Rattle.chain.proofs.Rules.{judging, told-fine}
+use Rattle.chain.proofs.Rules.{judging, told_fine}
 use Rattle.chain.proofs.Sizes.{length-fits}
 use Rattle.pool.specs.Pool.{both_lengths_rule}
 use Rattle.pool.proofs.judge_lengths.Statement.{statement}
@@ -12,8 +12,8 @@ use Rattle.pool.proofs.judge_lengths.Tie as tie
 add-judge-length : tie.Need-overflow-add-judge-length
 add-judge-length c =
     let e = c.before.before.before in
-    let first = length-fits _ _ (sym (told-fine _ _ e.before.before.judge-length.ensures e.enum_told.given.1)) in
-    let second = length-fits _ _ (sym (told-fine _ _ c.before.before.judge-length2.ensures c.enum-told2.given.1)) in
+    let first = length-fits _ _ (sym (told_fine _ _ e.before.before.judge-length.ensures e.enum_told.given.1)) in
+    let second = length-fits _ _ (sym (told_fine _ _ c.before.before.judge-length2.ensures c.enum-told2.given.1)) in
     record { fits = omega (arith, first, second) }
 
 pub judge_lengths_spec : {M : Type 1} → statement M

@@ -4,7 +4,7 @@ use mathlib.Core.Path.{sym}
 use Prim.Native.Nat.{◌/◌}
 use native.Mathlib.Omega.{arith}
 use lib.ListN.{length}
-use Rattle.chain.proofs.Rules.{judging, told-fine}
+use Rattle.chain.proofs.Rules.{judging, told_fine}
 use Rattle.chain.proofs.Pairs.{length_pairs}
 use Rattle.chain.proofs.Squarings.{counting}
 use Rattle.pool.specs.Pool.{poolable_rule}
@@ -15,27 +15,27 @@ use Rattle.pool.proofs.judge_parts.Tie as tie
 sizes : (e : tie.After-enum-told)
     → let a = e.before.before.before.before.before.before.before.args in
     BothSizes a.p1 (length a.outputs1.now) a.p2 (length a.outputs2.now)
-sizes e = both_sizes_fit _ _ _ _ (sym (told-fine _ _ e.before.before.judge-sizes.ensures e.enum_told.given.1))
+sizes e = both_sizes_fit _ _ _ _ (sym (told_fine _ _ e.before.before.judge-sizes.ensures e.enum_told.given.1))
 
 lengths : (e : tie.After-enum-told2)
     → let a = e.before.before.before.before.before.before.before.before.before.before.before.args in
     BothLengths (length a.steps1.now / 2) (length a.steps2.now / 2)
-lengths e = both_lengths_fit _ _ (sym (told-fine _ _ e.before.before.judge-lengths.ensures e.enum-told2.given.1))
+lengths e = both_lengths_fit _ _ (sym (told_fine _ _ e.before.before.judge-lengths.ensures e.enum-told2.given.1))
 
 judge-steps-requires : tie.Need-judge-steps-requires
 judge-steps-requires c κs =
     let are = sizes c.before.before.before.before in
-    record { p-low = are.first.p-low; p'_low = are.second.p-low; n-low = (lengths c).first; n'_low = (lengths c).second }
+    record { p_low = are.first.p_low; p'_low = are.second.p_low; n_low = (lengths c).first; n'_low = (lengths c).second }
 
 add-top1 : tie.Need-overflow-add-top1
 add-top1 c =
     let told = c.before.before.before.before in
-    record { fits = omega (arith, (lengths told).first, (sizes told.before.before.before.before).first.p-low) }
+    record { fits = omega (arith, (lengths told).first, (sizes told.before.before.before.before).first.p_low) }
 
 add-top2 : tie.Need-overflow-add-top2
 add-top2 c =
     let told = c.before.before.before.before in
-    record { fits = omega (arith, (lengths told).second, (sizes told.before.before.before.before).second.p-low) }
+    record { fits = omega (arith, (lengths told).second, (sizes told.before.before.before.before).second.p_low) }
 
 judge-outputs-requires : tie.Need-judge-outputs-requires
 judge-outputs-requires c κs =

@@ -2,7 +2,7 @@
 use borrow.Author.Rules.{rules}
 use native.Mathlib.Omega.{arith}
 use Rattle.chain.proofs.Rules.{judging}
-use Rattle.chain.proofs.Sizes.{payslips-low}
+use Rattle.chain.proofs.Sizes.{payslips_low}
 use Rattle.pool.specs.Pool.{both_sizes_rule}
 use Rattle.pool.proofs.judge_sizes.Statement.{statement}
 use Rattle.pool.proofs.judge_sizes.Tie as tie
@@ -11,8 +11,8 @@ use Rattle.pool.proofs.judge_sizes.Tie as tie
 add-if1 : tie.Need-overflow-add-if1
 add-if1 c =
     let e = c.before.before.before in
-    let first = payslips-low _ _ _ e.before.before.judge-sizes.ensures e.enum_told.given.1 in
-    let second = payslips-low _ _ _ c.before.before.judge-sizes2.ensures c.enum-told2.given.1 in
+    let first = payslips_low _ _ _ e.before.before.judge-sizes.ensures e.enum_told.given.1 in
+    let second = payslips_low _ _ _ c.before.before.judge-sizes2.ensures c.enum-told2.given.1 in
     record { fits = omega (arith, first, second) }
 
 pub judge_sizes_spec : {M : Type 1} → statement M

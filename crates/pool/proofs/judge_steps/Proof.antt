@@ -6,10 +6,10 @@ use native.Mathlib.Omega.{arith}
 use Rattle.chain.specs.Chain.{pairs, squarings_of}
 use Rattle.chain.proofs.Rules.{judging}
 use Rattle.chain.proofs.Pairs.{length_pairs}
-use Rattle.chain.proofs.Squarings.{squarings-few, found-refused, found_number, counting}
+use Rattle.chain.proofs.Squarings.{squarings_few, found_refused, found_number, counting}
 use Rattle.pool.specs.Pool.{both_steps_rule}
-use Rattle.pool.proofs.Counted.{counted-refused, counted-passed}
-use Rattle.pool.proofs.Places.{steps-place-low}
+use Rattle.pool.proofs.Counted.{counted_refused, counted_passed}
+use Rattle.pool.proofs.Places.{steps_place_low}
 use Rattle.pool.proofs.judge_steps.Statement.{statement}
 use Rattle.pool.proofs.judge_steps.Tie as tie
 
@@ -29,8 +29,8 @@ add-t17 : tie.Need-overflow-add-t17
 add-t17 c =
     let judged = c.before.before.before in
     let start = judged.before.before.before.before.before.before.before in
-    let place = found-refused _ _ _ judged.judge-steps2.ensures _ _ c.before.number2.given.1 in
-    record { fits = omega (arith, steps-place-low _ start.args.steps2.now _ place start.requires.n'_low, start.requires.n-low) }
+    let place = found_refused _ _ _ judged.judge-steps2.ensures _ _ c.before.number2.given.1 in
+    record { fits = omega (arith, steps_place_low _ start.args.steps2.now _ place start.requires.n'_low, start.requires.n_low) }
 
 add-t18 : tie.Need-overflow-add-t18
 add-t18 c =
@@ -40,8 +40,8 @@ add-t18 c =
       fits = omega (
         arith,
         both c.before,
-        squarings-few (pairs s.steps1.now),
-        squarings-few (pairs s.steps2.now),
+        squarings_few (pairs s.steps1.now),
+        squarings_few (pairs s.steps2.now),
         length_pairs s.steps1.now,
         length_pairs s.steps2.now,
         start.pre,
@@ -53,5 +53,5 @@ unfolding both_steps_rule
 judge_steps_spec =
     tie.close
     (tie.spec (λ c κs. search rules) (λ c. search rules) (λ c. search rules) (λ c κs. search rules) (λ c. search rules) add-t17 (λ c. search rules) add-t18
-    (λ c. search (judging, counting) depth 8) (λ c. simp length_pairs (search (judging, counting, counted-refused) depth 10))
-    (λ c. search (judging, counting, counted-passed, both) depth 10))
+    (λ c. search (judging, counting) depth 8) (λ c. simp length_pairs (search (judging, counting, counted_refused) depth 10))
+    (λ c. search (judging, counting, counted_passed, both) depth 10))

@@ -9,11 +9,11 @@ use Rattle.chain.specs.Verdict.{fine}
 use Rattle.chain.specs.Written.{over}
 use Rattle.chain.specs.Chain.{most_steps, pairs, squarings_of}
 use Rattle.chain.proofs.Pairs.{length_pairs}
-use Rattle.chain.proofs.Squarings.{squarings-few, counts-are, found-refused, found-fine, found_number}
+use Rattle.chain.proofs.Squarings.{squarings_few, counts_are, found_refused, found_fine, found_number}
 use Rattle.pool.specs.Pool.{Part, part, pooled_steps, poolable_rule}
 use Rattle.pool.proofs.Poolable.{Poolable, poolable}
-use Rattle.pool.proofs.Squarings.{squarings-pooled}
-use Rattle.pooler.proofs.Pooling.{steps-renumberable, outputs-renumberable, FlatPool, flat-pool, parts-refused, steps-short, outputs-short, room-enough, refused_leaves, pooled_leaves}
+use Rattle.pool.proofs.Squarings.{squarings_pooled}
+use Rattle.pooler.proofs.Pooling.{steps_renumberable, outputs_renumberable, FlatPool, flat_pool, parts_refused, steps_short, outputs_short, room_enough, refused_leaves, pooled_leaves}
 use Rattle.pooler.proofs.pool.Statement.{statement}
 use Rattle.pooler.proofs.pool.Tie as tie
 
@@ -25,12 +25,12 @@ abbrev second : tie.After-known-told2 → Part
 second e = let s = e.before.before.before.before.before.before.before.before.before.before.args in part s.p2 (pairs s.steps2.now) s.outputs2.now
 
 agreed : (e : tie.After-known-told2) → fine ≡ poolable_rule (first e) (second e)
-agreed e = found-fine _ _ _ e.before.before.before.judge-parts.ensures _ e.before.squarings.given.1
+agreed e = found_fine _ _ _ e.before.before.before.judge-parts.ensures _ e.before.squarings.given.1
 
 -- the squarings of both are the pool's
 counted : (e : tie.After-known-told2) → e.before.squarings.given.0.0 ≡ squarings_of (pooled_steps (first e) (second e))
 counted e =
-    found_number _ _ _ e.before.before.before.judge-parts.ensures _ e.before.squarings.given.1 ∙ sym (squarings-pooled (first e) (second e))
+    found_number _ _ _ e.before.before.before.judge-parts.ensures _ e.before.squarings.given.1 ∙ sym (squarings_pooled (first e) (second e))
 
 both : (e : tie.After-known-told2) → Poolable (first e) (second e)
 both e = poolable _ _ (sym (agreed e))
@@ -38,7 +38,7 @@ both e = poolable _ _ (sym (agreed e))
 pool_of : (e : tie.After-known-told2)
     → let s = e.before.before.before.before.before.before.before.before.before.before.args in
     FlatPool s.p1 s.p2 s.steps1.now s.steps2.now s.outputs1.now s.outputs2.now
-pool_of e = flat-pool _ _ _ _ _ _
+pool_of e = flat_pool _ _ _ _ _ _
 
 -- together they are few
 few : (e : tie.After-known-told2)
@@ -54,7 +54,7 @@ add-if1 c = record { fits = omega (arith, few c) }
 returns : tie.Need-returns
 returns c =
     let e = c.before in
-    refused_leaves _ _ _ _ 5 0 (steps-short _ _ _ _ (agreed e) (omega (arith, (pool_of e).count, c.if1.true)))
+    refused_leaves _ _ _ _ 5 0 (steps_short _ _ _ _ (agreed e) (omega (arith, (pool_of e).count, c.if1.true)))
 
 add-if2 : tie.Need-overflow-add-if2
 add-if2 c = record { fits = omega (arith, (both c.before).payslips) }
@@ -62,7 +62,7 @@ add-if2 c = record { fits = omega (arith, (both c.before).payslips) }
 returns-2 : tie.Need-returns-2
 returns-2 c =
     let e = c.before.before in
-    refused_leaves _ _ _ _ 5 0 (outputs-short _ _ _ _ (agreed e) (omega (arith, (pool_of e).payslips, c.if2.true)))
+    refused_leaves _ _ _ _ 5 0 (outputs_short _ _ _ _ (agreed e) (omega (arith, (pool_of e).payslips, c.if2.true)))
 
 cast-t22 : tie.Need-overflow-cast-t22
 cast-t22 c = record { fits = omega (arith, (both c.before.before).sizes') }
@@ -83,8 +83,8 @@ put-requires c κs =
     let are = both e in
     let low = few e in
     record {
-      first_fits = steps-renumberable s.p1 0 _ are.sizes.p-low (omega arith) (omega (arith, low)) s.steps1.now refl are.steps-fine;
-      second_fits = steps-renumberable s.p2 _ _ are.sizes'.p-low (omega (arith, low)) (omega (arith, low)) s.steps2.now refl are.steps_fine';
+      first_fits = steps_renumberable s.p1 0 _ are.sizes.p_low (omega arith) (omega (arith, low)) s.steps1.now refl are.steps_fine;
+      second_fits = steps_renumberable s.p2 _ _ are.sizes'.p_low (omega (arith, low)) (omega (arith, low)) s.steps2.now refl are.steps_fine';
       room = omega (arith, c.before.before.if1.false);
     }
 
@@ -96,10 +96,10 @@ put-requires-2 c κs =
     let low = few e in
     record {
       first_fits =
-          outputs-renumberable s.p1 0 (length (pairs s.steps1.now)) are.sizes.p-low (omega arith) (omega (arith, are.few)) s.outputs1.now
-          are.outputs-fine;
+          outputs_renumberable s.p1 0 (length (pairs s.steps1.now)) are.sizes.p_low (omega arith) (omega (arith, are.few)) s.outputs1.now
+          are.outputs_fine;
       second_fits =
-          outputs-renumberable s.p2 _ (length (pairs s.steps2.now)) are.sizes'.p-low (omega (arith, low)) (omega (arith, are.few)) s.outputs2.now
+          outputs_renumberable s.p2 _ (length (pairs s.steps2.now)) are.sizes'.p_low (omega (arith, low)) (omega (arith, are.few)) s.outputs2.now
           are.outputs_fine';
       room = omega (arith, c.before.before.before.before.before.if2.false);
     }
@@ -110,13 +110,13 @@ add-counts-of c = record { fits = omega (arith, few c.before.before.before.befor
 counts-of-requires : tie.Need-counts-of-requires
 counts-of-requires c κs =
     let e = c.before.before.before.before.before.before.before.before.before.before in
-    omega (arith, counted e, squarings-few (pooled_steps (first e) (second e)), (pool_of e).count)
+    omega (arith, counted e, squarings_few (pooled_steps (first e) (second e)), (pool_of e).count)
 
 returns-3 : tie.Need-returns-3
 returns-3 c =
     let judged = c.before.before.before in
     refused_leaves _ _ _ _ _ _
-    (parts-refused _ _ _ _ _ _ (found-refused _ _ _ judged.judge-parts.ensures _ _ c.before.number.given.1))
+    (parts_refused _ _ _ _ _ _ (found_refused _ _ _ judged.judge-parts.ensures _ _ c.before.number.given.1))
 
 returns-4 : tie.Need-returns-4
 returns-4 c =
@@ -126,9 +126,9 @@ returns-4 c =
     let e = room.before.before in
     let s = e.before.before.before.before.before.before.before.before.before.before.args in
     let pool = pool_of e in
-    let told = c.Counts-of.ensures ∙ counts-are (pooled_steps (first e) (second e)) _ _ pool.count (counted e) in
+    let told = c.Counts-of.ensures ∙ counts_are (pooled_steps (first e) (second e)) _ _ pool.count (counted e) in
     pooled_leaves _ _ s.steps.now s.outputs.now _ _ _
-    (room-enough _ _ _ _ (agreed e) (omega (arith, pool.count, room.before.if1.false)) (omega (arith, pool.payslips, room.if2.false))) told
+    (room_enough _ _ _ _ (agreed e) (omega (arith, pool.count, room.before.if1.false)) (omega (arith, pool.payslips, room.if2.false))) told
     (put-steps.put.ensures ∙ ap (λ (l : List ℕ). over l s.steps.now) pool.steps)
     (put-outputs.put2.ensures ∙ ap (λ (l : List ℕ). over l s.outputs.now) pool.outputs)
 

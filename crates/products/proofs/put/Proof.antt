@@ -2,7 +2,7 @@
 use borrow.Author.Rules.{rules}
 use native.Mathlib.Omega.{arith}
 use lib.ListN.{length-set}
-use Rattle.products.proofs.Emitted.{squarings-within, put-ordered}
+use Rattle.products.proofs.Emitted.{squarings_within, put_ordered}
 use Rattle.products.proofs.put.Statement.{statement}
 use Rattle.products.proofs.put.Tie as tie
 
@@ -10,11 +10,11 @@ use Rattle.products.proofs.put.Tie as tie
 add-squarings : tie.Need-overflow-add-t8
 add-squarings c =
     let room = c.before.before.before.before.requires in
-    omega (arith, squarings-within _ _ room.so_far, room.enough, c.before.squaring.ensures.low)
+    omega (arith, squarings_within _ _ room.so_far, room.enough, c.before.squaring.ensures.low)
 
 pub put_spec : {M : Type 1} → statement M
 put_spec =
     tie.close
     (tie.spec (λ c κs. search rules) (λ c. search rules) (λ c. search rules) (λ c. search rules) (λ c. search rules) (λ c. search rules)
     (λ c. search rules) (λ c. simp length-set (search rules)) (λ c. search rules) (λ c κs. search rules) add-squarings (λ c. search rules)
-    (λ c. search put-ordered))
+    (λ c. search put_ordered))

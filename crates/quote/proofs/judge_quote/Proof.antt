@@ -3,7 +3,7 @@ use borrow.Author.Rules.{rules}
 use mathlib.Core.Path.{◌≡◌, sym}
 use native.Mathlib.Omega.{arith}
 use Rattle.chain.specs.Verdict.{fine}
-use Rattle.chain.proofs.Rules.{judging, pass, then_fine, told-fine}
+use Rattle.chain.proofs.Rules.{judging, pass, then_fine, told_fine}
 use Rattle.chain.proofs.Sizes.{sizes_fit}
 use Rattle.sheet.specs.Sheet.{sheet_rule}
 use Rattle.quote.specs.ByMethod.{count_rule, ceiling_answer}
@@ -13,13 +13,13 @@ use Rattle.quote.proofs.judge_quote.Statement.{statement}
 use Rattle.quote.proofs.judge_quote.Tie as tie
 
 -- the sheet is fine, and then the method too
-sheet-fine : (c : tie.After-enum-told) → let a = c.before.before.before.before.before.args in fine ≡ sheet_rule a.p a.q a.amounts.now
-sheet-fine c = told-fine _ _ c.before.before.judge-sheet.ensures c.enum_told.given.1
+sheet_fine : (c : tie.After-enum-told) → let a = c.before.before.before.before.before.args in fine ≡ sheet_rule a.p a.q a.amounts.now
+sheet_fine c = told_fine _ _ c.before.before.judge-sheet.ensures c.enum_told.given.1
 
 passed : (c : tie.After-enum-told2) → let a = c.before.before.before.before.before.before.before.before.args in
     fine ≡ count_rule a.p a.q a.amounts.now a.method a.k
 unfolding count_rule
-passed c = pass _ _ _ (sheet-fine c.before.before.before) (told-fine _ _ c.before.before.judge-method.ensures c.enum-told2.given.1)
+passed c = pass _ _ _ (sheet_fine c.before.before.before) (told_fine _ _ c.before.before.judge-method.ensures c.enum-told2.given.1)
 
 judge-sheet-requires : tie.Need-judge-sheet-requires
 judge-sheet-requires c κs = search rules
@@ -36,7 +36,7 @@ enum_told c = search rules
 
 judge-method-requires : tie.Need-judge-method-requires
 unfolding sheet_rule
-judge-method-requires c κs = (sizes_fit _ _ (then_fine _ _ (sym (sheet-fine c))).0).p-low
+judge-method-requires c κs = (sizes_fit _ _ (then_fine _ _ (sym (sheet_fine c))).0).p_low
 
 enum-known-number-2 : tie.Need-enum-known-number-2
 enum-known-number-2 c = search rules
@@ -51,7 +51,7 @@ enum-told-2 c = search rules
 measure-requires : tie.Need-measure-requires
 measure-requires c κs =
     let r = in_range _ _ _ _ _ (sym (passed c.before)) in
-    (omega (arith, r.sizes.p-low), r.amounts_are)
+    (omega (arith, r.sizes.p_low), r.amounts_are)
 
 quote-requires : tie.Need-quote-requires
 quote-requires c κs =

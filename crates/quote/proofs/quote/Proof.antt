@@ -1,7 +1,7 @@
 -- Each arm counts by the method that the number names.
 use native.Mathlib.Omega.{arith}
 use Rattle.quote.proofs.Fits.{InRange, in_range, first_asks, other_asks}
-use Rattle.quote.proofs.ByMethod.{is-straus, is-yao, is-partition, quoted}
+use Rattle.quote.proofs.ByMethod.{is_straus, is_yao, is_partition, quoted}
 use Rattle.quote.proofs.quote.Statement.{statement}
 use Rattle.quote.proofs.quote.Tie as tie
 
@@ -23,13 +23,13 @@ quote-requires-3 c κs =
     other_asks (given s) s.requires.measured (λ e. omega arith)
 
 returns : tie.Need-returns
-returns c = quoted (is-straus _ _ _ _ _ (omega arith)) c.quote.ensures
+returns c = quoted (is_straus _ _ _ _ _ (omega arith)) c.quote.ensures
 
 returns-2 : tie.Need-returns-2
-returns-2 c = quoted (is-yao _ _ _ _ _ (omega arith)) c.quote2.ensures
+returns-2 c = quoted (is_yao _ _ _ _ _ (omega arith)) c.quote2.ensures
 
 returns-3 : tie.Need-returns-3
-returns-3 c = quoted (is-partition _ _ _ _ _ (λ e. omega arith) (λ e. omega arith)) c.quote3.ensures
+returns-3 c = quoted (is_partition _ _ _ _ _ (λ e. omega arith) (λ e. omega arith)) c.quote3.ensures
 
 pub quote_spec : {M : Type 1} → statement M
 quote_spec =

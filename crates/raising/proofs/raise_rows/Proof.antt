@@ -1,11 +1,11 @@
 -- The first place, and then the rows.
 use borrow.Author.Rules.{rules}
-use Rattle.raising.proofs.Joining.{first-asked, rows_raised}
+use Rattle.raising.proofs.Joining.{first_asked, rows_raised}
 use Rattle.raising.proofs.raise_rows.Statement.{statement}
 use Rattle.raising.proofs.raise_rows.Tie as tie
 
 raise-each-requires : tie.Need-raise-each-requires
-raise-each-requires c κs = first-asked _ _ _ _ _ _ c.before.before.requires
+raise-each-requires c κs = first_asked _ _ _ _ _ _ c.before.before.requires
 
 returns : tie.Need-returns
 returns c = rows_raised _ _ _ _ _ _ c.before.before.before.before.before.requires _ _ c.before.before.raise-each.ensures

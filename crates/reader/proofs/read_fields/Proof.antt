@@ -227,9 +227,9 @@ this_meets {𝓤 = 𝓤} 𝓛 mem run 𝓣 known = walk_Meets 𝓛 this.ended st
 )
     (this.clauses 𝓛 mem run) (WpFn 𝓤 𝓛.H 𝓣.C 𝓣.Λ code.function) (WpFn-mono 𝓤 𝓛.H 𝓛.laws 𝓣 code.function) (this_walks 𝓛 mem run 𝓣 known)
 
-pub read-fields_spec : {M : Type 1} → stated.statement M
+pub read_fields_spec : {M : Type 1} → stated.statement M
 unfolding code.routine tables_of
-read-fields_spec 𝓤 𝓛 𝓜 𝓡 =
+read_fields_spec 𝓤 𝓛 𝓜 𝓡 =
     entered 𝓤 𝓛.H (triple_of 𝓛 this.signature (this.spec 𝓛 𝓜.mem 𝓡.run))
     (tables 𝓤 𝓛.H 𝓜 𝓡 code.env).C (tables 𝓤 𝓛.H 𝓜 𝓡 code.env).Λ #reader·read-fields code.function (code.unfolded 𝓤 𝓛.H 𝓜 𝓡)
     (this_meets 𝓛 𝓜.mem 𝓡.run (tables_of 𝓤 𝓛.H 𝓜 (tables 𝓤 𝓛.H 𝓜 𝓡 code.env))

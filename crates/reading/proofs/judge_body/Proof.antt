@@ -4,7 +4,7 @@ use Rattle.chain.specs.Verdict.{Verdict}
 use Rattle.chain.specs.Chain.{chain_rule, squarings_of}
 use Rattle.chain.specs.Inner.{counted_by}
 use Rattle.chain.proofs.Rules.{judging}
-use Rattle.chain.proofs.Squarings.{counted-refused, counting}
+use Rattle.chain.proofs.Squarings.{counted_refused, counting}
 use Rattle.reading.specs.Inner.{file_steps, file_outputs, body_rule}
 use Rattle.reading.proofs.ReadAnswers.{contained, filling_room, body_is}
 use borrow.Author.Rules.{rules}
@@ -21,7 +21,7 @@ returns-4 c =
     let t = c.before.before in
     let e = t.before.before.before.before.before in
     let s = e.before.before.before in
-    counted-refused _ _ _ _ (body_is _ s.args.x s.requires _ _ _ t.take.ensures.is _ (search judging depth 12))
+    counted_refused _ _ _ _ (body_is _ s.args.x s.requires _ _ _ t.take.ensures.is _ (search judging depth 12))
 
 judge-chain-requires : tie.Need-judge-chain-requires
 judge-chain-requires c κs =

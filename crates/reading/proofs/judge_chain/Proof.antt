@@ -1,7 +1,7 @@
 -- A short file's chain is that of the copy that begins with it (`long-judged`).
 use native.Mathlib.Omega.{arith}
 use borrow.Author.Rules.{rules}
-use Rattle.reading.proofs.Judging.{long-contained, long-judged}
+use Rattle.reading.proofs.Judging.{long_contained, long_judged}
 use Rattle.reading.proofs.judge_chain.Statement.{statement}
 use Rattle.reading.proofs.judge_chain.Tie as tie
 
@@ -9,13 +9,13 @@ judge-lists-requires : tie.Need-judge-lists-requires
 judge-lists-requires c κs =
     let copied = c.before.before in
     let start = copied.before.before.before.before in
-    long-contained _ _ _ copied.lengthen.ensures _ start.requires (search rules) (omega arith)
+    long_contained _ _ _ copied.lengthen.ensures _ start.requires (search rules) (omega arith)
 
 returns : tie.Need-returns
 returns c =
     let copied = c.before.before.before in
     let start = copied.before.before.before.before in
-    long-judged _ _ _ copied.lengthen.ensures _ start.requires _ c.judge-lists.ensures
+    long_judged _ _ _ copied.lengthen.ensures _ start.requires _ c.judge-lists.ensures
 
 pub judge_chain_spec : {M : Type 1} → statement M
 judge_chain_spec =

@@ -1,27 +1,27 @@
 -- The steps' verdict, then the outputs': a refusal of the steps stops, and else the outputs decide; the squarings are those that the steps' judge counted.
 use borrow.Author.Rules.{rules}
 use Rattle.chain.proofs.Rules.{judging}
-use Rattle.chain.proofs.Squarings.{counted-refused, counted-done, found_number, counting}
-use Rattle.reading.proofs.ReadAnswers.{chain-is}
+use Rattle.chain.proofs.Squarings.{counted_refused, counted_done, found_number, counting}
+use Rattle.reading.proofs.ReadAnswers.{chain_is}
 use Rattle.reading.proofs.judge_lists.Statement.{statement}
 use Rattle.reading.proofs.judge_lists.Tie as tie
 
 returns : tie.Need-returns
 returns c =
     let x = c.before.before.before.before.before.args.x in
-    counted-refused _ _ _ _ (chain-is _ x _ (search (judging, counting) depth 8))
+    counted_refused _ _ _ _ (chain_is _ x _ (search (judging, counting) depth 8))
 
 returns-2 : tie.Need-returns-2
 returns-2 c =
     let x = c.before.before.before.before.before.before.before.before.before.args.x in
-    counted-refused _ _ _ _ (chain-is _ x _ (search (judging, counting) depth 8))
+    counted_refused _ _ _ _ (chain_is _ x _ (search (judging, counting) depth 8))
 
 returns-3 : tie.Need-returns-3
 returns-3 c =
     let told = c.before.before.before.before in
     let j = told.before.before in
     let x = j.before.before.args.x in
-    counted-done _ _ _ (chain-is _ x _ (search (judging, counting) depth 8)) (found_number _ _ _ j.judge-steps.ensures _ told.squarings.given.1)
+    counted_done _ _ _ (chain_is _ x _ (search (judging, counting) depth 8)) (found_number _ _ _ j.judge-steps.ensures _ told.squarings.given.1)
 
 pub judge_lists_spec : {M : Type 1} → statement M
 judge_lists_spec =

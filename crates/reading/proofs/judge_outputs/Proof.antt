@@ -3,7 +3,7 @@ use Prim.Native.Nat.{◌-◌}
 use native.Mathlib.Omega.{arith}
 use Rattle.chain.specs.Chain.{outputs_rule}
 use Rattle.reading.specs.Inner.{file_outputs}
-use Rattle.reading.proofs.Judging.{OutputsLeft, outputs-within, outputs_start, output_room_lem, output_bad, output_on, outputs-end}
+use Rattle.reading.proofs.Judging.{OutputsLeft, outputs_within, outputs_start, output_room_lem, output_bad, output_on, outputs_end}
 use borrow.Author.Rules.{rules}
 use Rattle.reading.proofs.judge_outputs.Statement.{statement}
 use Rattle.reading.proofs.judge_outputs.Tie as tie
@@ -31,7 +31,7 @@ add-t12 c =
     record { fits = omega (arith, x.parts, x.low) }
 
 loop-holds : tie.Need-loop-init invariant-loop decreases-loop
-loop-holds c = outputs_start _ _ _ _ _ (outputs-within _ _ c.before.before.before.before.before.requires)
+loop-holds c = outputs_start _ _ _ _ _ (outputs_within _ _ c.before.before.before.before.before.requires)
 
 take-requires : tie.Need-take-requires invariant-loop decreases-loop
 take-requires c κs = output_room_lem _ _ _ _ _ _ _ c.before.loop.invariant c.loop-test.true
@@ -58,7 +58,7 @@ loop-again c =
     output_on _ _ _ _ _ _ _ l.before.loop.invariant l.loop-test.true _ _ t.take.ensures c.before.if1.false
 
 returns-2 : tie.Need-returns-2 invariant-loop decreases-loop
-returns-2 c = outputs-end _ _ _ _ _ _ _ c.before.loop.invariant c.loop-test.false
+returns-2 c = outputs_end _ _ _ _ _ _ _ c.before.loop.invariant c.loop-test.false
 
 pub judge_outputs_spec : {M : Type 1} → statement M
 judge_outputs_spec =

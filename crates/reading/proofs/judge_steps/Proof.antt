@@ -2,10 +2,10 @@
 -- judges one step, counts it and moves past it.
 use Prim.Native.Nat.{◌-◌}
 use Rattle.chain.specs.Chain.{steps_rule, squarings_of}
-use Rattle.chain.proofs.Squarings.{counted-refused, counted-done}
+use Rattle.chain.proofs.Squarings.{counted_refused, counted_done}
 use Rattle.fields.proofs.Taking.{number_fits}
 use Rattle.reading.specs.Inner.{file_steps}
-use Rattle.reading.proofs.Judging.{StepsLeft, steps-within, steps_start, step_room, step_bad, step_on, steps-end, squarings-end}
+use Rattle.reading.proofs.Judging.{StepsLeft, steps_within, steps_start, step_room, step_bad, step_on, steps_end, squarings_end}
 use borrow.Author.Rules.{rules}
 use Rattle.reading.proofs.judge_steps.Statement.{statement}
 use Rattle.reading.proofs.judge_steps.Tie as tie
@@ -18,7 +18,7 @@ abbrev decreases-loop : tie.decreases-loop
 decreases-loop bytes x n c₀ squarings₀ s₀ c squarings s = n - s
 
 loop-holds : tie.Need-loop-init invariant-loop decreases-loop
-loop-holds c = steps_start _ _ _ _ _ (steps-within _ _ c.before.requires.contained)
+loop-holds c = steps_start _ _ _ _ _ (steps_within _ _ c.before.requires.contained)
 
 take-two-requires : tie.Need-take-two-requires invariant-loop decreases-loop
 take-two-requires c κs = step_room _ _ _ _ _ _ _ _ _ c.before.loop.invariant c.loop-test.true c.before.before.before.requires.long
@@ -38,7 +38,7 @@ returns c =
     let j = c.before.before.before in
     let t = j.before.before.before.before in
     let l = t.before in
-    counted-refused _ _ _ _
+    counted_refused _ _ _ _
     (step_bad _ _ _ _ _ _ _ _ _ l.before.loop.invariant l.loop-test.true _ _ _ t.take-two.ensures _ j.judge-step.ensures _ _
     c.before.number.given.1)
 
@@ -54,7 +54,7 @@ loop-again c =
 returns-2 : tie.Need-returns-2 invariant-loop decreases-loop
 returns-2 c =
     let inv = c.before.loop.invariant in
-    counted-done _ _ _ (steps-end _ _ _ _ _ _ _ _ _ inv c.loop-test.false) (squarings-end _ _ _ _ _ _ _ _ _ inv c.loop-test.false)
+    counted_done _ _ _ (steps_end _ _ _ _ _ _ _ _ _ inv c.loop-test.false) (squarings_end _ _ _ _ _ _ _ _ _ inv c.loop-test.false)
 
 pub judge_steps_spec : {M : Type 1} → statement M
 judge_steps_spec =

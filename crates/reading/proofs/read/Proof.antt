@@ -1,5 +1,5 @@
 -- `read` is `read_as` in edition 1, which is sound.
-use Rattle.layout.proofs.Editions.{edition1-sound}
+use Rattle.layout.proofs.Editions.{edition1_sound}
 use borrow.Author.Rules.{rules}
 use Rattle.reading.proofs.read.Statement.{statement}
 use Rattle.reading.proofs.read.Tie as tie
@@ -8,7 +8,7 @@ first-edition-requires : tie.Need-first-edition-requires
 first-edition-requires c κs = search rules
 
 read-as-requires : tie.Need-read-as-requires
-read-as-requires c κs = rw c.before.before.first-edition.ensures edition1-sound
+read-as-requires c κs = rw c.before.before.first-edition.ensures edition1_sound
 
 same_length : tie.Need-same-length
 same_length c = search rules
@@ -21,7 +21,7 @@ returns c =
     let b = c.before.before.before.before in
     let e = b.before.before.before.first-edition.ensures in
     let r = rw e at b.read_as.ensures in
-    (r.answered, (r.steps-left, r.outputs-left))
+    (r.answered, (r.steps_left_lem, r.outputs_left))
 
 pub read_spec : {M : Type 1} → statement M
 read_spec = tie.close (tie.spec first-edition-requires read-as-requires same_length same-length-2 returns)

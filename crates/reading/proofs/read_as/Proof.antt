@@ -1,5 +1,5 @@
 -- The header's judge refuses, or hands on the extent by which the body is read; `file-read` puts the two rules together.
-use Rattle.reading.proofs.ReadAnswers.{not_found, found, found-proper, file-refused, file-read}
+use Rattle.reading.proofs.ReadAnswers.{not_found, found, found_proper, file_refused, file_read_lem}
 use borrow.Author.Rules.{rules}
 use Rattle.reading.proofs.read_as.Statement.{statement}
 use Rattle.reading.proofs.read_as.Tie as tie
@@ -18,14 +18,14 @@ read-body-requires c κs =
     let x = c.before.before.before in
     let j = x.before.before in
     let s = j.before.before.before.before in
-    found-proper s.args.layout s.args.bytes.now _ j.judge-header.ensures s.requires _ x.x.given.1
+    found_proper s.args.layout s.args.bytes.now _ j.judge-header.ensures s.requires _ x.x.given.1
 
 returns : tie.Need-returns
 returns c =
     let j = c.before.before.before in
     let a = j.before.before.before.before.args in
     let r = not_found a.layout a.bytes.now _ j.judge-header.ensures _ _ c.before.number.given.1 in
-    file-refused a.layout a.bytes.now a.steps.now a.outputs.now _ _ r
+    file_refused a.layout a.bytes.now a.steps.now a.outputs.now _ _ r
 
 same_length : tie.Need-same-length
 same_length c = search rules
@@ -40,7 +40,7 @@ returns-2 c =
     let j = x.before.before in
     let a = j.before.before.before.before.args in
     let f = found a.layout a.bytes.now _ j.judge-header.ensures _ x.x.given.1 in
-    file-read a.layout a.bytes.now a.steps.now a.outputs.now _ f _ _ _ b.read-body.ensures
+    file_read_lem a.layout a.bytes.now a.steps.now a.outputs.now _ f _ _ _ b.read-body.ensures
 
 pub read_as_spec : {M : Type 1} → statement M
 read_as_spec =

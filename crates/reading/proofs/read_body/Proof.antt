@@ -6,9 +6,9 @@ use native.Mathlib.Omega.{arith}
 use lib.ListN.{length}
 use Rattle.chain.specs.Verdict.{fine}
 use Rattle.chain.specs.Chain.{squarings_of}
-use Rattle.chain.proofs.Squarings.{squarings-few, counts-are, found-refused, found-fine, found_number}
+use Rattle.chain.proofs.Squarings.{squarings_few, counts_are, found_refused, found_fine, found_number}
 use Rattle.reading.specs.Inner.{file_steps, body_rule}
-use Rattle.reading.proofs.ReadAnswers.{steps-count, body_refused, lists_room, body_done}
+use Rattle.reading.proofs.ReadAnswers.{steps_count, body_refused, lists_room, body_done}
 use Rattle.reading.proofs.read_body.Statement.{statement}
 use Rattle.reading.proofs.read_body.Tie as tie
 
@@ -16,7 +16,7 @@ use Rattle.reading.proofs.read_body.Tie as tie
 passed : (c : tie.After-squarings)
     → let a = c.before.before.before.before.before.before.args in
     fine ≡ body_rule a.bytes.now a.x (length a.steps.now / 2) (length a.outputs.now)
-passed c = found-fine _ _ _ c.before.before.judge-body.ensures _ c.squarings.given.1
+passed c = found_fine _ _ _ c.before.before.judge-body.ensures _ c.squarings.given.1
 
 -- and the squarings are counted
 counted : (c : tie.After-squarings)
@@ -35,7 +35,7 @@ counts-of-requires : tie.Need-counts-of-requires
 counts-of-requires c κs =
     let e = c.before.before.before.before.before.before.before.before in
     let a = e.before.before.before.before.before.before.args in
-    omega (arith, counted e, squarings-few (file_steps a.bytes.now a.x), steps-count a.bytes.now a.x)
+    omega (arith, counted e, squarings_few (file_steps a.bytes.now a.x), steps_count a.bytes.now a.x)
 
 returns : tie.Need-returns
 returns c =
@@ -43,7 +43,7 @@ returns c =
     let s = j.before.before.before.before in
     let a = s.args in
     body_refused a.bytes.now a.x s.requires a.steps.now a.outputs.now _ _
-    (found-refused _ _ _ j.judge-body.ensures _ _ c.before.number.given.1)
+    (found_refused _ _ _ j.judge-body.ensures _ _ c.before.number.given.1)
 
 returns-2 : tie.Need-returns-2
 returns-2 c =
@@ -51,9 +51,9 @@ returns-2 c =
     let e = t.before.before.before.before in
     let s = e.before.before.before.before.before.before in
     let a = s.args in
-    let n = sym (steps-count a.bytes.now a.x) in
+    let n = sym (steps_count a.bytes.now a.x) in
     body_done a.bytes.now a.x s.requires a.steps.now a.outputs.now (passed e) _ _ _
-    (c.Counts-of.ensures ∙ counts-are (file_steps a.bytes.now a.x) _ _ n (counted e)) t.take-lists.ensures
+    (c.Counts-of.ensures ∙ counts_are (file_steps a.bytes.now a.x) _ _ n (counted e)) t.take-lists.ensures
 
 pub read_body_spec : {M : Type 1} → statement M
 read_body_spec =

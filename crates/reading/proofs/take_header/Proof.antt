@@ -47,7 +47,7 @@ use Rattle.reader.proofs.BitReader.take.Met as take-thm
 use Rattle.layout.specs.File.{edition_of, columns_of, payslips_of}
 use Rattle.reading.specs.Inner.{HeaderRoom, header_in}
 use Rattle.reading.specs.declared.Header.{Header}
-use Rattle.layout.proofs.Readable.{columns-low, payslips-low}
+use Rattle.layout.proofs.Readable.{columns_low, payslips_low}
 use Rattle.reading.specs.contracts.Header as T
 use Rattle.reading.proofs.Header.TheLaws as T'
 use Rattle.reading.specs.contracts.take_header.Key.{name as #reading·take-header}
@@ -66,24 +66,24 @@ module _ (bytes : List ℕ) (bits : ℕ) (ok : HeaderRoom bytes bits) where
   edition_room : FieldRoom bytes 0 4
   edition_room = room 0 4 (omega arith) (omega arith)
 
-  columns-room : FieldRoom bytes 4 4
-  columns-room = room 4 4 (omega arith) (omega arith)
+  columns_room : FieldRoom bytes 4 4
+  columns_room = room 4 4 (omega arith) (omega arith)
 
-  payslips-room : FieldRoom bytes 8 6
-  payslips-room = room 8 6 (omega arith) (omega arith)
+  payslips_room : FieldRoom bytes 8 6
+  payslips_room = room 8 6 (omega arith) (omega arith)
 
-  steps-room : FieldRoom bytes 14 bits
-  steps-room = room 14 bits (omega arith) (omega (arith, ok.short))
+  steps_room : FieldRoom bytes 14 bits
+  steps_room = room 14 bits (omega arith) (omega (arith, ok.short))
 
   -- its numbers fit
   edition_fits : edition_of bytes < 2 ^ 64
   edition_fits = omega (arith, field_lt bytes 0 4)
 
   columns_fit : columns_of bytes < 2 ^ 64
-  columns_fit = omega (arith, columns-low bytes)
+  columns_fit = omega (arith, columns_low bytes)
 
   payslips_fit : payslips_of bytes < 2 ^ 64
-  payslips_fit = omega (arith, payslips-low bytes)
+  payslips_fit = omega (arith, payslips_low bytes)
 
   length-fits : field_at bytes 14 bits < 2 ^ 64
   length-fits = lt_of_lt_of_le (field_lt bytes 14 bits) (pow_mono {j = 64} (omega (arith, ok.short)))
@@ -144,28 +144,28 @@ module _ {M : Type 1} {𝓤 : Ura M} (𝓛 : Logic 𝓤) (mem : Memory → SProp
         land ! (from ! (stop !)) (init ! 30 refl (tt, read_typed s 0 4 wt.1 (edition_room s.now bits ok))) $
         assigns ! (of_opd ! (load ! (from ! (fld ! refl (stop !))) (look_in ! 30 (sub ! 1 refl (whole !))))) (from ! (stop !))
         (init ! 18 refl (tt, next_typed s 0 4 wt.1 (edition_room s.now bits ok))) $
-        takes 𝓛 κ s 4 q mem run 4 ! fm known (columns-room s.now bits ok)
+        takes 𝓛 κ s 4 q mem run 4 ! fm known (columns_room s.now bits ok)
         (and_then ! (load ! (from ! (stop !)) (look ! 18 refl)) (and_then ! (lit ! tt) (no_more !))) $
-        land ! (from ! (stop !)) (init ! 28 refl (tt, read_typed s 4 4 wt.1 (columns-room s.now bits ok))) $
+        land ! (from ! (stop !)) (init ! 28 refl (tt, read_typed s 4 4 wt.1 (columns_room s.now bits ok))) $
         assigns ! (of_opd ! (load ! (from ! (fld ! refl (stop !))) (look_in ! 28 (sub ! 1 refl (whole !))))) (from ! (stop !))
-        (init ! 16 refl (tt, next_typed s 4 4 wt.1 (columns-room s.now bits ok))) $
-        takes 𝓛 κ s 8 q mem run 6 ! fm known (payslips-room s.now bits ok)
+        (init ! 16 refl (tt, next_typed s 4 4 wt.1 (columns_room s.now bits ok))) $
+        takes 𝓛 κ s 8 q mem run 6 ! fm known (payslips_room s.now bits ok)
         (and_then ! (load ! (from ! (stop !)) (look ! 16 refl)) (and_then ! (lit ! tt) (no_more !))) $
-        land ! (from ! (stop !)) (init ! 26 refl (tt, read_typed s 8 6 wt.1 (payslips-room s.now bits ok))) $
+        land ! (from ! (stop !)) (init ! 26 refl (tt, read_typed s 8 6 wt.1 (payslips_room s.now bits ok))) $
         assigns ! (of_opd ! (load ! (from ! (fld ! refl (stop !))) (look_in ! 26 (sub ! 1 refl (whole !))))) (from ! (stop !))
-        (init ! 14 refl (tt, next_typed s 8 6 wt.1 (payslips-room s.now bits ok))) $
-        takes 𝓛 κ s 14 q mem run bits ! fm known (steps-room s.now bits ok)
+        (init ! 14 refl (tt, next_typed s 8 6 wt.1 (payslips_room s.now bits ok))) $
+        takes 𝓛 κ s 14 q mem run bits ! fm known (steps_room s.now bits ok)
         (and_then ! (load ! (from ! (stop !)) (look ! 14 refl)) (and_then ! (load ! (from ! (stop !)) (look ! 34 refl)) (no_more !))) $
-        land ! (from ! (stop !)) (init ! 24 refl (tt, read_typed s 14 bits wt.1 (steps-room s.now bits ok))) $
+        land ! (from ! (stop !)) (init ! 24 refl (tt, read_typed s 14 bits wt.1 (steps_room s.now bits ok))) $
         -- the header is made of their values
         assigns ! (of_opd ! (load ! (from ! (fld ! refl (stop !))) (look_in ! 30 (sub ! 0 refl (whole !))))) (from ! (stop !))
         (init ! 12 refl (tt, record { fits = edition_fits s.now bits ok })) $
         assigns ! (of_opd ! (load ! (from ! (fld ! refl (stop !))) (look_in ! 28 (sub ! 0 refl (whole !))))) (from ! (stop !))
-        (init ! 10 refl (tt, (read_typed s 4 4 wt.1 (columns-room s.now bits ok)).0)) $
+        (init ! 10 refl (tt, (read_typed s 4 4 wt.1 (columns_room s.now bits ok)).0)) $
         assigns ! (bin ! (load ! (from ! (stop !)) (look ! 10 refl)) (lit ! tt) (record { fits = columns_fit s.now bits ok })) (from ! (stop !))
         (init ! 8 refl (tt, record { fits = columns_fit s.now bits ok })) $
         assigns ! (of_opd ! (load ! (from ! (fld ! refl (stop !))) (look_in ! 26 (sub ! 0 refl (whole !))))) (from ! (stop !))
-        (init ! 6 refl (tt, (read_typed s 8 6 wt.1 (payslips-room s.now bits ok)).0)) $
+        (init ! 6 refl (tt, (read_typed s 8 6 wt.1 (payslips_room s.now bits ok)).0)) $
         assigns ! (bin ! (load ! (from ! (stop !)) (look ! 6 refl)) (lit ! tt) (record { fits = payslips_fit s.now bits ok })) (from ! (stop !))
         (init ! 4 refl (tt, record { fits = payslips_fit s.now bits ok })) $
         assigns ! (of_opd ! (load ! (from ! (fld ! refl (stop !))) (look_in ! 24 (sub ! 0 refl (whole !))))) (from ! (stop !))

@@ -103,7 +103,7 @@ module _ {M : Type 1} {𝓤 : Ura M} (𝓛 : Logic 𝓤) (mem : Memory → SProp
       suffices ! _ (ends_at 𝓛 this.ended stayed (this.clauses 𝓛 mem run)
       (((κ, (κ₁, (κ₂, tt))), (q, (q₁, (q₂, tt))), tt, a, vs), tt) vunit tt (tt, (tt, (tt, (tt, (tt, (steps, (outputs, tt)))))))
       (tt, (tt, (tt, (tt, (tt, (len, (len₂, tt)))))))) $
-      says ! (record { steps-taken = refl; outputs-taken = refl }) $
+      says ! (record { steps_taken = refl; outputs_taken = refl }) $
       nothing ! $ move ! (3 ∷ 0 ∷ []) $ join ! $ move ! (2 ∷ 0 ∷ []) $ join ! $ move ! (1 ∷ 0 ∷ []) $ join ! $ frame ! $
       nothing ! $ move ! (2 ∷ 0 ∷ []) $ fjoin ! $ move ! (1 ∷ 0 ∷ []) $ fjoin ! $ nothing ! $ fjoin ! $ nothing ! $ fjoin ! $ nothing ! $ fjoin ! $
       nothing ! $ fjoin ! $ nothing ! $ fjoin ! $ frame ! $ feq_i ! (List Val) (vunit ∷ []) (vunit ∷ []) refl $ done !

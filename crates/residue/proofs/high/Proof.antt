@@ -1,6 +1,6 @@
 -- The code's digits are those of `Upper` in base 2 ^ 32; each of its sums is a product of two digits and one digit more.
 use Rattle.std.proofs.Common.{◌≡◌, ℕ, ◌+◌, ◌*◌, ◌/◌, ◌%◌, ◌^◌, ◌<◌, sym, ◌∙◌, subst, le-add_right, lt_of_le_of_lt, mod-lt, add_comm, div-add-mod', pow_pos, pow-add, shr_lt}
-use Rattle.residue.proofs.Width.{product-fits, sum_fits}
+use Rattle.residue.proofs.Width.{product_fits, sum_fits}
 use Rattle.residue.proofs.Upper.{middle, next, upper}
 use Rattle.residue.proofs.high.Statement.{statement}
 use Rattle.residue.proofs.high.Tie as tie
@@ -21,26 +21,26 @@ high_law u v =
     ∙ (λ i. div-add-mod' u (2 ^ 32) i * div-add-mod' v (2 ^ 32) i / sym (pow-add 2 32 32) i)
 
 high_fits : (u v : ℕ) → u < 2 ^ 64 → v < 2 ^ 64 → columns u v < 2 ^ 64
-high_fits u v hu hv = subst (λ (n : ℕ). n < 2 ^ 64) (sym (high_law u v)) (shr_lt 64 64 (product-fits 64 hu hv))
+high_fits u v hu hv = subst (λ (n : ℕ). n < 2 ^ 64) (sym (high_law u v)) (shr_lt 64 64 (product_fits 64 hu hv))
 
 mul-middle : tie.Need-overflow-mul-middle
-mul-middle c = record { fits = product-fits 32 (shr_lt 32 32 c.ranges.u.fits) (low _) }
+mul-middle c = record { fits = product_fits 32 (shr_lt 32 32 c.ranges.u.fits) (low _) }
 
 mul-middle-2 : tie.Need-overflow-mul-middle-2
-mul-middle-2 c = record { fits = product-fits 32 (low _) (low _) }
+mul-middle-2 c = record { fits = product_fits 32 (low _) (low _) }
 
 add-middle : tie.Need-overflow-add-middle
-add-middle c = record { fits = sum_fits 32 (shr_lt 32 32 c.ranges.u.fits) (low _) (shr_lt 32 32 (product-fits 32 (low _) (low _))) }
+add-middle c = record { fits = sum_fits 32 (shr_lt 32 32 c.ranges.u.fits) (low _) (shr_lt 32 32 (product_fits 32 (low _) (low _))) }
 
 mul_next : tie.Need-overflow-mul-next
-mul_next c = record { fits = product-fits 32 (low _) (shr_lt 32 32 c.ranges.v.fits) }
+mul_next c = record { fits = product_fits 32 (low _) (shr_lt 32 32 c.ranges.v.fits) }
 
 add-next : tie.Need-overflow-add-next
 add-next c =
     record { fits = subst (λ (n : ℕ). n < 2 ^ 64) (add_comm _ _) (sum_fits 32 (low _) (shr_lt 32 32 c.ranges.v.fits) (low _)) }
 
 mul-result : tie.Need-overflow-mul-result
-mul-result c = record { fits = product-fits 32 (shr_lt 32 32 c.ranges.u.fits) (shr_lt 32 32 c.ranges.v.fits) }
+mul-result c = record { fits = product_fits 32 (shr_lt 32 32 c.ranges.u.fits) (shr_lt 32 32 c.ranges.v.fits) }
 
 add-result : tie.Need-overflow-add-result
 add-result c = record { fits = lt_of_le_of_lt (le-add_right _ _) (high_fits c.args.u c.args.v c.ranges.u.fits c.ranges.v.fits) }

@@ -1,13 +1,13 @@
 -- The quotient taken leaves less than m twice (`Quotient`), and what is left is corrected by its top bit (`Correction`).
 use Rattle.std.proofs.Common.{rules}
-use Rattle.residue.proofs.Width.{product-fits}
-use Rattle.residue.proofs.Quotient.{Taken, taken_under, taken-fits, what_is-left}
+use Rattle.residue.proofs.Width.{product_fits}
+use Rattle.residue.proofs.Quotient.{Taken, taken_under, taken_fits, what_is_left}
 use Rattle.residue.proofs.Correction.{one_more, as_it_is}
 use Rattle.residue.proofs.times.Statement.{statement}
 use Rattle.residue.proofs.times.Tie as tie
 
 mul-product : tie.Need-overflow-mul-product
-mul-product c = record { fits = product-fits 32 (search rules) (search rules) }
+mul-product c = record { fits = product_fits 32 (search rules) (search rules) }
 
 high-requires : tie.Need-high-requires
 high-requires c κs = search rules
@@ -15,7 +15,7 @@ high-requires c κs = search rules
 mul_left : tie.Need-overflow-mul-left
 mul_left c =
     let s = c.before in
-    record { fits = taken-fits (record { x_low = s.ranges.x.fits; y_low = s.ranges.y.fits; asked = s.requires; taken = c.high.ensures }) }
+    record { fits = taken_fits (record { x_low = s.ranges.x.fits; y_low = s.ranges.y.fits; asked = s.requires; taken = c.high.ensures }) }
 
 sub-left : tie.Need-overflow-sub-left
 sub-left c =
@@ -31,7 +31,7 @@ cast-result c =
     let call = c.before.before in
     let s = call.before in
     let t : Taken _ _ _ _ _ = record { x_low = s.ranges.x.fits; y_low = s.ranges.y.fits; asked = s.requires; taken = call.high.ensures } in
-    record { fits = (one_more (what_is-left t) s.ranges.m.fits told.type-inv told.ensures c.if1.true).low }
+    record { fits = (one_more (what_is_left t) s.ranges.m.fits told.type-inv told.ensures c.if1.true).low }
 
 cast-result-2 : tie.Need-overflow-cast-result-2
 cast-result-2 c =
@@ -39,7 +39,7 @@ cast-result-2 c =
     let call = c.before.before in
     let s = call.before in
     let t : Taken _ _ _ _ _ = record { x_low = s.ranges.x.fits; y_low = s.ranges.y.fits; asked = s.requires; taken = call.high.ensures } in
-    record { fits = (as_it_is (what_is-left t) s.ranges.m.fits told.type-inv told.ensures c.if1.false).low }
+    record { fits = (as_it_is (what_is_left t) s.ranges.m.fits told.type-inv told.ensures c.if1.false).low }
 
 returns : tie.Need-returns
 returns c =
@@ -47,7 +47,7 @@ returns c =
     let call = c.before.before in
     let s = call.before in
     let t : Taken _ _ _ _ _ = record { x_low = s.ranges.x.fits; y_low = s.ranges.y.fits; asked = s.requires; taken = call.high.ensures } in
-    (one_more (what_is-left t) s.ranges.m.fits told.type-inv told.ensures c.if1.true).is
+    (one_more (what_is_left t) s.ranges.m.fits told.type-inv told.ensures c.if1.true).is
 
 returns-2 : tie.Need-returns-2
 returns-2 c =
@@ -55,7 +55,7 @@ returns-2 c =
     let call = c.before.before in
     let s = call.before in
     let t : Taken _ _ _ _ _ = record { x_low = s.ranges.x.fits; y_low = s.ranges.y.fits; asked = s.requires; taken = call.high.ensures } in
-    (as_it_is (what_is-left t) s.ranges.m.fits told.type-inv told.ensures c.if1.false).is
+    (as_it_is (what_is_left t) s.ranges.m.fits told.type-inv told.ensures c.if1.false).is
 
 pub times_spec : {M : Type 1} → statement M
 times_spec =

@@ -8,7 +8,7 @@ use Rattle.chain.specs.Judgement.{verdict_of}
 use Rattle.chain.proofs.Rules.{judging}
 use Rattle.chain.proofs.Squarings.{counting}
 use Rattle.rest.specs.Inner.{EndAsked}
-use Rattle.rest.proofs.Rest.{rest-flat}
+use Rattle.rest.proofs.Rest.{rest_flat}
 use Rattle.rest.proofs.judge_rest.Statement.{statement}
 use Rattle.rest.proofs.judge_rest.Tie as tie
 
@@ -19,7 +19,7 @@ able : (e : tie.After-enum-told)
 able e = e.before.before.before.before.requires (ap verdict_of e.enum_told.given.1)
 
 judge-steps-requires : tie.Need-judge-steps-requires
-judge-steps-requires c κs = omega (arith, (able c).p-low, (able c).n-low)
+judge-steps-requires c κs = omega (arith, (able c).p_low, (able c).n_low)
 
 judge-end-requires : tie.Need-judge-end-requires
 judge-end-requires c κs = able c.before.before.before.before
@@ -28,5 +28,5 @@ pub judge_rest_spec : {M : Type 1} → statement M
 judge_rest_spec =
     tie.close
     (tie.spec (λ c. search rules) (λ c. search rules) judge-steps-requires (λ c. search rules) (λ c. search rules) judge-end-requires (λ c. search rules)
-    (λ c. search rules) (λ c. search (judging, counting) depth 8) (λ c. search (judging, counting, rest-flat) depth 12)
-    (λ c. search (judging, counting, rest-flat) depth 12) (λ c. search (judging, counting, rest-flat) depth 12))
+    (λ c. search rules) (λ c. search (judging, counting) depth 8) (λ c. search (judging, counting, rest_flat) depth 12)
+    (λ c. search (judging, counting, rest_flat) depth 12) (λ c. search (judging, counting, rest_flat) depth 12))

@@ -5,7 +5,7 @@ use native.Mathlib.Omega.{arith}
 use Rattle.products.specs.Inner.{steps_in}
 use Rattle.row_products.specs.Inner.{joined}
 use Rattle.row_products.proofs.Chaining.{Making, slip_of}
-use Rattle.row_products.proofs.Joining.{join_room, join_none, clumps-asked, rest-asked, join_long, join_on, join_all}
+use Rattle.row_products.proofs.Joining.{join_room, join_none, clumps_asked, rest_asked, join_long, join_on, join_all}
 use Rattle.row_products.proofs.join.Statement.{statement}
 use Rattle.row_products.proofs.join.Tie as tie
 
@@ -23,14 +23,14 @@ row-product-requires : tie.Need-row-product-requires invariant-loop decreases-lo
 row-product-requires c κs =
     let b = c.before in
     let h = b.before.before in
-    clumps-asked _ _ _ _ _ h.before.before.requires _ b.if1.true _ _ h.loop.invariant.1
+    clumps_asked _ _ _ _ _ h.before.before.requires _ b.if1.true _ _ h.loop.invariant.1
 
 times-row-requires : tie.Need-times-row-requires invariant-loop decreases-loop
 times-row-requires c κs =
     let first = c.before.before.before in
     let b = first.before.before in
     let h = b.before.before in
-    rest-asked _ _ _ _ _ h.before.before.requires _ b.if1.true _ _ h.loop.invariant.1 _ _ _ first.row-product.ensures
+    rest_asked _ _ _ _ _ h.before.before.requires _ b.if1.true _ _ h.loop.invariant.1 _ _ _ first.row-product.ensures
 
 add-s : tie.Need-overflow-add-s invariant-loop decreases-loop
 add-s c =

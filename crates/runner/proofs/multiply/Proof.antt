@@ -3,7 +3,7 @@ use borrow.Author.Rules.{rules}
 use mathlib.Core.Path.{◌≡◌}
 use Prim.Native.Nat.{◌+◌, ◌-◌, ◌≤◌, ◌<◌}
 use lib.ListN.{length, length-set}
-use Rattle.chain.proofs.Steps.{first-within, second-within, within}
+use Rattle.chain.proofs.Steps.{first_within, second_within, within}
 use Rattle.chain.proofs.Filling.{made_to, filling}
 use Rattle.residue.specs.Residue.{times_mod}
 use Rattle.runner.proofs.multiply.Statement.{statement}
@@ -42,7 +42,7 @@ slice-read-times : tie.Need-slice-read-times invariant-loop decreases-loop
 slice-read-times c =
     let l = c.before.before.before.before.before in
     let t = c.before.before.before.before.loop-test.true in
-    first-within _ _ _ _ _ c.before.before.before.step-at.ensures t l.before.before.before.before.requires.steps-sound.steps-fine l.loop.invariant.2
+    first_within _ _ _ _ _ c.before.before.before.step-at.ensures t l.before.before.before.before.requires.steps_sound.steps_fine l.loop.invariant.2
 
 mul-times-2 : tie.Need-overflow-mul-times-2 invariant-loop decreases-loop
 mul-times-2 c = search (rules, within)
@@ -51,7 +51,7 @@ slice-read-times-2 : tie.Need-slice-read-times-2 invariant-loop decreases-loop
 slice-read-times-2 c =
     let l = c.before.before.before.before.before.before in
     let t = c.before.before.before.before.before.loop-test.true in
-    second-within _ _ _ _ _ c.before.before.before.before.step-at.ensures t l.before.before.before.before.requires.steps-sound.steps-fine l.loop.invariant.2
+    second_within _ _ _ _ _ c.before.before.before.before.step-at.ensures t l.before.before.before.before.requires.steps_sound.steps_fine l.loop.invariant.2
 
 times-requires : tie.Need-times-requires invariant-loop decreases-loop
 times-requires c κs = search rules

@@ -7,11 +7,11 @@ use mathlib.Core.List.{List}
 use lib.ListN.{length}
 use Rattle.chain.specs.Verdict.{fine, done}
 use Rattle.chain.specs.Chain.{pairs, squarings_of}
-use Rattle.chain.proofs.Rules.{answer-refused, answer-done, kept, renewed}
+use Rattle.chain.proofs.Rules.{answer_refused, answer_done, kept, renewed}
 use Rattle.chain.proofs.Pairs.{length_pairs}
-use Rattle.chain.proofs.Squarings.{squarings-few, counts-are, found-refused, found-fine, found_number}
+use Rattle.chain.proofs.Squarings.{squarings_few, counts_are, found_refused, found_fine, found_number}
 use Rattle.run.specs.Run.{run_rule, run_answer, run_values, run_figures}
-use Rattle.run.proofs.Runnable.{Runnable, runnable, show_all, outputs-are-values}
+use Rattle.run.proofs.Runnable.{Runnable, runnable, show_all, outputs_are_values}
 use Rattle.runner.proofs.run.Statement.{statement}
 use Rattle.runner.proofs.run.Tie as tie
 
@@ -19,7 +19,7 @@ use Rattle.runner.proofs.run.Tie as tie
 allowed : (c : tie.After-squarings)
     → let s = c.before.before.before.before.before.before.before.before.args in
     fine ≡ run_rule s.p (pairs s.steps.now) s.outputs.now s.m s.bases.now (length s.values.now) (length s.figures.now)
-allowed c = found-fine _ _ _ c.before.before.judge.ensures _ c.squarings.given.1
+allowed c = found_fine _ _ _ c.before.before.judge.ensures _ c.squarings.given.1
 
 -- and the squarings are counted
 counted : (c : tie.After-squarings)
@@ -39,9 +39,9 @@ fill-requires c κs =
       products =
           record {
             modulus = a.modulus;
-            steps-sound = record { p-low = a.sizes.p-low; steps-fine = a.steps-fine; room = rw length_pairs at a.values_fit };
+            steps_sound = record { p_low = a.sizes.p_low; steps_fine = a.steps_fine; room = rw length_pairs at a.values_fit };
           };
-      bases-are-p = a.bases-are-p;
+      bases_are_p = a.bases_are_p;
     }
 
 show-requires : tie.Need-show-requires
@@ -50,20 +50,20 @@ show-requires c κs =
     let a = acc filled.before.before.before in
     record {
       figures_fit = a.figures_fit;
-      outputs-within = λ i h. omega (arith, a.outputs-within i h, a.values_fit, filled.fill.auto.1.1.1.1.0);
+      outputs_within = λ i h. omega (arith, a.outputs_within i h, a.values_fit, filled.fill.auto.1.1.1.1.0);
     }
 
 counts-of-requires : tie.Need-counts-of-requires
 counts-of-requires c κs =
     let told = c.before.before.before.before.before.before.before.before.before.before in
     let steps = told.before.before.before.before.before.before.before.before.args.steps.now in
-    omega (arith, counted told, squarings-few (pairs steps), length_pairs steps)
+    omega (arith, counted told, squarings_few (pairs steps), length_pairs steps)
 
 returns : tie.Need-returns
 unfolding run_answer run_values run_figures
 returns c =
-    let r = found-refused _ _ _ c.before.before.before.judge.ensures _ _ c.before.number.given.1 in
-    (answer-refused _ _ _ _ r, (kept _ _ _ _ _ r, kept _ _ _ _ _ r))
+    let r = found_refused _ _ _ c.before.before.before.judge.ensures _ _ c.before.number.given.1 in
+    (answer_refused _ _ _ _ r, (kept _ _ _ _ _ r, kept _ _ _ _ _ r))
 
 returns-2 : tie.Need-returns-2
 unfolding run_answer run_values run_figures
@@ -72,12 +72,12 @@ returns-2 c =
     let filled = shown.before.before.before.before.before in
     let told = filled.before.before.before in
     let s = told.before.before.before.before.before.before.before.before.args in
-    let counts = c.Counts-of.ensures ∙ counts-are (pairs s.steps.now) _ _ (sym (length_pairs s.steps.now)) (counted told) in (
-      ap (λ (l : List ℕ). done l) counts ∙ answer-done _ _ (allowed told),
+    let counts = c.Counts-of.ensures ∙ counts_are (pairs s.steps.now) _ _ (sym (length_pairs s.steps.now)) (counted told) in (
+      ap (λ (l : List ℕ). done l) counts ∙ answer_done _ _ (allowed told),
       (
         renewed _ _ _ _ (allowed told) filled.fill.ensures,
         renewed _ _ s.figures.now _ (allowed told)
-            (show_all _ _ _ s.outputs.now s.figures.now _ filled.fill.ensures (outputs-are-values _ _ _ _ _ _ _ (acc told)) shown.show.ensures),
+            (show_all _ _ _ s.outputs.now s.figures.now _ filled.fill.ensures (outputs_are_values _ _ _ _ _ _ _ (acc told)) shown.show.ensures),
       ),
     )
 

@@ -2,12 +2,12 @@
 use native.Mathlib.Omega.{arith}
 use Rattle.chain.proofs.Rules.{judging}
 use Rattle.sheet.specs.Sheet.{amounts_rule}
-use Rattle.sheet.proofs.Amounts.{product-low}
+use Rattle.sheet.proofs.Amounts.{product_low}
 use Rattle.sheet.proofs.judge_amounts.Statement.{statement}
 use Rattle.sheet.proofs.judge_amounts.Tie as tie
 
 mul-if1 : tie.Need-overflow-mul-if1
-mul-if1 c = omega (arith, product-low _ _ c.requires.p-low c.requires.q_low)
+mul-if1 c = omega (arith, product_low _ _ c.requires.p_low c.requires.q_low)
 
 returns : tie.Need-returns
 unfolding amounts_rule

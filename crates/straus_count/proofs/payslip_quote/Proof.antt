@@ -2,7 +2,7 @@
 use borrow.Author.Rules.{rules, Fits-under}
 use mathlib.Core.Path.{◌≡◌}
 use Prim.Native.Nat.{◌+◌, ◌*◌, ◌≤◌, ◌-◌}
-use Rattle.straus_count.proofs.Counting.{signs_to, lower_told, lower_fits, lower_place, squarings_fit, signs_on, most-low, most-fits, most-told, sum_fits, cost_all, cost_few}
+use Rattle.straus_count.proofs.Counting.{signs_to, lower_told, lower_fits, lower_place, squarings_fit, signs_on, most_low, most_fits, most_told, sum_fits, cost_all, cost_few}
 use Rattle.straus_count.proofs.payslip_quote.Statement.{statement}
 use Rattle.straus_count.proofs.payslip_quote.Tie as tie
 
@@ -25,7 +25,7 @@ mul-squarings : tie.Need-overflow-mul-squarings invariant-loop decreases-loop
 mul-squarings c = Fits-under _ _ 32 (search (squarings_fit, lower_fits)) tt
 
 add-ceiling : tie.Need-overflow-add-ceiling invariant-loop decreases-loop
-add-ceiling c = Fits-under _ _ 64 (search (most-fits, lower_fits)) tt
+add-ceiling c = Fits-under _ _ 64 (search (most_fits, lower_fits)) tt
 
 loop-holds : tie.Need-loop-init invariant-loop decreases-loop
 loop-holds c = search rules
@@ -57,7 +57,7 @@ returns : tie.Need-returns invariant-loop decreases-loop
 returns c =
     record {
       counted = record { is = search (cost_all, lower_told); low = search (cost_few, lower_fits) };
-      ceiled = record { is = search (most-told, lower_told); low = search (most-low, lower_fits) };
+      ceiled = record { is = search (most_told, lower_told); low = search (most_low, lower_fits) };
     }
 
 pub payslip_quote_spec : {M : Type 1} → statement M

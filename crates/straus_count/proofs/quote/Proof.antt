@@ -4,11 +4,11 @@ use mathlib.Core.Path.{◌≡◌}
 use Prim.Native.Nat.{◌+◌, ◌*◌, ◌≤◌, ◌-◌}
 use native.Mathlib.Omega.{arith}
 use Rattle.digits.specs.Range.{sum_to}
-use Rattle.digits.proofs.Range.{sum-after, sum-after-end}
+use Rattle.digits.proofs.Range.{sum-after, sum-after_end}
 use Rattle.straus.specs.Straus.{straus_payslip_count, straus_payslip_ceiling}
-use Rattle.straus_count.proofs.Counting.{columns-below, quote_all}
+use Rattle.straus_count.proofs.Counting.{columns_below, quote_all}
 use Rattle.straus_count.specs.Inner.{straus_payslip_most}
-use Rattle.straus.proofs.Overlaying.{payslip-asked}
+use Rattle.straus.proofs.Overlaying.{payslip_asked}
 use Rattle.straus_count.proofs.quote.Statement.{statement}
 use Rattle.straus_count.proofs.quote.Tie as tie
 
@@ -30,16 +30,16 @@ cast-table : tie.Need-overflow-cast-table invariant-loop decreases-loop
 cast-table c = search rules
 
 sub-table : tie.Need-overflow-sub-table invariant-loop decreases-loop
-sub-table c = omega (arith, columns-below _ _ _ c.power.ensures (search rules))
+sub-table c = omega (arith, columns_below _ _ _ c.power.ensures (search rules))
 
 sub-table-2 : tie.Need-overflow-sub-table-2 invariant-loop decreases-loop
-sub-table-2 c = omega (arith, columns-below _ _ _ c.power.ensures (search rules))
+sub-table-2 c = omega (arith, columns_below _ _ _ c.power.ensures (search rules))
 
 loop-holds : tie.Need-loop-init invariant-loop decreases-loop
 loop-holds c = search rules
 
 payslip-quote-requires : tie.Need-payslip-quote-requires invariant-loop decreases-loop
-payslip-quote-requires c κs = search (rules, payslip-asked)
+payslip-quote-requires c κs = search (rules, payslip_asked)
 
 add-n : tie.Need-overflow-add-n invariant-loop decreases-loop
 add-n c = search rules
@@ -57,7 +57,7 @@ loop-again : tie.Need-loop-preserved invariant-loop decreases-loop
 loop-again c = (search rules, search sum-after, search rules, search sum-after, search rules)
 
 returns : tie.Need-returns invariant-loop decreases-loop
-returns c = search (quote_all, sum-after-end)
+returns c = search (quote_all, sum-after_end)
 
 pub quote_spec : {M : Type 1} → statement M
 quote_spec =

@@ -1,7 +1,7 @@
 -- The bases are filled into a local array, whose first p cells are the table's inputs.
 use borrow.Author.Rules.{rules}
 use Prim.Native.Nat.{◌+◌}
-use Rattle.methods.proofs.Filling.{filled-front, filled-length}
+use Rattle.methods.proofs.Filling.{filled_front, filled-length}
 use Rattle.straus_emit.proofs.emit.Statement.{statement}
 use Rattle.straus_emit.proofs.emit.Tie as tie
 
@@ -18,7 +18,7 @@ slice-aggregate-make-chain : tie.Need-slice-aggregate-make-chain
 slice-aggregate-make-chain c = filled-length (λ c. c + 1) _ _ _ c.before.before.fill-bases.ensures
 
 make-chain-requires : tie.Need-make-chain-requires
-make-chain-requires c κs = search (rules, filled-front)
+make-chain-requires c κs = search (rules, filled_front)
 
 same_length : tie.Need-same-length
 same_length c = search rules

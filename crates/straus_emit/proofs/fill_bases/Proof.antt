@@ -11,8 +11,8 @@ invariant-loop p cells₀ c₀ cells c = FilledTo (λ c. c + 1) cells₀ p c cel
 abbrev decreases-loop : tie.decreases-loop
 decreases-loop p cells₀ c₀ cells c = p - c
 
-pub fill-bases_spec : {M : Type 1} → statement M
-fill-bases_spec =
+pub fill_bases_spec : {M : Type 1} → statement M
+fill_bases_spec =
     tie.close
     (tie.spec invariant-loop decreases-loop (λ c. search filling) (λ c. search rules) (λ c. search rules) (λ c. search rules) (λ c. search rules) (λ c. search rules)
     (λ c. search rules) (λ c. search (rules, filling)) (λ c. search rules) (λ c. search filling))

@@ -1,13 +1,13 @@
 -- The table, then the payslips over it: room for both comes from the room for the chain, and the two together are the chain.
 use borrow.Author.Rules.{rules}
-use Rattle.straus_emit.proofs.Whole.{table-asked, table-room, after_table, chain-made}
+use Rattle.straus_emit.proofs.Whole.{table_asked, table_room, after_table, chain_made}
 use Rattle.straus_emit.proofs.make_chain.Statement.{statement}
 use Rattle.straus_emit.proofs.make_chain.Tie as tie
 
 make-table-requires : tie.Need-make-table-requires
 make-table-requires c κs =
     let s = c.before.before.before.before.before in
-    record { asked = table-asked s.requires.asked; room = table-room s.requires.asked s.requires.room }
+    record { asked = table_asked s.requires.asked; room = table_room s.requires.asked s.requires.room }
 
 make-payslips-requires : tie.Need-make-payslips-requires
 make-payslips-requires c κs =
@@ -22,7 +22,7 @@ same-length-2 : tie.Need-same-length-2
 same-length-2 c = search rules
 
 returns : tie.Need-returns
-returns c = search (rules, chain-made)
+returns c = search (rules, chain_made)
 
 pub make_chain_spec : {M : Type 1} → statement M
 make_chain_spec =

@@ -1,7 +1,7 @@
 -- Laid out, the amounts have the payslip's vectors in their cells, and so their digits make the payslip.
 use borrow.Author.Rules.{rules}
 use Rattle.products.specs.Inner.{steps_in}
-use Rattle.straus_emit.proofs.Vectors.{columns-few, digits_asked, payslip-is}
+use Rattle.straus_emit.proofs.Vectors.{columns_few, digits_asked, payslip_is}
 use Rattle.straus_emit.proofs.make_payslip.Statement.{statement}
 use Rattle.straus_emit.proofs.make_payslip.Tie as tie
 
@@ -11,7 +11,7 @@ slice-aggregate-raise-amounts c = search rules
 raise-amounts-requires : tie.Need-raise-amounts-requires
 raise-amounts-requires c κs =
     let payslip = c.before.before.before.before.requires.asked.payslip in
-    record { asked = payslip; room = columns-few payslip }
+    record { asked = payslip; room = columns_few payslip }
 
 slice-aggregate-fill-masks : tie.Need-slice-aggregate-fill-masks
 slice-aggregate-fill-masks c = search rules
@@ -19,7 +19,7 @@ slice-aggregate-fill-masks c = search rules
 fill-masks-requires : tie.Need-fill-masks-requires
 fill-masks-requires c κs =
     let payslip = c.before.before.before.before.before.before.before.requires.asked.payslip in
-    record { asked = payslip.vectors_low; room = columns-few payslip }
+    record { asked = payslip.vectors_low; room = columns_few payslip }
 
 digit-count-requires : tie.Need-digit-count-requires
 digit-count-requires c κs = search rules
@@ -37,12 +37,12 @@ take-digits-requires c κs =
     let h = f.before.before.before in
     let s = h.before.before.before.before.before in
     let asked = s.requires.asked in
-    let few = columns-few asked.payslip in
+    let few = columns_few asked.payslip in
     let raised = h.raise-amounts.ensures in
     let masked = f.fill-masks.ensures in
     record {
-      asked = digits_asked asked _ _ _ _ raised masked _ g.digit-count.ensures.places-low (search (rules, few)) (search (rules, few));
-      room = rw (payslip-is asked _ _ _ _ raised masked _ g.digit-count.ensures.is _) s.requires.room;
+      asked = digits_asked asked _ _ _ _ raised masked _ g.digit-count.ensures.places_low (search (rules, few)) (search (rules, few));
+      room = rw (payslip_is asked _ _ _ _ raised masked _ g.digit-count.ensures.is _) s.requires.room;
     }
 
 same_length : tie.Need-same-length
@@ -56,7 +56,7 @@ returns c =
     let h = f.before.before.before in
     let s = h.before.before.before.before.before in
     let before = steps_in s.args.steps.now s.args.progress.steps in
-    let is = payslip-is s.requires.asked _ _ _ _ h.raise-amounts.ensures f.fill-masks.ensures _ g.digit-count.ensures.is before in
+    let is = payslip_is s.requires.asked _ _ _ _ h.raise-amounts.ensures f.fill-masks.ensures _ g.digit-count.ensures.is before in
     rw (← is) t.take-digits.ensures
 
 pub make_payslip_spec : {M : Type 1} → statement M

@@ -5,7 +5,7 @@ use Rattle.products.specs.Inner.{steps_in}
 use Rattle.methods.proofs.Paying.{Paying, paying_start, paying_room, paying_on, paying_end}
 use Rattle.straus.specs.Straus.{straus_payslip}
 use Rattle.straus_emit.proofs.Emitting.{payslip_begins}
-use Rattle.straus.proofs.Overlaying.{payslip-asked}
+use Rattle.straus.proofs.Overlaying.{payslip_asked}
 use Rattle.straus_emit.proofs.make_payslips.Statement.{statement}
 use Rattle.straus_emit.proofs.make_payslips.Tie as tie
 
@@ -25,7 +25,7 @@ make-payslip-requires c κs =
     let s = at.before.before.before.before.before in
     let asked = s.requires.asked in
     record {
-      asked = record { payslip = payslip-asked asked.chain (search rules); bases-are = asked.bases-are };
+      asked = record { payslip = payslip_asked asked.chain (search rules); bases_are = asked.bases_are };
       room = paying_room (straus_payslip _ _ _) (payslip_begins _ _ _) at.loop.invariant s.requires.room (search rules);
     }
 

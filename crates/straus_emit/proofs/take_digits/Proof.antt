@@ -9,7 +9,7 @@ use Rattle.products.specs.Inner.{steps_in, Emitted}
 use Rattle.products.proofs.Emitted.{emitted_own}
 use Rattle.tables.specs.Table.{entry}
 use Rattle.straus_emit.specs.Inner.{vector_at, digits_made}
-use Rattle.straus_emit.proofs.Emitting.{digit_room, digit_on, digits_end, digit-fits}
+use Rattle.straus_emit.proofs.Emitting.{digit_room, digit_on, digits_end, digit_fits}
 use Rattle.straus_emit.proofs.take_digits.Statement.{statement}
 use Rattle.straus_emit.proofs.take_digits.Tie as tie
 
@@ -26,16 +26,16 @@ decreases-loop p k inputs cells masks digits steps₀ r₀ d₀ steps r d = digi
 abbrev place : (e : tie.In-loop invariant-loop decreases-loop) → ℕ
 place e = e.before.before.before.before.before.before.args.digits - (e.before.loop.d + 1)
 
-entry-low : (e : tie.In-loop invariant-loop decreases-loop)
+entry_low : (e : tie.In-loop invariant-loop decreases-loop)
     → let a = e.before.before.before.before.before.before.args in
     vector_at a.p a.cells.now a.masks.now (a.k * place e) < 2 ^ (a.k * length a.inputs.now)
-entry-low e = e.before.before.before.before.before.before.requires.asked.entries (place e)
+entry_low e = e.before.before.before.before.before.before.requires.asked.entries (place e)
 
 -- and its value the one that the product is multiplied by
-value-is : (e : tie.After-entry invariant-loop decreases-loop)
+value_is : (e : tie.After-entry invariant-loop decreases-loop)
     → let a = e.before.before.before.before.before.before.before.before.args in
     e.entry.result ≡ entry a.k a.inputs.now (a.p + 1) (vector_at a.p a.cells.now a.masks.now (a.k * place e.before.before))
-value-is e = e.entry.ensures ∙ ap (entry _ _ _) e.before.vector.ensures
+value_is e = e.entry.ensures ∙ ap (entry _ _ _) e.before.vector.ensures
 
 loop-holds : tie.Need-loop-init invariant-loop decreases-loop
 loop-holds c = (search rules, search rules, search emitted_own)
@@ -47,12 +47,12 @@ sub-vector : tie.Need-overflow-sub-vector invariant-loop decreases-loop
 sub-vector c = search rules
 
 mul-vector : tie.Need-overflow-mul-vector invariant-loop decreases-loop
-mul-vector c = Fits-under _ _ 32 (search digit-fits) tt
+mul-vector c = Fits-under _ _ 32 (search digit_fits) tt
 
 vector-requires : tie.Need-vector-requires invariant-loop decreases-loop
 vector-requires c κs =
     let asked = c.before.before.before.before.before.before.requires.asked in
-    (search rules, search rules, search digit-fits, omega (arith, entry-low c, asked.numbers))
+    (search rules, search rules, search digit_fits, omega (arith, entry_low c, asked.numbers))
 
 add-entry : tie.Need-overflow-add-entry invariant-loop decreases-loop
 add-entry c = search rules
@@ -65,7 +65,7 @@ cast-entry c =
 entry-requires : tie.Need-entry-requires invariant-loop decreases-loop
 entry-requires c κs =
     let asked = c.before.before.before.before.before.before.before.requires.asked in
-    let low = entry-low c.before in
+    let low = entry_low c.before in
     record {
       k_some = asked.k_some;
       k_low = asked.k_low;
@@ -79,7 +79,7 @@ take-digit-requires c κs =
     let e = c.before in
     let at = e.before.before.before in
     let s = at.before.before.before.before.before in
-    digit_room s.args.p s.args.k _ s.args.digits s.args.steps.now s.args.progress _ _ _ _ _ e.before.before.loop-test.true (value-is e) at.loop.invariant.2 s.requires.room
+    digit_room s.args.p s.args.k _ s.args.digits s.args.steps.now s.args.progress _ _ _ _ _ e.before.before.loop-test.true (value_is e) at.loop.invariant.2 s.requires.room
 
 add-d : tie.Need-overflow-add-d invariant-loop decreases-loop
 add-d c = search rules
@@ -93,7 +93,7 @@ loop-again c =
     let e = made.before.before in
     let at = e.before.before.before in
     let a = at.before.before.before.before.before.args in
-    let on = digit_on a.p a.k _ a.digits a.steps.now a.progress _ _ _ _ _ e.before.before.loop-test.true (value-is e) at.loop.invariant.2 _ _ _ made.take-digit.ensures in
+    let on = digit_on a.p a.k _ a.digits a.steps.now a.progress _ _ _ _ _ e.before.before.loop-test.true (value_is e) at.loop.invariant.2 _ _ _ made.take-digit.ensures in
     (search rules, search rules, on)
 
 same_length : tie.Need-same-length invariant-loop decreases-loop

@@ -1,8 +1,8 @@
 -- A group's members are a stretch of the inputs, and its table begins where the full tables before it end.
 use borrow.Author.Rules.{Fits-under, rules}
 use native.Mathlib.Omega.{arith}
-use Rattle.groups.proofs.Counting.{group-inside}
-use Rattle.subsets.proofs.Places.{ends, ends-few, entry-low, entry_number, entry-told, number_fits, parts_end, product-fits, sum_fits}
+use Rattle.groups.proofs.Counting.{group_inside}
+use Rattle.subsets.proofs.Places.{ends, ends_few, entry_low, entry_number, entry_told, number_fits, parts_end, product_fits, sum_fits}
 use Rattle.subsets.proofs.part_value.Statement.{statement}
 use Rattle.subsets.proofs.part_value.Tie as tie
 
@@ -10,19 +10,19 @@ mul-from : tie.Need-overflow-mul-from
 mul-from c =
     let s = c.before.before in
     let a = s.args in
-    let inside = group-inside a.s.c a.s.inputs a.g a.s.groups s.requires.cuts.some s.requires.cuts.groups_are s.requires.inside in
-    omega (arith, s.requires.cuts.inputs-few)
+    let inside = group_inside a.s.c a.s.inputs a.g a.s.groups s.requires.cuts.some s.requires.cuts.groups_are s.requires.inside in
+    omega (arith, s.requires.cuts.inputs_few)
 
 group-size-requires : tie.Need-group-size-requires
 group-size-requires c κs =
     let s = c.before.before in
     let a = s.args in
-    group-inside a.s.c a.s.inputs a.g a.s.groups s.requires.cuts.some s.requires.cuts.groups_are s.requires.inside
+    group_inside a.s.c a.s.inputs a.g a.s.groups s.requires.cuts.some s.requires.cuts.groups_are s.requires.inside
 
 add-to : tie.Need-overflow-add-to
 add-to c =
     let s = c.before.before.before in
-    omega (arith, ends-few s.args.s s.requires.cuts s.args.members.now s.requires.long s.args.g _ s.requires.inside c.group-size.ensures)
+    omega (arith, ends_few s.args.s s.requires.cuts s.args.members.now s.requires.long s.args.g _ s.requires.inside c.group-size.ensures)
 
 add_at : tie.Need-overflow-add-at
 add_at c = search rules
@@ -33,7 +33,7 @@ table-count-requires c κs = search rules
 mul_at : tie.Need-overflow-mul-at
 mul_at c =
     let s = c.before.before.before.before.before in
-    Fits-under _ _ parts_end (product-fits s.args.s s.requires.cuts s.args.g _ s.requires.inside c.table-count.ensures.low) tt
+    Fits-under _ _ parts_end (product_fits s.args.s s.requires.cuts s.args.g _ s.requires.inside c.table-count.ensures.low) tt
 
 add-at-2 : tie.Need-overflow-add-at-2
 add-at-2 c =
@@ -48,7 +48,7 @@ add-at-3 c =
 mul-entry : tie.Need-overflow-mul-entry
 mul-entry c =
     let s = c.before.before.before.before.before in
-    omega (arith, ends-few s.args.s s.requires.cuts s.args.members.now s.requires.long s.args.g _ s.requires.inside c.before.before.group-size.ensures)
+    omega (arith, ends_few s.args.s s.requires.cuts s.args.members.now s.requires.long s.args.g _ s.requires.inside c.before.before.group-size.ensures)
 
 sub-entry : tie.Need-overflow-sub-entry
 sub-entry c = search rules
@@ -73,16 +73,16 @@ entry-requires c κs =
     let is = c.before.before.before.group-size.ensures in
     let at = number_fits a.s s.requires.cuts a.g _ s.requires.inside c.before.table-count.ensures.low in
     let number = entry_number s.requires is at in
-    record { k_some = search rules; k_low = search rules; at_some = search rules; number_low = number; inside = entry-low s.requires is }
+    record { k_some = search rules; k_low = search rules; at_some = search rules; number_low = number; inside = entry_low s.requires is }
 
 returns : tie.Need-returns
 returns c =
     let s = c.before.before.before.before.before.before.before in
     let a = s.args in
-    entry-told s.requires c.before.before.before.before.group-size.ensures c.before.before.table-count.ensures.is c.entry.ensures
+    entry_told s.requires c.before.before.before.before.group-size.ensures c.before.before.table-count.ensures.is c.entry.ensures
 
-pub part-value_spec : {M : Type 1} → statement M
-part-value_spec =
+pub part_value_spec : {M : Type 1} → statement M
+part_value_spec =
     tie.close
     (tie.spec
     mul-from

@@ -1,7 +1,7 @@
 -- 2^n is n + 1 or more, so neither subtraction goes below 0.
 use native.Mathlib.Omega.{arith}
 use borrow.Author.Rules.{rules}
-use Rattle.groups.proofs.Counting.{table-few, table-some, table-told}
+use Rattle.groups.proofs.Counting.{table_few, table_some, table_told}
 use Rattle.subsets.proofs.table_count.Statement.{statement}
 use Rattle.subsets.proofs.table_count.Tie as tie
 
@@ -12,13 +12,13 @@ cast-result : tie.Need-overflow-cast-result
 cast-result c = search rules
 
 sub-result : tie.Need-overflow-sub-result
-sub-result c = omega (arith, table-some _ _ c.power.ensures)
+sub-result c = omega (arith, table_some _ _ c.power.ensures)
 
 sub-result-2 : tie.Need-overflow-sub-result-2
-sub-result-2 c = omega (arith, table-some _ _ c.power.ensures)
+sub-result-2 c = omega (arith, table_some _ _ c.power.ensures)
 
 returns : tie.Need-returns
-returns c = record { is = search table-told; low = search table-few }
+returns c = record { is = search table_told; low = search table_few }
 
-pub table-count_spec : {M : Type 1} → statement M
-table-count_spec = tie.close (tie.spec power-requires cast-result sub-result sub-result-2 returns)
+pub table_count_spec : {M : Type 1} → statement M
+table_count_spec = tie.close (tie.spec power-requires cast-result sub-result sub-result-2 returns)

@@ -4,7 +4,7 @@ use Prim.Native.Nat.{◌≤◌, ◌-◌, ◌*◌, ◌^◌}
 use borrow.Author.Rules.{rules}
 use Rattle.digits.proofs.Range.{sum-end}
 use Rattle.groups.specs.Groups.{most_members, tables_count}
-use Rattle.groups.proofs.Counting.{group-inside, size_few, tables_on}
+use Rattle.groups.proofs.Counting.{group_inside, size_few, tables_on}
 use Rattle.subsets.proofs.tables_count.Statement.{statement}
 use Rattle.subsets.proofs.tables_count.Tie as tie
 
@@ -19,7 +19,7 @@ loop-holds : tie.Need-loop-init invariant-loop decreases-loop
 loop-holds c = search rules
 
 group-size-requires : tie.Need-group-size-requires invariant-loop decreases-loop
-group-size-requires c κs = search group-inside
+group-size-requires c κs = search group_inside
 
 table-count-requires : tie.Need-table-count-requires invariant-loop decreases-loop
 table-count-requires c κs = search size_few

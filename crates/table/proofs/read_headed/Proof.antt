@@ -41,8 +41,8 @@ returns-4 c =
     let t = c.before.before.before.before in
     head_amounts _ _ _ _ _ t.before.before.before.if1.false t.before.before.if2.false _ _ t.if3.false c.before.before.read-rows2.ensures
 
-pub read-headed_spec : {M : Type 1} → statement M
-read-headed_spec =
+pub read_headed_spec : {M : Type 1} → statement M
+read_headed_spec =
     tie.close
     (tie.spec
     add-t8

@@ -5,9 +5,9 @@ use Prim.Native.Nat.{◌+◌, ◌-◌, ◌≤◌}
 use native.Mathlib.Omega.{arith}
 use lib.ListN.{length, drop}
 use Rattle.lines.specs.Lines.{lines_of}
-use Rattle.lines.proofs.Lines.{end-within}
+use Rattle.lines.proofs.Lines.{end_within}
 use Rattle.table.specs.Table.{rows_from}
-use Rattle.table.proofs.Rows.{Rows, rows_start, rows_end_lem, rows-room, rows_on, rows_stop, end_none, end-some}
+use Rattle.table.proofs.Rows.{Rows, rows_start, rows_end_lem, rows_room, rows_on, rows_stop, end_none, end_some}
 use Rattle.table.proofs.read_rows.Statement.{statement}
 use Rattle.table.proofs.read_rows.Tie as tie
 
@@ -30,7 +30,7 @@ line-end-requires c κs = search rules
 -- the line's end
 within : (c : tie.After-line-end invariant-loop decreases-loop) → (c.before.before.loop.at ≤ c.line-end.result) × (c.line-end.result ≤ length c.before.before.before.before.before.args.text.now)
 within c =
-    end-within c.before.before.before.before.before.args.text.now c.before.before.loop.at c.line-end.result (omega (arith, c.before.loop-test.true)) c.line-end.ensures
+    end_within c.before.before.before.before.before.args.text.now c.before.before.loop.at c.line-end.result (omega (arith, c.before.loop-test.true)) c.line-end.ensures
 
 sub-read-row : tie.Need-overflow-sub-read-row invariant-loop decreases-loop
 sub-read-row c = omega (arith, c.line-end.ensures)
@@ -49,7 +49,7 @@ enum-known-n c = search rules
 
 add-filled : tie.Need-overflow-add-filled invariant-loop decreases-loop
 add-filled c =
-    let h = rows-room _ _ _ _ _ _ _ _ _ _ c.before.before.before.before.before.before.before.before.before.before.loop.invariant.3
+    let h = rows_room _ _ _ _ _ _ _ _ _ _ c.before.before.before.before.before.before.before.before.before.before.loop.invariant.3
     _ _ _ c.before.before.before.before.before.before.before.before.before.loop-test.true
     c.before.before.before.before.before.before.before.before.line-end.ensures
     c.before.before.before.before.before.read-row.ensures _ c.before.n.given.1 in
@@ -106,10 +106,10 @@ same-length-3 : tie.Need-same-length-3 invariant-loop decreases-loop
 same-length-3 c = c.before.before.loop.invariant.3.long
 
 returns-3 : tie.Need-returns-3 invariant-loop decreases-loop
-returns-3 c = rows_end_lem _ _ _ _ _ _ _ _ _ _ c.before.before.loop.invariant.3 _ c.before.loop-test.false (end-some _ _ _ c.if1.false)
+returns-3 c = rows_end_lem _ _ _ _ _ _ _ _ _ _ c.before.before.loop.invariant.3 _ c.before.loop-test.false (end_some _ _ _ c.if1.false)
 
-pub read-rows_spec : {M : Type 1} → statement M
-read-rows_spec =
+pub read_rows_spec : {M : Type 1} → statement M
+read_rows_spec =
     tie.close
     (tie.spec
     invariant-loop

@@ -40,8 +40,8 @@ returns c = search entering
 returns-2 : tie.Need-returns-2
 returns-2 c = search entering
 
-pub counted-entry_spec : {M : Type 1} → statement M
-counted-entry_spec =
+pub counted_entry_spec : {M : Type 1} → statement M
+counted_entry_spec =
     tie.close
     (tie.spec
     sub-unit

@@ -6,7 +6,7 @@ use native.Mathlib.Omega.{arith}
 use lib.ListN.{length}
 use Rattle.products.specs.Inner.{SoFar}
 use Rattle.tables.specs.Inner.{Longer}
-use Rattle.tables.proofs.Rows.{InRow, in_row, row_rises, next_fits, place-fits, unit_fits, more_so_far, longer_end, rowing}
+use Rattle.tables.proofs.Rows.{InRow, in_row, row_rises, next_fits, place_fits, unit_fits, more_so_far, longer_end, rowing}
 use Rattle.tables.proofs.make_row.Statement.{statement}
 use Rattle.tables.proofs.make_row.Tie as tie
 
@@ -32,10 +32,10 @@ power-requires : tie.Need-power-requires invariant-loop decreases-loop
 power-requires c κs = search next_fits
 
 mul-power-2 : tie.Need-overflow-mul-power-2 invariant-loop decreases-loop
-mul-power-2 c = Fits-under _ _ 32 (search place-fits) tt
+mul-power-2 c = Fits-under _ _ 32 (search place_fits) tt
 
 power-requires-2 : tie.Need-power-requires-2 invariant-loop decreases-loop
-power-requires-2 c κs = search place-fits
+power-requires-2 c κs = search place_fits
 
 add-t : tie.Need-overflow-add-t invariant-loop decreases-loop
 add-t c = search (rules, unit_fits)
@@ -77,7 +77,7 @@ put-entry-requires c κs =
                         k_some = asked.k_some;
                         k_low = asked.k_low;
                         at_some = asked.at_some;
-                        number_low = omega (arith, r.inside, asked.numbers-low);
+                        number_low = omega (arith, r.inside, asked.numbers_low);
                         inside = r.inside;
                       };
                   t_some = r.some;

@@ -34,8 +34,8 @@ same_length c = search rules
 returns : tie.Need-returns
 returns c = search extending
 
-pub put-entry_spec : {M : Type 1} → statement M
-put-entry_spec =
+pub put_entry_spec : {M : Type 1} → statement M
+put_entry_spec =
     tie.close
     (tie.spec
     lowest-requires

@@ -4,7 +4,7 @@ use mathlib.Core.Logic.{⊎_elim}
 use Prim.Native.Nat.{◌+◌, ◌-◌, ◌≤◌}
 use native.Mathlib.Omega.{arith}
 use lib.ListN.{length}
-use Rattle.text.proofs.Reading.{Reads, reads_start, reads_end, reads-room, reads_stop, on_becomes, on_ends}
+use Rattle.text.proofs.Reading.{Reads, reads_start, reads_end, reads_room, reads_stop, on_becomes, on_ends}
 use Rattle.text.proofs.parse.Statement.{statement}
 use Rattle.text.proofs.parse.Tie as tie
 
@@ -34,7 +34,7 @@ slice-write-numbers c =
     let y = c.before.before.before in
     let l = y.before.before.before.loop in
     let low =
-    reads-room _ _ _ _ _ _ _ _ _ l.invariant.1 y.before.before.loop-test.true _ _ y.before.kind_at.ensures y.effect_of.ensures _ c.before.x.given.1 in
+    reads_room _ _ _ _ _ _ _ _ _ l.invariant.1 y.before.before.loop-test.true _ _ y.before.kind_at.ensures y.effect_of.ensures _ c.before.x.given.1 in
     omega (arith, l.invariant.1.long, y.before.before.before.before.before.before.requires, low)
 
 add-numbers : tie.Need-overflow-add-numbers invariant-loop decreases-loop

@@ -1,7 +1,7 @@
 -- At each turn the verdict on all fields is the verdict on those that are left.
 use borrow.Author.Rules.{rules}
 use Prim.Native.Nat.{◌-◌}
-use Rattle.unpacking.proofs.Judging.{FieldsLeft, fields_start, fields_on, fields_bad, fields-end}
+use Rattle.unpacking.proofs.Judging.{FieldsLeft, fields_start, fields_on, fields_bad, fields_end}
 use Rattle.unpacking.proofs.judge_fields.Statement.{statement}
 use Rattle.unpacking.proofs.judge_fields.Tie as tie
 
@@ -16,4 +16,4 @@ judge_fields_spec =
     tie.close
     (tie.spec invariant-loop decreases-loop (λ c. search (rules, fields_start)) (λ c. search rules) (λ c. search rules) (λ c κs. search rules) (λ c. search rules)
     (λ c. search (rules, fields_bad)) (λ c. search rules) (λ c. search rules) (λ c. search rules) (λ c. search (rules, fields_on))
-    (λ c. search (rules, fields-end)))
+    (λ c. search (rules, fields_end)))

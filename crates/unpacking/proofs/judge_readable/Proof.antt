@@ -4,8 +4,8 @@ use Prim.Native.Nat.{◌*◌, ◌≤◌}
 use native.Mathlib.Omega.{arith}
 use Rattle.chain.specs.Chain.{most_columns, most_payslips}
 use Rattle.chain.proofs.Rules.{judging}
-use Rattle.chain.proofs.Sizes.{columns-low, payslips-low}
-use Rattle.sheet.proofs.Amounts.{product-low}
+use Rattle.chain.proofs.Sizes.{columns_low, payslips_low}
+use Rattle.sheet.proofs.Amounts.{product_low}
 use Rattle.packed.specs.Packed.{readable_rule}
 use Rattle.unpacking.proofs.judge_readable.Statement.{statement}
 use Rattle.unpacking.proofs.judge_readable.Tie as tie
@@ -16,7 +16,7 @@ few : (e : tie.After-enum-told)
     s.p * s.q ≤ most_columns * most_payslips
 few e =
     let sizes = e.before.before.judge-sizes.ensures in
-    product-low _ _ (columns-low _ _ _ sizes e.enum_told.given.1) (payslips-low _ _ _ sizes e.enum_told.given.1)
+    product_low _ _ (columns_low _ _ _ sizes e.enum_told.given.1) (payslips_low _ _ _ sizes e.enum_told.given.1)
 
 mul-m : tie.Need-overflow-mul-m
 mul-m c = record { fits = omega (arith, few c) }

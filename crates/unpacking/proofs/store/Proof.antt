@@ -4,9 +4,9 @@ use mathlib.Core.Path.{sym, ◌∙◌}
 use mathlib.Core.List.{map}
 use Prim.Native.Nat.{◌-◌}
 use native.Mathlib.Omega.{arith}
-use Rattle.chain.proofs.Laying.{LaidTo, lay_none, front-more, front-all}
+use Rattle.chain.proofs.Laying.{LaidTo, lay_none, front_more, front_all}
 use Rattle.packed.specs.Field.{amount_of, fields_in}
-use Rattle.packed.proofs.Fields.{length_amounts, amount-is}
+use Rattle.packed.proofs.Fields.{length_amounts, amount_is}
 use Rattle.unpacking.proofs.store.Statement.{statement}
 use Rattle.unpacking.proofs.store.Tie as tie
 
@@ -21,13 +21,13 @@ loop-again c =
     let turn = c.before in
     let start = turn.before.before.before.before in
     let long = length_amounts start.args.m start.args.bytes.now in
-    front-more _ _ _ _ _ (omega (arith, long, turn.loop-test.true)) (omega (arith, long, start.requires.room))
-    (c.amount-at.ensures ∙ sym (amount-is _ _ _ turn.loop-test.true)) turn.before.loop.invariant
+    front_more _ _ _ _ _ (omega (arith, long, turn.loop-test.true)) (omega (arith, long, start.requires.room))
+    (c.amount-at.ensures ∙ sym (amount_is _ _ _ turn.loop-test.true)) turn.before.loop.invariant
 
 returns : tie.Need-returns invariant-loop decreases-loop
 returns c =
     let start = c.before.before.before.before in
-    front-all _ _ _ _ (omega (arith, length_amounts start.args.m start.args.bytes.now, c.loop-test.false)) c.before.loop.invariant
+    front_all _ _ _ _ (omega (arith, length_amounts start.args.m start.args.bytes.now, c.loop-test.false)) c.before.loop.invariant
 
 pub store_spec : {M : Type 1} → statement M
 store_spec =

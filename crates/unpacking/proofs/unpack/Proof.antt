@@ -3,29 +3,29 @@ use borrow.Author.Rules.{rules}
 use mathlib.Core.Path.{◌≡◌, sym}
 use native.Mathlib.Omega.{arith}
 use Rattle.chain.specs.Verdict.{fine}
-use Rattle.chain.proofs.Rules.{told-fine, told-refused}
-use Rattle.chain.proofs.OneSlice.{given_refused, too_short, long-enough, refused_leaves, done_leaves}
+use Rattle.chain.proofs.Rules.{told_fine, told_refused_lem}
+use Rattle.chain.proofs.OneSlice.{given_refused, too_short, long_enough, refused_leaves, done_leaves}
 use Rattle.packed.specs.Packed.{readable_rule, unpack_rule, unpack_answer, unpack_amounts}
 use Rattle.packed.proofs.Given.{Readable, readable}
 use Rattle.unpacking.proofs.unpack.Statement.{statement}
 use Rattle.unpacking.proofs.unpack.Tie as tie
 
-found-fine : (e : tie.After-enum-told)
+found_fine : (e : tie.After-enum-told)
     → let s = e.before.before.before.before.before.args in
     fine ≡ readable_rule s.p s.q s.bytes.now
-found-fine e = told-fine _ _ e.before.before.judge-readable.ensures e.enum_told.given.1
+found_fine e = told_fine _ _ e.before.before.judge-readable.ensures e.enum_told.given.1
 
 can_read : (e : tie.After-enum-told)
     → let s = e.before.before.before.before.before.args in
     Readable s.p s.q s.bytes.now
-can_read e = readable _ _ _ (sym (found-fine e))
+can_read e = readable _ _ _ (sym (found_fine e))
 
 mul-m : tie.Need-overflow-mul-m
 mul-m c = record { fits = omega (arith, (can_read c).few) }
 
 returns : tie.Need-returns
 unfolding unpack_rule unpack_answer unpack_amounts
-returns c = refused_leaves _ _ _ _ 5 0 (too_short _ _ _ (found-fine c.before) c.if1.true)
+returns c = refused_leaves _ _ _ _ 5 0 (too_short _ _ _ (found_fine c.before) c.if1.true)
 
 store-requires : tie.Need-store-requires
 store-requires c κs = record { there = omega (arith, (can_read c.before.before).long); room = c.before.if1.false }
@@ -34,14 +34,14 @@ returns-2 : tie.Need-returns-2
 unfolding unpack_rule unpack_answer unpack_amounts
 returns-2 c =
     refused_leaves _ _ _ _ _ _
-    (given_refused _ _ _ _ _ (told-refused _ _ _ _ c.before.before.before.judge-readable.ensures c.before.number.given.1))
+    (given_refused _ _ _ _ _ (told_refused_lem _ _ _ _ c.before.before.before.judge-readable.ensures c.before.number.given.1))
 
 returns-3 : tie.Need-returns-3
 unfolding unpack_rule unpack_answer unpack_amounts
 returns-3 c =
     let stored = c.before.before in
     let room = stored.before.before in
-    done_leaves _ _ _ _ _ (long-enough _ _ _ (found-fine room.before) room.if1.false) stored.store.ensures
+    done_leaves _ _ _ _ _ (long_enough _ _ _ (found_fine room.before) room.if1.false) stored.store.ensures
 
 pub unpack_spec : {M : Type 1} → statement M
 unpack_spec =

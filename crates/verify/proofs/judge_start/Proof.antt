@@ -20,7 +20,7 @@ enum_told : tie.Need-enum-told
 enum_told c = search rules
 
 judge-amounts-requires : tie.Need-judge-amounts-requires
-judge-amounts-requires c κs = record { p-low = search shape_columns; q_low = search shape_payslips }
+judge-amounts-requires c κs = record { p_low = search shape_columns; q_low = search shape_payslips }
 
 returns-2 : tie.Need-returns-2
 unfolding start_rule

@@ -4,8 +4,8 @@ use Rattle.width.proofs.Cases.{in_case, no_case_below, no_case_above}
 use Rattle.width.proofs.by_cases.Statement.{statement}
 use Rattle.width.proofs.by_cases.Tie as tie
 
-pub by-cases_spec : {M : Type 1} → statement M
-by-cases_spec =
+pub by_cases_spec : {M : Type 1} → statement M
+by_cases_spec =
     tie.close
     (tie.spec
     (λ c. in_case _ _ (omega arith) (omega arith) (omega arith) (omega arith)) (λ c. in_case _ _ (omega arith) (omega arith) (omega arith) (omega arith))

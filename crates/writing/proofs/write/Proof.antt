@@ -1,5 +1,5 @@
 -- `write` is `write_as` in edition 1, which is sound.
-use Rattle.layout.proofs.Editions.{edition1-sound}
+use Rattle.layout.proofs.Editions.{edition1_sound}
 use borrow.Author.Rules.{rules}
 use Rattle.writing.proofs.write.Statement.{statement}
 use Rattle.writing.proofs.write.Tie as tie
@@ -8,7 +8,7 @@ first-edition-requires : tie.Need-first-edition-requires
 first-edition-requires c κs = search rules
 
 write-as-requires : tie.Need-write-as-requires
-write-as-requires c κs = rw c.before.first-edition.ensures edition1-sound
+write-as-requires c κs = rw c.before.first-edition.ensures edition1_sound
 
 same_length : tie.Need-same-length
 same_length c = search rules

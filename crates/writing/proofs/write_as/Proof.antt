@@ -8,7 +8,7 @@ use Rattle.chain.specs.Chain.{pairs}
 use Rattle.layout.specs.declared.Extent.{Extent}
 use Rattle.layout.specs.File.{byte_count, file_of}
 use Rattle.layout.specs.Inner.{Sized}
-use Rattle.writing.proofs.WriteAnswers.{shape_refused, sized, rest-refused, to_write, all-written}
+use Rattle.writing.proofs.WriteAnswers.{shape_refused, sized, rest_refused, to_write, all_written}
 use borrow.Author.Rules.{rules}
 use Rattle.writing.proofs.write_as.Statement.{statement}
 use Rattle.writing.proofs.write_as.Tie as tie
@@ -43,7 +43,7 @@ judge-rest-requires : tie.Need-judge-rest-requires
 judge-rest-requires c κs =
     let start = c.before.before.before.before.before.before.before in
     let sizes = held c.before in
-    omega (arith, sizes.p-low, sizes.n-low, start.requires.narrow)
+    omega (arith, sizes.p_low, sizes.n_low, start.requires.narrow)
 
 enum-known-number-2 : tie.Need-enum-known-number-2
 enum-known-number-2 c = search rules
@@ -75,7 +75,7 @@ returns-2 c =
     let e = x.before in
     let j = e.before.before in
     let a = j.before.before.before.before.args in
-    rest-refused a.layout a.p a.steps.now a.outputs.now a.bytes.now _ j.judge-shape.ensures e.enum_told.given.1 _ (counts x) _
+    rest_refused a.layout a.p a.steps.now a.outputs.now a.bytes.now _ j.judge-shape.ensures e.enum_told.given.1 _ (counts x) _
     i.judge-rest.ensures _ _ c.before.number2.given.1
 
 same_length : tie.Need-same-length
@@ -90,7 +90,7 @@ returns-3 c =
     let e = x.before in
     let j = e.before.before in
     let a = j.before.before.before.before.args in
-    all-written a.layout a.p a.steps.now a.outputs.now a.bytes.now _ j.judge-shape.ensures e.enum_told.given.1 _ (counts x) _
+    all_written a.layout a.p a.steps.now a.outputs.now a.bytes.now _ j.judge-shape.ensures e.enum_told.given.1 _ (counts x) _
     i.judge-rest.ensures f.enum-told2.given.1 _
     (u.put-chain.ensures ∙ ap (λ (y : Extent). over (file_of a.layout y.p (pairs a.steps.now) a.outputs.now) a.bytes.now)
     x.extent-of.ensures)

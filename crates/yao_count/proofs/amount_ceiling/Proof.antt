@@ -1,12 +1,12 @@
 -- 0 has no part; any other amount has the column's digits and 2^k less 3, which is small.
 use borrow.Author.Rules.{rules, Fits-under}
 use Rattle.yao_count.specs.Inner.{amount_most}
-use Rattle.yao_count.proofs.Counting.{ceiling-fits, ceiling-few, ceiling-some, ceiling-none}
+use Rattle.yao_count.proofs.Counting.{ceiling_fits, ceiling_few, ceiling_some, ceiling_none}
 use Rattle.yao_count.proofs.amount_ceiling.Statement.{statement}
 use Rattle.yao_count.proofs.amount_ceiling.Tie as tie
 
 returns : tie.Need-returns
-returns c = record { is = search ceiling-none; low = search rules }
+returns c = record { is = search ceiling_none; low = search rules }
 
 power-requires : tie.Need-power-requires
 power-requires c κs = search rules
@@ -15,13 +15,13 @@ cast-lessened : tie.Need-overflow-cast-lessened
 cast-lessened c = search rules
 
 add-lessened : tie.Need-overflow-add-lessened
-add-lessened c = Fits-under _ _ amount_most (search ceiling-fits) tt
+add-lessened c = Fits-under _ _ amount_most (search ceiling_fits) tt
 
 lessened-requires : tie.Need-lessened-requires
 lessened-requires c κs = search rules
 
 returns-2 : tie.Need-returns-2
-returns-2 c = record { is = search ceiling-some; low = search ceiling-few }
+returns-2 c = record { is = search ceiling_some; low = search ceiling_few }
 
-pub amount-ceiling_spec : {M : Type 1} → statement M
-amount-ceiling_spec = tie.close (tie.spec returns power-requires cast-lessened add-lessened lessened-requires returns-2)
+pub amount_ceiling_spec : {M : Type 1} → statement M
+amount_ceiling_spec = tie.close (tie.spec returns power-requires cast-lessened add-lessened lessened-requires returns-2)

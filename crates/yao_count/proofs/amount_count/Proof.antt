@@ -2,8 +2,8 @@
 use borrow.Author.Rules.{rules, Fits-under}
 use mathlib.Core.Path.{◌≡◌}
 use Prim.Native.Nat.{◌≤◌, ◌-◌}
-use Rattle.yao_count.proofs.Counting.{signs_to, most_to, signs_on, most_on, next_fits, amount-fits, most-low, amount-none, amount-end, amount-few}
-use Rattle.yao.proofs.Measuring.{digit-place}
+use Rattle.yao_count.proofs.Counting.{signs_to, most_to, signs_on, most_on, next_fits, amount_fits, most_low, amount_none, amount_end, amount_few}
+use Rattle.yao.proofs.Measuring.{digit_place}
 use Rattle.yao_count.proofs.amount_count.Statement.{statement}
 use Rattle.yao_count.proofs.amount_count.Tie as tie
 
@@ -17,7 +17,7 @@ loop-holds : tie.Need-loop-init invariant-loop decreases-loop
 loop-holds c = search rules
 
 digit-requires : tie.Need-digit-requires invariant-loop decreases-loop
-digit-requires c κs = search (rules, digit-place)
+digit-requires c κs = search (rules, digit_place)
 
 sign-requires : tie.Need-sign-requires invariant-loop decreases-loop
 sign-requires c κs = search rules
@@ -38,19 +38,19 @@ loop-again : tie.Need-loop-preserved invariant-loop decreases-loop
 loop-again c = (search rules, search signs_on, search most_on)
 
 cast_t : tie.Need-overflow-cast-t invariant-loop decreases-loop
-cast_t c = Fits-under _ _ 256 (search most-low) tt
+cast_t c = Fits-under _ _ 256 (search most_low) tt
 
 add-t : tie.Need-overflow-add-t invariant-loop decreases-loop
-add-t c = Fits-under _ _ 512 (search amount-fits) tt
+add-t c = Fits-under _ _ 512 (search amount_fits) tt
 
 returns : tie.Need-returns invariant-loop decreases-loop
-returns c = record { is = search amount-none; low = search rules }
+returns c = record { is = search amount_none; low = search rules }
 
 returns-2 : tie.Need-returns-2 invariant-loop decreases-loop
-returns-2 c = record { is = search amount-end; low = search amount-few }
+returns-2 c = record { is = search amount_end; low = search amount_few }
 
-pub amount-count_spec : {M : Type 1} → statement M
-amount-count_spec =
+pub amount_count_spec : {M : Type 1} → statement M
+amount_count_spec =
     tie.close
     (tie.spec
     invariant-loop

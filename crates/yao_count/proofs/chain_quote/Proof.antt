@@ -3,7 +3,7 @@ use borrow.Author.Rules.{rules}
 use mathlib.Core.Path.{◌≡◌, ◌∙◌}
 use Prim.Native.Nat.{◌+◌, ◌*◌, ◌≤◌, ◌-◌}
 use Rattle.digits.specs.Range.{sum_to}
-use Rattle.digits.proofs.Range.{sum-after, sum-after-end}
+use Rattle.digits.proofs.Range.{sum-after, sum-after_end}
 use Rattle.yao.specs.Yao.{yao_payslip_count, yao_payslip_ceiling}
 use Rattle.yao_count.specs.Inner.{yao_payslip_most}
 use Rattle.yao.proofs.Measuring.{squarings-sum}
@@ -51,7 +51,7 @@ returns c =
     let a = s.args in
     quote_all a.p a.q a.amounts.now a.k _ _ _
     (counted.squaring-count.ensures.is ∙ squarings-sum a.p a.q a.amounts.now a.k _ s.requires.measured)
-    (search sum-after-end) (search sum-after-end)
+    (search sum-after_end) (search sum-after_end)
 
 pub chain_quote_spec : {M : Type 1} → statement M
 chain_quote_spec =

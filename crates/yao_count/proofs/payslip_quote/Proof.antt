@@ -3,10 +3,10 @@ use borrow.Author.Rules.{rules, Fits-under}
 use mathlib.Core.Path.{◌≡◌}
 use Prim.Native.Nat.{◌*◌, ◌≤◌, ◌-◌}
 use native.Mathlib.Omega.{arith}
-use Rattle.yao.proofs.Measuring.{column-is, column-few}
-use Rattle.sheet.proofs.Amounts.{amount-there}
+use Rattle.yao.proofs.Measuring.{column_is, column_few}
+use Rattle.sheet.proofs.Amounts.{amount_there}
 use Rattle.yao_count.specs.Inner.{amount_most}
-use Rattle.yao_count.proofs.Counting.{amounts_to, ceilings_to, nonzero_to, amounts_on, ceilings_on, nonzero_on, nonzero-few, nonzero-fits, count-end, ceiling-end}
+use Rattle.yao_count.proofs.Counting.{amounts_to, ceilings_to, nonzero_to, amounts_on, ceilings_on, nonzero_on, nonzero_few, nonzero_fits, count_end, ceiling_end}
 use Rattle.yao_count.proofs.payslip_quote.Statement.{statement}
 use Rattle.yao_count.proofs.payslip_quote.Tie as tie
 
@@ -31,16 +31,16 @@ cast-digits : tie.Need-overflow-cast-digits invariant-loop decreases-loop
 cast-digits c = omega (arith, c.shared-slice-known3.given c.before.before.loop.c)
 
 amount-requires : tie.Need-amount-requires invariant-loop decreases-loop
-amount-requires c κs = search amount-there
+amount-requires c κs = search amount_there
 
 amount-count-requires : tie.Need-amount-count-requires invariant-loop decreases-loop
-amount-count-requires c κs = (search rules, search rules, search column-few)
+amount-count-requires c κs = (search rules, search rules, search column_few)
 
 add-n : tie.Need-overflow-add-n invariant-loop decreases-loop
 add-n c = search rules
 
 amount-ceiling-requires : tie.Need-amount-ceiling-requires invariant-loop decreases-loop
-amount-ceiling-requires c κs = (search rules, search rules, search column-few)
+amount-ceiling-requires c κs = (search rules, search rules, search column_few)
 
 add_most : tie.Need-overflow-add-most invariant-loop decreases-loop
 add_most c = search rules
@@ -49,7 +49,7 @@ sign-requires : tie.Need-sign-requires invariant-loop decreases-loop
 sign-requires c κs = search rules
 
 add-z : tie.Need-overflow-add-z invariant-loop decreases-loop
-add-z c = Fits-under _ _ 32 (search nonzero-fits) tt
+add-z c = Fits-under _ _ 32 (search nonzero_fits) tt
 
 add-c : tie.Need-overflow-add-c invariant-loop decreases-loop
 add-c c = search rules
@@ -60,12 +60,12 @@ loop-less c = search rules
 loop-again : tie.Need-loop-preserved invariant-loop decreases-loop
 loop-again c = (
   search rules,
-  search (amounts_on, column-is),
+  search (amounts_on, column_is),
   search rules,
-  search (ceilings_on, column-is),
+  search (ceilings_on, column_is),
   search rules,
   search nonzero_on,
-  search nonzero-few,
+  search nonzero_few,
 )
 
 lessened-requires : tie.Need-lessened-requires invariant-loop decreases-loop
@@ -80,8 +80,8 @@ add-ceiling c = search rules
 returns : tie.Need-returns invariant-loop decreases-loop
 returns c =
     record {
-      counted = record { is = search count-end; low = search rules };
-      ceiled = record { is = search ceiling-end; low = search rules };
+      counted = record { is = search count_end; low = search rules };
+      ceiled = record { is = search ceiling_end; low = search rules };
     }
 
 pub payslip_quote_spec : {M : Type 1} → statement M

@@ -1,6 +1,6 @@
 -- The columns' digits are those of their largest amounts, and everything is counted from them.
 use borrow.Author.Rules.{rules}
-use Rattle.yao.proofs.Measuring.{columns-measured}
+use Rattle.yao.proofs.Measuring.{columns_measured}
 use Rattle.yao_count.proofs.quote.Statement.{statement}
 use Rattle.yao_count.proofs.quote.Tie as tie
 
@@ -20,7 +20,7 @@ chain-quote-requires c κs =
     let asked = known.before.before.requires in
     record {
       ranges = asked.ranges;
-      measured = columns-measured _ _ _ _ _ _ _ (search rules) (λ j. (known.shared-slice-known2.given j).fits) asked.largest (search rules) told.measure-digits.ensures;
+      measured = columns_measured _ _ _ _ _ _ _ (search rules) (λ j. (known.shared-slice-known2.given j).fits) asked.largest (search rules) told.measure-digits.ensures;
     }
 
 returns : tie.Need-returns

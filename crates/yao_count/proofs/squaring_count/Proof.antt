@@ -6,7 +6,7 @@ use native.Mathlib.Omega.{arith}
 use Rattle.digits.specs.Range.{sum_to}
 use Rattle.digits.proofs.Range.{sum_on, sum-end}
 use Rattle.yao.specs.Inner.{squarings_in, squarings_most}
-use Rattle.yao.proofs.Measuring.{column-few}
+use Rattle.yao.proofs.Measuring.{column_few}
 use Rattle.yao_count.proofs.squaring_count.Statement.{statement}
 use Rattle.yao_count.proofs.squaring_count.Tie as tie
 
@@ -29,7 +29,7 @@ cast-squarings-of : tie.Need-overflow-cast-squarings-of invariant-loop decreases
 cast-squarings-of c = omega (arith, c.shared-slice-known2.given c.before.before.loop.c)
 
 squarings-of-requires : tie.Need-squarings-of-requires invariant-loop decreases-loop
-squarings-of-requires c κs = search column-few
+squarings-of-requires c κs = search column_few
 
 add-n : tie.Need-overflow-add-n invariant-loop decreases-loop
 add-n c = search rules

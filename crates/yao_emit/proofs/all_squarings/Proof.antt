@@ -4,7 +4,7 @@ use Prim.Native.Nat.{◌-◌}
 use native.Mathlib.Omega.{arith}
 use Rattle.methods.proofs.Filling.{FilledTo, filling}
 use Rattle.yao.specs.Inner.{squarings_in}
-use Rattle.yao.proofs.Measuring.{column-few}
+use Rattle.yao.proofs.Measuring.{column_few}
 use Rattle.yao_emit.proofs.all_squarings.Statement.{statement}
 use Rattle.yao_emit.proofs.all_squarings.Tie as tie
 
@@ -17,8 +17,8 @@ decreases-loop p k columns counts₀ c₀ counts c = p - c
 cast-squarings-of : tie.Need-overflow-cast-squarings-of invariant-loop decreases-loop
 cast-squarings-of c = omega (arith, c.shared-slice-known2.given c.before.before.loop.c)
 
-pub all-squarings_spec : {M : Type 1} → statement M
-all-squarings_spec =
+pub all_squarings_spec : {M : Type 1} → statement M
+all_squarings_spec =
     tie.close
-    (tie.spec invariant-loop decreases-loop (λ c. search filling) (λ c. search rules) (λ c. search rules) cast-squarings-of (λ c κs. search column-few) (λ c. search rules)
+    (tie.spec invariant-loop decreases-loop (λ c. search filling) (λ c. search rules) (λ c. search rules) cast-squarings-of (λ c κs. search column_few) (λ c. search rules)
     (λ c. search rules) (λ c. search rules) (λ c. search rules) (λ c. search rules) (λ c. search (rules, filling)) (λ c. search rules) (λ c. search filling))

@@ -1,8 +1,8 @@
 -- The columns' digits are those of their largest amounts; the squarings come from them, and their first p cells are the chain's counts.
 use borrow.Author.Rules.{rules}
-use Rattle.methods.proofs.Filling.{filled-front, filled-length}
+use Rattle.methods.proofs.Filling.{filled_front, filled-length}
 use Rattle.yao.specs.Inner.{Measured}
-use Rattle.yao.proofs.Measuring.{columns-measured}
+use Rattle.yao.proofs.Measuring.{columns_measured}
 use Rattle.yao_emit.proofs.emit.Statement.{statement}
 use Rattle.yao_emit.proofs.emit.Tie as tie
 
@@ -12,7 +12,7 @@ measured : (c : tie.After-measure-digits) → let s = c.before.before.before.bef
 measured c =
     let known = c.before.before.before.before in
     let asked = known.before.before.requires.asked in
-    columns-measured _ _ _ _ _ _ _ (search rules) (λ j. (known.shared-slice-known2.given j).fits) asked.largest (search rules) c.measure-digits.ensures
+    columns_measured _ _ _ _ _ _ _ (search rules) (λ j. (known.shared-slice-known2.given j).fits) asked.largest (search rules) c.measure-digits.ensures
 
 slice-aggregate-measure-digits : tie.Need-slice-aggregate-measure-digits
 slice-aggregate-measure-digits c = search rules
@@ -47,7 +47,7 @@ make-chain-requires c κs =
       asked =
           record {
             chain = record { ranges = s.requires.asked.ranges; measured = measured told };
-            counts-are = filled-front _ _ s.args.p _ squared.all-squarings.ensures;
+            counts_are = filled_front _ _ s.args.p _ squared.all-squarings.ensures;
           };
       room = s.requires.room;
     }

@@ -1,6 +1,6 @@
 -- Two emitters one after the other: the column's sweep, then the product times its a.
 use borrow.Author.Rules.{rules}
-use Rattle.yao_emit.proofs.Paying.{sweep-room, join_room, join_on}
+use Rattle.yao_emit.proofs.Paying.{sweep_room, join_room, join_on}
 use Rattle.yao_emit.proofs.join_column.Statement.{statement}
 use Rattle.yao_emit.proofs.join_column.Tie as tie
 
@@ -8,7 +8,7 @@ sweep-column-requires : tie.Need-sweep-column-requires
 sweep-column-requires c κs =
     let start = c.before.before.before in
     let s = start.args in
-    record { asked = start.requires.asked; room = sweep-room s.column s.steps.now s.m.progress s.m.value start.requires.room }
+    record { asked = start.requires.asked; room = sweep_room s.column s.steps.now s.m.progress s.m.value start.requires.room }
 
 times-requires : tie.Need-times-requires
 times-requires c κs =

@@ -1,19 +1,19 @@
 -- The squarings, then the payslips over them: room for both comes from the room for the chain, and the two together are the chain.
 use borrow.Author.Rules.{rules}
-use Rattle.yao_emit.proofs.Whole.{counts-few, squarings-room, after-squarings, chain-made}
+use Rattle.yao_emit.proofs.Whole.{counts_few, squarings_room, after_squarings, chain_made}
 use Rattle.yao_emit.proofs.make_chain.Statement.{statement}
 use Rattle.yao_emit.proofs.make_chain.Tie as tie
 
 square-columns-requires : tie.Need-square-columns-requires
 square-columns-requires c κs =
     let s = c.before.before.before.before.before.before in
-    record { asked = counts-few s.requires.asked; room = squarings-room s.requires.asked s.requires.room }
+    record { asked = counts_few s.requires.asked; room = squarings_room s.requires.asked s.requires.room }
 
 make-payslips-requires : tie.Need-make-payslips-requires
 make-payslips-requires c κs =
     let squared = c.before.before.before.before in
     let s = squared.before.before.before.before.before.before.before in
-    record { asked = s.requires.asked.chain; room = after-squarings s.requires.asked s.requires.room squared.square-columns.ensures }
+    record { asked = s.requires.asked.chain; room = after_squarings s.requires.asked s.requires.room squared.square-columns.ensures }
 
 same_length : tie.Need-same-length
 same_length c = search rules
@@ -22,7 +22,7 @@ same-length-2 : tie.Need-same-length-2
 same-length-2 c = search rules
 
 returns : tie.Need-returns
-returns c = search (rules, chain-made)
+returns c = search (rules, chain_made)
 
 pub make_chain_spec : {M : Type 1} → statement M
 make_chain_spec =

@@ -5,13 +5,13 @@ use Prim.Native.Nat.{◌+◌, ◌*◌, ◌≤◌, ◌-◌}
 use lib.ListN.{length}
 use Rattle.digits.specs.Range.{sum_to}
 use native.Mathlib.Omega.{arith}
-use Rattle.yao.proofs.Measuring.{column-is, column-few}
-use Rattle.sheet.proofs.Amounts.{amount-there}
+use Rattle.yao.proofs.Measuring.{column_is, column_few}
+use Rattle.sheet.proofs.Amounts.{amount_there}
 use Rattle.products.specs.Inner.{steps_in, Emitted}
 use Rattle.products.proofs.Emitted.{emitted_own}
 use Rattle.yao.specs.Yao.{yao_squarings, yao_payslip}
 use Rattle.yao.specs.Inner.{squarings_most}
-use Rattle.yao_emit.proofs.Paying.{first_on, reaches, column-room, column_on, columns-end}
+use Rattle.yao_emit.proofs.Paying.{first_on, reaches, column_room, column_on, columns_end}
 use Rattle.yao_emit.proofs.make_payslip.Statement.{statement}
 use Rattle.yao_emit.proofs.make_payslip.Tie as tie
 
@@ -39,7 +39,7 @@ cast-digits : tie.Need-overflow-cast-digits invariant-loop decreases-loop
 cast-digits c = omega (arith, c.shared-slice-known3.given c.before.before.loop.c)
 
 amount-requires : tie.Need-amount-requires invariant-loop decreases-loop
-amount-requires c κs = search amount-there
+amount-requires c κs = search amount_there
 
 join-column-requires : tie.Need-join-column-requires invariant-loop decreases-loop
 join-column-requires c κs =
@@ -48,16 +48,16 @@ join-column-requires c κs =
     let start = at.before.before.before.before in
     let s = start.args in
     let chain = start.requires.asked.chain in
-    let is = column-is s.p s.q s.amounts.now s.k s.columns.now chain.decreases at.loop.c (search rules) in
+    let is = column_is s.p s.q s.amounts.now s.k s.columns.now chain.decreases at.loop.c (search rules) in
     record {
-      asked = reaches _ chain.ranges (column-few _ _ _ _ chain.decreases.narrow (search rules)) (search rules) at.loop.invariant.2;
+      asked = reaches _ chain.ranges (column_few _ _ _ _ chain.decreases.narrow (search rules)) (search rules) at.loop.invariant.2;
       room =
-          column-room s.p s.q s.amounts.now s.k s.i (steps_in s.steps.now s.progress.steps) s.steps.now _ _ _ at.loop.c at.loop.first _
+          column_room s.p s.q s.amounts.now s.k s.i (steps_in s.steps.now s.progress.steps) s.steps.now _ _ _ at.loop.c at.loop.first _
           amounted.amount.result at.loop.invariant.4 at.loop.invariant.1 is amounted.amount.ensures _ start.requires.room (search rules);
     }
 
 squarings-of-requires : tie.Need-squarings-of-requires invariant-loop decreases-loop
-squarings-of-requires c κs = search column-few
+squarings-of-requires c κs = search column_few
 
 add-first : tie.Need-overflow-add-first invariant-loop decreases-loop
 add-first c = search rules
@@ -75,7 +75,7 @@ loop-again c =
     let at = amounted.before.before.before in
     let start = at.before.before.before.before in
     let s = start.args in
-    let is = column-is s.p s.q s.amounts.now s.k s.columns.now start.requires.asked.chain.measured at.loop.c (search rules) in (
+    let is = column_is s.p s.q s.amounts.now s.k s.columns.now start.requires.asked.chain.measured at.loop.c (search rules) in (
       search rules,
       search first_on,
       search rules,
@@ -91,7 +91,7 @@ returns : tie.Need-returns invariant-loop decreases-loop
 returns c =
     let at = c.before in
     let s = at.before.before.before.before.args in
-    columns-end s.p s.q s.amounts.now s.k s.i (steps_in s.steps.now s.progress.steps) s.steps.now _ _ _ at.loop.c
+    columns_end s.p s.q s.amounts.now s.k s.i (steps_in s.steps.now s.progress.steps) s.steps.now _ _ _ at.loop.c
     at.loop.invariant.0 (search rules) at.loop.invariant.4
 
 pub make_payslip_spec : {M : Type 1} → statement M

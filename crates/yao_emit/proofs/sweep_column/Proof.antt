@@ -7,7 +7,7 @@ use lib.ListN.{length}
 use lib.Pow.{pow_pos}
 use Rattle.products.specs.Inner.{steps_in}
 use Rattle.yao_emit.specs.Inner.{sweep_in, SweepEmitted}
-use Rattle.yao_emit.proofs.Emitting.{sweep_start, b-room, a-room, a_on, sweep-end}
+use Rattle.yao_emit.proofs.Emitting.{sweep_start, b_room, a_room, a_on, sweep_end}
 use Rattle.yao_emit.proofs.sweep_column.Statement.{statement}
 use Rattle.yao_emit.proofs.sweep_column.Tie as tie
 
@@ -49,7 +49,7 @@ gather-powers-requires c κs =
     record {
       asked = start.before.before.before.requires.asked;
       room =
-          b-room s.column (steps_in s.steps.now s.progress.steps) s.steps.now _ _ _ _ i
+          b_room s.column (steps_in s.steps.now s.progress.steps) s.steps.now _ _ _ _ i
           start.loop.invariant.2 (told.result - (i + 1)) (ap (λ (t : ℕ). t - (i + 1)) told.ensures) (2 ^ s.column.k - 1) _ start.before.before.before.requires.room
           (omega (arith, told.ensures));
     }
@@ -61,7 +61,7 @@ times-requires c κs =
     let told = start.before.power in
     let s = start.before.before.before.args in
     let i = start.loop.i in
-    a-room s.column (steps_in s.steps.now s.progress.steps) s.steps.now _ _ _ _ i
+    a_room s.column (steps_in s.steps.now s.progress.steps) s.steps.now _ _ _ _ i
     start.loop.invariant.2 (told.result - (i + 1)) (ap (λ (t : ℕ). t - (i + 1)) told.ensures) _ _ _ gathered.gather-powers.ensures (2 ^ s.column.k - 1) _
     start.before.before.before.requires.room (omega (arith, told.ensures))
 
@@ -93,11 +93,11 @@ returns : tie.Need-returns invariant-loop decreases-loop
 returns c =
     let start = c.before in
     let s = start.before.before.before.args in
-    sweep-end s.column (steps_in s.steps.now s.progress.steps) _ _ _ _ _ start.loop.i _
+    sweep_end s.column (steps_in s.steps.now s.progress.steps) _ _ _ _ _ start.loop.i _
     start.before.power.ensures start.loop.invariant.0 c.loop-test.false start.loop.invariant.2
 
-pub sweep-column_spec : {M : Type 1} → statement M
-sweep-column_spec =
+pub sweep_column_spec : {M : Type 1} → statement M
+sweep_column_spec =
     tie.close
     (tie.spec
     invariant-loop

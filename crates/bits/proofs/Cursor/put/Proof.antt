@@ -1,6 +1,6 @@
 -- Shifts put the byte's head and the field side by side in one word, and `put-stored` says that its bytes are the buffer with the field added.
 use native.Mathlib.Omega.{arith}
-use Rattle.bits.proofs.Put.{head_low, put-stored}
+use Rattle.bits.proofs.Put.{head_low, put_stored}
 use borrow.Author.Rules.{rules}
 use Rattle.bits.proofs.Cursor.put.Statement.{statement}
 use Rattle.bits.proofs.Cursor.put.Tie as tie
@@ -53,7 +53,7 @@ returns : tie.Need-returns
 returns c =
     let w = c.before.before.before.before in
     let s = w.before.before in
-    put-stored _ _ _ _ _ (λ k. (s.slice-known.given k).fits) s.before.requires w.wide.ensures _ c.before.before.scatter-wide.ensures
+    put_stored _ _ _ _ _ (λ k. (s.slice-known.given k).fits) s.before.requires w.wide.ensures _ c.before.before.scatter-wide.ensures
 
 pub put_spec : {M : Type 1} → statement M
 put_spec =

@@ -60,8 +60,8 @@ use Rattle.reader.proofs.BitReader.take.Statement as stated
 use Rattle.reader.proofs.BitReader.take.Code as code
 
 -- both numbers of a field fit
-value-fits : (f : Field) (u : Val) → Is F.the_row f (u ∷ []) → f.value < 2 ^ 64
-value-fits f u is = (LL.owed F.the_type F'.the_laws f _ is).0.1
+value_fits : (f : Field) (u : Val) → Is F.the_row f (u ∷ []) → f.value < 2 ^ 64
+value_fits f u is = (LL.owed F.the_type F'.the_laws f _ is).0.1
 
 next_fits : (f : Field) (u : Val) → Is F.the_row f (u ∷ []) → f.next.at < 2 ^ 64
 next_fits f u is = (LL.owed F.the_type F'.the_laws f _ is).1.0.1.1.0.1
@@ -118,14 +118,14 @@ module _ {M : Type 1} {𝓤 : Ura M} (𝓛 : Logic 𝓤) (mem : Memory → SProp
   result f = record { value = f.value; next = reader_at s f.next.at }
 
   exits : (f : Field) → Found f → f.value < 2 ^ 64 → f.next.at < 2 ^ 64 → ent 𝓤 (⋆ 𝓛 (Token κ q ∷ ‵ (Bytes κ s) ∷ [])) (Post (R'.lowered (result f)))
-  exits f e value-fits next_fits =
+  exits f e value_fits next_fits =
       qed 𝓛 (Token κ q ∷ ‵ (Bytes κ s) ∷ []) ∵
       suffices ! _ (ends_at 𝓛 this.ended stayed (this.clauses 𝓛 mem run) (((κ, tt), (q, tt), tt, a, vs), tt) (R'.lowered (result f))
       (result f) (tt, (tt, tt)) (tt, (tt, tt))) $ says ! (e, refl) $
       frame ! $ nothing ! $ nothing ! $ fjoin ! $ nothing ! $ fjoin ! $ frame ! $
       -- [what the bytes own]: it is what the reader past the field owns, and with the value's facts what the result owns
       use1 𝓛 (‵ (Reader 𝓛 κ s f.next.at)) (reader_own 𝓛 κ s f.next.at next_fits) $
-      nothing ! $ move ! (1 ∷ 0 ∷ []) $ fjoin ! $ owned ! usize (Is usize) (uint_Makes 𝓛 w64) f.value _ (refl, value-fits) $ fjoin ! $
+      nothing ! $ move ! (1 ∷ 0 ∷ []) $ fjoin ! $ owned ! usize (Is usize) (uint_Makes 𝓛 w64) f.value _ (refl, value_fits) $ fjoin ! $
       by ! (own_shut 𝓛 (R.the_type (lifetime κ)) (R'.the_laws (lifetime κ)) (f.value, (reader_at s f.next.at, tt)))
 
   module _ (C : Calls 𝓤 H) (Λ : Loops 𝓤 H) (fm : FmC 𝓤 H 𝓛.laws C) (known : Triple 𝓤 (C #bits·Cursor·take) (Take 𝓛 mem run)) where
@@ -156,12 +156,12 @@ module _ {M : Type 1} {𝓤 : Ura M} (𝓛 : Logic 𝓤) (mem : Memory → SProp
         (init ! 2 refl (tt, (wt.1.0, ((record { fits = next_fits f u is }, tt), tt)))) $
         assigns ! (agg ! (and_then ! (load ! (from ! (fld ! refl (stop !))) (look_in ! 10 (sub ! 0 refl (whole !))))
         (and_then ! (load ! (from ! (stop !)) (look ! 2 refl)) (no_more !)))) (from ! (stop !))
-        (init ! 16 refl (tt, (record { fits = value-fits f u is }, ((wt.1.0, ((record { fits = next_fits f u is }, tt), tt)), tt)))) $
+        (init ! 16 refl (tt, (record { fits = value_fits f u is }, ((wt.1.0, ((record { fits = next_fits f u is }, tt), tt)), tt)))) $
         returns ! (look ! 16 refl) $ forget ! 2 refl $ forget ! 4 refl $ forget ! 6 refl $ forget ! 8 refl $ forget ! 10 refl $ forget ! 12 refl $
         forget ! 14 refl $ forget ! 16 refl $
         move ! (16 ∷ 17 ∷ []) $ free1 ! $ move ! (14 ∷ 15 ∷ []) $ free1 ! $ move ! (12 ∷ 13 ∷ []) $ free1 ! $ move ! (10 ∷ 11 ∷ []) $ free1 ! $
         move ! (8 ∷ 9 ∷ []) $ free1 ! $ move ! (6 ∷ 7 ∷ []) $ free1 ! $ move ! (4 ∷ 5 ∷ []) $ free1 ! $ move ! (2 ∷ 3 ∷ []) $ free1 ! $ free0 ! $
-        by ! (exits f e (value-fits f u is) (next_fits f u is))))))))))))))
+        by ! (exits f e (value_fits f u is) (next_fits f u is))))))))))))))
 
 module _ {M : Type 1} {𝓤 : Ura M} (𝓛 : Logic 𝓤) (mem : Memory → SProp 𝓤) (run : Routine → Fun 𝓤) (𝓣 : Tables 𝓤 𝓛.H)
     (known : Triple 𝓤 (𝓣.C #bits·Cursor·take) (Take 𝓛 mem run)) where

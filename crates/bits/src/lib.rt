@@ -1,24 +1,25 @@
 // Bit fields, most significant bit first.
+#![tactic(auto)]
 ghost use Rattle.std.specs.Prelude.{◌≡◌, ◌+◌, ◌-◌, ◌*◌, ◌/◌, ◌≤◌, ◌<◌, min, length};
 ghost use Rattle.chain.specs.Written.{over};
 ghost use Rattle.bits.specs.Bits.{bits};
 ghost use Rattle.bits.specs.Inner.{ByteAt, LastBytes, WordAt, FieldRoom, FieldTaken, TwoRoom, TwoTaken, FieldFill, FieldStored};
 
 // A bit position of a file.
-#[derive(Drop)]
+#[derive(Clone, Copy)]
 pub struct Cursor {
     pub at: usize,
 }
 
 // A field that was read, and the position past it.
-#[derive(Drop)]
+#[derive(Clone, Copy)]
 pub struct Field {
     pub value: usize,
     pub next: Cursor,
 }
 
 // Two fields that were read, one behind the other, and the position past them.
-#[derive(Drop)]
+#[derive(Clone, Copy)]
 pub struct TwoFields {
     pub first: usize,
     pub second: usize,

@@ -1,5 +1,6 @@
 // Chains: their limits, their steps, and their values picked by outputs. The rules that chains are judged by, and the laws of legal chains and of
 // exponents, stand beside in specs and proofs. Nothing here knows of methods, files or residues.
+#![tactic(auto)]
 ghost use Rattle.std.specs.Prelude.{◌≡◌, ◌+◌, ◌*◌, ◌<◌, length};
 ghost use Rattle.chain.specs.Chain.{by, pick};
 ghost use Rattle.chain.specs.Written.{over};
@@ -19,21 +20,21 @@ pub const MOST_VALUES: usize = MOST_COLUMNS + MOST_STEPS + 1;
 
 // A step: the numbers of the two values that it multiplies. It is laid out as C does, since a slice of steps crosses the C interface.
 #[repr(C)]
-#[derive(Drop)]
+#[derive(Clone, Copy)]
 pub struct Step {
     pub first: u32,
     pub second: u32,
 }
 
 // What a rule finds: nothing, or a refusal with its number and its place, 0 for none (Spec 10).
-#[derive(Drop)]
+#[derive(Clone, Copy)]
 pub enum Judgement {
     Fine,
     Refused(u32, usize),
 }
 
 // The same, with a number that was counted where nothing is found.
-#[derive(Drop)]
+#[derive(Clone, Copy)]
 pub enum Counted {
     Fine(usize),
     Refused(u32, usize),

@@ -1,4 +1,5 @@
 // The choice between two files, by number.
+#![tactic(auto)]
 ghost use Rattle.std.specs.Prelude.{◌≡◌, ◌/◌, length};
 ghost use Rattle.chain.specs.Judgement as judgement;
 ghost use Rattle.answers.specs.Answers.{choice_of};
@@ -10,7 +11,7 @@ use answers::{Chosen, Reading, Verified};
 use chain::Judgement;
 
 // A file's number of steps where it reads and passes, or a refusal.
-#[derive(Drop)]
+#[derive(Clone, Copy)]
 pub enum Judged {
     Passed(usize),
     Refused(u32, usize),

@@ -1,18 +1,19 @@
 // Rows cut into clumps and overflow: in each part the numbers are taken so many at a time, and the rest is left over.
+#![tactic(auto)]
 ghost use Rattle.std.specs.Prelude.{◌≡◌, ◌+◌, ◌-◌, ◌*◌, ◌^◌, ◌≤◌, ◌<◌, length};
 ghost use Rattle.clumps.specs.Clumps.{most_part};
 ghost use Rattle.cuts.specs.Inner.{CutAsked, RowsCut};
 ghost use Rattle.cuts.specs.Inner.{RunEnds, RunAsked, RunCut, CopyAsked, Copied, PartAsked, PartCut, RowAsked, RowCut, Placed};
 
 // The numbers of a level: how large its parts are, and how many are taken at a time.
-#[derive(Drop)]
+#[derive(Clone, Copy)]
 pub struct Pair {
     pub a: u32,
     pub b: usize,
 }
 
 // Where the rows of keys end, and those of overflow.
-#[derive(Drop)]
+#[derive(Clone, Copy)]
 pub struct Ends {
     pub keys: usize,
     pub rest: usize,

@@ -1,4 +1,5 @@
 // A payslip's bits in a row, column after column, cut into the parts of the groups.
+#![tactic(auto)]
 ghost use Rattle.std.specs.Prelude.{◌≡◌, ◌+◌, ◌%◌, ◌^◌, ◌≤◌, ◌<◌, length};
 ghost use Rattle.chain.specs.Written.{over};
 ghost use Rattle.groups.specs.Groups.{most_members};
@@ -8,7 +9,7 @@ ghost use Rattle.cutting.specs.Inner.{CutUp, Entered};
 use groups::Grouping;
 
 // A payslip's bits in a row that are not yet cut into parts: their number, how many they are, and the group of the next part.
-#[derive(Drop)]
+#[derive(Clone, Copy)]
 pub struct Row {
     pub bits: u64,
     pub held: usize,

@@ -1,4 +1,5 @@
 // Lists of numbers as bit fields of one width.
+#![tactic(auto)]
 ghost use Rattle.std.specs.Prelude.{◌≡◌, ◌*◌, take};
 ghost use Rattle.bits.specs.Bits.{fields};
 ghost use Rattle.bits.specs.Inner.{FieldStored};

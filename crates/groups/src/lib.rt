@@ -1,4 +1,5 @@
 // Method 3 up to its groups' tables: the columns' bits, the inputs and their groups.
+#![tactic(auto)]
 ghost use Rattle.std.specs.Prelude.{◌≤◌, length, take};
 ghost use Rattle.digits.specs.Range.{sum_to};
 ghost use Rattle.groups.specs.Groups.{group_count, most_inputs, most_members};
@@ -9,7 +10,7 @@ ghost use Rattle.groups.specs.Inner.{GroupedBy, GroupingAsked, Narrow, bits_less
 pub const MOST_INPUTS: usize = chain::MOST_COLUMNS * 32;
 
 // A sheet's inputs in groups of c: p columns, q payslips, and how many inputs, groups and squarings there are.
-#[derive(Drop)]
+#[derive(Clone, Copy)]
 pub struct Grouping {
     pub p: usize,
     pub q: usize,

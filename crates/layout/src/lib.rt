@@ -1,10 +1,11 @@
 // The layout of a chain's file, as a value, and what a chain's sizes come to in it.
+#![tactic(auto)]
 ghost use Rattle.std.specs.Prelude.{◌≡◌};
 ghost use Rattle.layout.specs.Layout.{edition1};
 ghost use Rattle.layout.specs.Inner.{LayoutHolds, extent_of};
 
 // An edition: its number, how many bits n has in its header, and the most steps that it holds.
-#[derive(Drop)]
+#[derive(Clone, Copy)]
 pub struct Layout {
     pub edition: usize,
     pub bits: usize,
@@ -43,7 +44,7 @@ pub fn first_edition() -> Layout
 }
 
 // A chain's sizes in a file: the width of its fields, where its steps begin, its bits before the filling, and its bytes with it.
-#[derive(Drop)]
+#[derive(Clone, Copy)]
 pub struct Extent {
     pub p: usize,
     pub q: usize,

@@ -1,4 +1,5 @@
 // The steps and outputs of a chain, judged in their order: each step, then 12 of an output.
+#![tactic(auto)]
 ghost use Rattle.std.specs.Prelude.{◌≡◌, ◌/◌, length};
 ghost use Rattle.chain.specs.Chain.{by, pairs, steps_rule, outputs_rule, chain_rule, squarings_of};
 ghost use Rattle.chain.specs.Judgement.{verdict_of, counted_of};
@@ -8,7 +9,7 @@ ghost use Rattle.legal.specs.Inner.{ValuesFit, EqualCounted, Tallied};
 use chain::{Counted, Judgement};
 
 // What is counted of steps without telling them apart.
-#[derive(Drop)]
+#[derive(Clone, Copy)]
 struct Tally {
     legal: u32,
     squarings: u32,

@@ -1,4 +1,5 @@
 // The cut of one level: rows of indices cut into clumps and overflow, equal clumps made one, and all of them put in order.
+#![tactic(auto)]
 ghost use Rattle.std.specs.Prelude.{◌≡◌, ◌*◌, ◌^◌, ◌≤◌, ◌<◌};
 ghost use Rattle.clumps.specs.Clumps.{most_part};
 ghost use Rattle.groups.specs.Groups.{group_count};
@@ -7,7 +8,7 @@ ghost use Rattle.level.specs.Inner.{LevelAsked, LevelCut};
 use cuts::Pair;
 
 // The rows of the clumps, how many they are, and where they end.
-#[derive(Drop)]
+#[derive(Clone, Copy)]
 pub struct Clumped {
     pub clumps: usize,
     pub k: usize,

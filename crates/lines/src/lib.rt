@@ -1,4 +1,5 @@
 // The lines of a text, and what a table's line has: its separators, its fields, its digits.
+#![tactic(auto)]
 ghost use Rattle.std.specs.Prelude.{◌≡◌, ◌+◌, ◌≤◌, length, drop};
 ghost use Rattle.lines.specs.Lines.{content_length, content_of, same_unit, digit_unit, tally_of, parting_of, separators_in, fields_in, head_of};
 ghost use Rattle.lines.specs.Inner.{until_newline, Low, TallyAsked, blank_unit, begun, tallied};
@@ -35,7 +36,7 @@ pub fn content_length(line: &[u8]) -> usize
 }
 
 // What a line has so far.
-#[derive(Drop)]
+#[derive(Clone, Copy)]
 struct Tally {
     tabs: usize,
     semicolons: usize,
@@ -45,7 +46,7 @@ struct Tally {
 }
 
 // A table's first line: how its fields are parted, how many fields and how many digits it has, and where it ends.
-#[derive(Drop)]
+#[derive(Clone, Copy)]
 pub struct Head {
     pub by: Parting,
     pub fields: usize,

@@ -1,5 +1,6 @@
 // Reads a file on standard input and writes its listing to standard output. What breaks the reading or the writing is said on standard error.
 // The buffer holds more than the longest file, so that an input that does not fit is known to be too long.
+#![tactic(auto)]
 use libc::{STDIN_FILENO, STDOUT_FILENO};
 
 // Whether the input has ended: where a read failed before its end, a further read fails too, or finds bytes.

@@ -1,4 +1,5 @@
 // The listing of a file, as text.
+#![tactic(auto)]
 ghost use Rattle.std.specs.Prelude.{◌≡◌, [], ◌∷◌, ◌+◌, ◌*◌, ◌≤◌, length, get_or};
 ghost use Rattle.chain.specs.Verdict.{answer};
 ghost use Rattle.chain.specs.Written.{over, laid};

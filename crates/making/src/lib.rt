@@ -1,4 +1,5 @@
 // A level of input clumping up to the next level: the outputs' inputs cut, the clumps made as products, and the outputs over these and all inputs.
+#![tactic(auto)]
 ghost use Rattle.making.specs.Inner.{MakeAsked, InputsMade};
 
 use cuts::Pair;
@@ -6,7 +7,7 @@ use products::Progress;
 use row_products::Problem;
 
 // The next level's inputs: the values of k clumps and then all inputs' values; the outputs' rows over them, and where these end; and what was made so far.
-#[derive(Drop)]
+#[derive(Clone, Copy)]
 pub struct NextInputs {
     pub values: usize,
     pub k: usize,

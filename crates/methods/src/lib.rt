@@ -1,4 +1,5 @@
 // What the methods share: what they tell of a chain before it is made, and powers of the bases.
+#![tactic(auto)]
 ghost use Rattle.std.specs.Prelude.{◌≡◌, ◌+◌, ◌^◌, ◌≤◌, ◌<◌, length};
 ghost use Rattle.chain.specs.Chain.{most_columns};
 ghost use Rattle.products.specs.Inner.{WithRoom, begun, StepsRoom, StepsStored};
@@ -7,7 +8,7 @@ ghost use Rattle.methods.specs.Powers.{counts_of, squarings, power_at};
 use products::{PartialProduct, Progress};
 
 // How many steps a chain has, and the most that its method takes for such a sheet.
-#[derive(Drop)]
+#[derive(Clone, Copy)]
 pub struct Quote {
     pub count: usize,
     pub ceiling: usize,

@@ -1,11 +1,12 @@
 // A level of output clumping opened: the outputs of each input, cut; the clumps; and the next level's outputs.
+#![tactic(auto)]
 ghost use Rattle.opening.specs.Inner.{OpenAsked, OutputsOpened};
 
 use cuts::Pair;
 use row_products::Problem;
 
 // The rows of what overflows of each input, of the clumps and how many they are, and of the next level's outputs, and where these end.
-#[derive(Drop)]
+#[derive(Clone, Copy)]
 pub struct Opened {
     pub rest: usize,
     pub clumps: usize,

@@ -1,4 +1,5 @@
 // A sheet written as packed fields.
+#![tactic(auto)]
 ghost use Rattle.std.specs.Prelude.{◌≡◌, ◌<◌, length};
 ghost use Rattle.chain.specs.Judgement.{verdict_of};
 ghost use Rattle.chain.specs.Written.{over, laid};

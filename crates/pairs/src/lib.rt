@@ -1,4 +1,5 @@
 // The check and the run of a chain that is lent as a slice of steps: the steps are gone through as they stand, with one task or another.
+#![tactic(auto)]
 ghost use Rattle.std.specs.Prelude.{◌≡◌, ◌+◌, ◌≤◌, ◌<◌, length};
 ghost use Rattle.chain.specs.Verdict.{fine, ◌then◌, on_fine};
 ghost use Rattle.chain.specs.Judgement.{verdict_of};
@@ -19,7 +20,7 @@ use verify::Found;
 
 // What is done with each step: it is judged, or multiplied or added into the cell after those of the p + 1 first values and the steps before it. Each has
 // p and the squarings, which are counted as the steps are judged and then kept. Once something was found, that alone is kept and nothing is done any more.
-#[derive(Drop)]
+#[derive(Clone, Copy)]
 enum Task {
     Judging(usize, usize),
     Multiplying(usize, usize, u32, u64),

@@ -1,4 +1,5 @@
 // What a text answers, and where a place of a text is.
+#![tactic(auto)]
 ghost use Rattle.std.specs.Prelude.{◌≡◌, ◌+◌, ◌^◌, ◌<◌};
 ghost use Rattle.places.specs.Places.{after_byte, spot_of, cut_text, refused_at};
 
@@ -22,14 +23,14 @@ pub const SIGNED: u32 = 106;
 pub const NO_AMOUNT: u32 = 107;
 
 // What a text answers: two values; or a refusal's number, its line and column, what was found and what was wanted.
-#[derive(Drop)]
+#[derive(Clone, Copy)]
 pub enum Read {
     Values(usize, usize),
     Refused(u32, usize, usize, usize, usize),
 }
 
 // A line and a column of a text, each counted from 1.
-#[derive(Drop)]
+#[derive(Clone, Copy)]
 pub struct Spot {
     pub line: usize,
     pub column: usize,

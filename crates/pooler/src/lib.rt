@@ -1,4 +1,5 @@
 // Two chains pooled into one.
+#![tactic(auto)]
 ghost use Rattle.std.specs.Prelude.{◌≡◌, ◌++◌, map, ◌+◌, ◌/◌, ◌^◌, ◌<◌, length, take};
 ghost use Rattle.chain.specs.Chain.{pairs};
 ghost use Rattle.chain.specs.Written.{over, laid};
@@ -10,7 +11,7 @@ use answers::Pooled;
 use chain::Counted;
 
 // How a part's value numbers become the pool's: those above p go up by n.
-#[derive(Drop)]
+#[derive(Clone, Copy)]
 struct Numbering {
     p: u32,
     n: u32,

@@ -1,4 +1,5 @@
 // The first problem of a sheet: the parts of its groups that some payslip uses, and for each nonzero payslip the places of its own.
+#![tactic(auto)]
 ghost use Rattle.posing.specs.Inner.{PoseAsked, Posed};
 
 use groups::Grouping;

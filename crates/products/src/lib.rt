@@ -1,5 +1,6 @@
 // Products in the making: steps go into a lent flat slice, first and second in turn; the numbers of steps and of values say where. Squarings are counted
 // as they are put.
+#![tactic(auto)]
 ghost use Rattle.std.specs.Prelude.{◌≡◌, [], ◌∷◌, ◌++◌};
 ghost use Rattle.products.specs.Product.{ordered, times, squared};
 ghost use Rattle.products.specs.Inner.{steps_in, product_in, MoreRoom, StepsRoom, StepsStored, Emitted};
@@ -7,14 +8,14 @@ ghost use Rattle.products.specs.Inner.{steps_in, product_in, MoreRoom, StepsRoom
 use chain::Step;
 
 // How many steps there are so far, and how many of them are squarings.
-#[derive(Drop)]
+#[derive(Clone, Copy)]
 pub struct Progress {
     pub steps: usize,
     pub squarings: usize,
 }
 
 // A product in the making: the steps so far, and the number of its value; 0 is the empty product.
-#[derive(Drop)]
+#[derive(Clone, Copy)]
 pub struct PartialProduct {
     pub progress: Progress,
     pub value: u32,

@@ -1,4 +1,5 @@
 // A file's bytes and a bit position in them together: the next field, and the next fields of one width.
+#![tactic(auto)]
 ghost use Rattle.std.specs.Prelude.{◌≡◌};
 ghost use Rattle.bits.specs.Inner.{FieldRoom, FieldTaken};
 ghost use Rattle.fields.specs.Inner.{FieldsRoom, FieldsTaken};
@@ -6,14 +7,14 @@ ghost use Rattle.fields.specs.Inner.{FieldsRoom, FieldsTaken};
 use bits::Cursor;
 
 // The bytes, and the position.
-#[derive(Drop)]
+#[derive(Clone, Copy)]
 pub struct BitReader<'a> {
     pub bytes: &'a [u8],
     pub cursor: Cursor,
 }
 
 // A field that was read, and the reader past it.
-#[derive(Drop)]
+#[derive(Clone, Copy)]
 pub struct ReadField<'a> {
     pub value: usize,
     pub next: BitReader<'a>,

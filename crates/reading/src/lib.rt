@@ -1,4 +1,5 @@
 // The file of a chain, read.
+#![tactic(auto)]
 ghost use Rattle.std.specs.Prelude.{◌≡◌, ◌+◌, ◌*◌, ◌/◌, length};
 ghost use Rattle.chain.specs.Judgement.{verdict_of, counted_of};
 ghost use Rattle.chain.specs.Chain.{steps_rule, outputs_rule, squarings_of};
@@ -17,7 +18,7 @@ use layout::{Extent, Layout};
 use reader::BitReader;
 
 // What a header says.
-#[derive(Drop)]
+#[derive(Clone, Copy)]
 struct Header {
     edition: usize,
     p: usize,
@@ -26,7 +27,7 @@ struct Header {
 }
 
 // What its numbers come to, or a refusal.
-#[derive(Drop)]
+#[derive(Clone, Copy)]
 enum Heading {
     Found(Extent),
     Refused(u32, usize),

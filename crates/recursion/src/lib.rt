@@ -1,4 +1,5 @@
 // Clumping of outputs and of inputs in turn, until no level is left.
+#![tactic(auto)]
 ghost use Rattle.std.specs.Prelude.{◌≡◌, ◌+◌};
 ghost use Rattle.std.proofs.Math.Seq.{slice};
 ghost use Rattle.products.specs.Inner.{steps_in};

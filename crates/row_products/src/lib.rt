@@ -1,4 +1,5 @@
 // Products of rows of places, made in front of the slice in which the rows stand.
+#![tactic(auto)]
 ghost use Rattle.std.specs.Prelude.{◌+◌};
 ghost use Rattle.std.proofs.Math.Seq.{slice};
 ghost use Rattle.products.specs.Product.{made};
@@ -13,7 +14,7 @@ use products::{PartialProduct, Progress};
 pub const LISTS_FROM: usize = 150000;
 
 // n inputs, whose values stand at a cell, and m outputs, rows of their places.
-#[derive(Drop)]
+#[derive(Clone, Copy)]
 pub struct Problem {
     pub ins: usize,
     pub n: usize,
@@ -22,7 +23,7 @@ pub struct Problem {
 }
 
 // m outputs, each the product of some of k clumps, whose values are made, and of some of n inputs.
-#[derive(Drop)]
+#[derive(Clone, Copy)]
 pub struct Joint {
     pub clumps: usize,
     pub made: usize,

@@ -1,10 +1,11 @@
 // The numbers of a text, by any parting.
+#![tactic(auto)]
 ghost use Rattle.std.specs.Prelude.{◌≡◌, ◌+◌, ◌^◌, ◌<◌, ◌≤◌, length};
 ghost use Rattle.text.specs.Text.{fault_of, plain_kind, word_kind, free_kind, field_kind, kind_of, end_kind, parted, closed, padded, grown, begun, lengthened, effect_of, read_text};
 ghost use Rattle.text.specs.Inner.{kind_at, FoundTo};
 
 // What parts the numbers of a text: blanks of any kind, with lines among them; blanks and tabs on one line; or one byte, which ends a field.
-#[derive(Drop)]
+#[derive(Clone, Copy)]
 pub enum Parting {
     Free,
     Words,
@@ -12,7 +13,7 @@ pub enum Parting {
 }
 
 // What a byte is in a text of numbers; one that is part of none has its fault.
-#[derive(Drop)]
+#[derive(Clone, Copy)]
 enum Kind {
     Blank,
     Padding,
@@ -22,7 +23,7 @@ enum Kind {
 }
 
 // The number in the making, of the digits so far; in a field it may have blanks after it.
-#[derive(Drop)]
+#[derive(Clone, Copy)]
 enum Making {
     Nothing,
     Number(u32),
@@ -30,7 +31,7 @@ enum Making {
 }
 
 // What a byte does to it. A fault has its number, what was found and what was wanted.
-#[derive(Drop)]
+#[derive(Clone, Copy)]
 enum Effect {
     Becomes(Making),
     Ends(u32),
@@ -38,7 +39,7 @@ enum Effect {
 }
 
 // How many numbers a text has; or the first fault: its number, its place, counted from 1, what was found and what was wanted.
-#[derive(Drop)]
+#[derive(Clone, Copy)]
 pub enum Parsed {
     Numbers(usize),
     Fault(u32, usize, usize, usize),

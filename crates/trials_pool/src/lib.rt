@@ -1,1 +1,2 @@
 // Rows for pools: what is pooled, each refusal in either part, and their order. There is no code here.
+#![tactic(auto)]

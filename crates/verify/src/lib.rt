@@ -1,4 +1,5 @@
 // The check of a chain against a sheet, in what the flat form and the form over step structs share: what is found before the steps, and the earlier of two places.
+#![tactic(auto)]
 ghost use Rattle.std.specs.Prelude.{◌≡◌};
 ghost use Rattle.chain.specs.Judgement.{verdict_of};
 ghost use Rattle.verify.specs.Verify.{earlier};
@@ -7,7 +8,7 @@ ghost use Rattle.verify.specs.Inner.{start_rule};
 use chain::Judgement;
 
 // What is found of columns: the earliest step with too large an exponent and, while there is none, the earliest payslip that differs; 0 for none.
-#[derive(Drop)]
+#[derive(Clone, Copy)]
 pub struct Found {
     pub large: usize,
     pub other: usize,

@@ -1,4 +1,5 @@
 // How wide the numbers of a file are.
+#![tactic(auto)]
 ghost use Rattle.std.specs.Prelude.{◌≡◌};
 ghost use Rattle.width.specs.Cases.{width_by_cases};
 

@@ -1,4 +1,5 @@
 // Method 2, Yao: the chain's steps and outputs.
+#![tactic(auto)]
 ghost use Rattle.std.specs.Prelude.{◌≡◌, ◌-◌, ◌^◌, ◌≤◌, length};
 ghost use Rattle.chain.specs.Written.{over};
 ghost use Rattle.digits.specs.Range.{list_to};
@@ -13,7 +14,7 @@ use products::{PartialProduct, Progress};
 
 // A column of a payslip: the sheet's columns p and the parameter k, its place c, the value after which its powers are made, how many they are, and its
 // amount x.
-#[derive(Drop)]
+#[derive(Clone, Copy)]
 pub struct Column {
     pub p: usize,
     pub k: usize,
@@ -24,7 +25,7 @@ pub struct Column {
 }
 
 // The two products of a column, and the steps so far.
-#[derive(Drop)]
+#[derive(Clone, Copy)]
 pub struct Pair {
     pub progress: Progress,
     pub a: u32,

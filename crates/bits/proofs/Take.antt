@@ -6,7 +6,7 @@ use native.Mathlib.Nat.{one-mul, zero-mul, div-add-mod'}
 use native.Mathlib.Omega.{arith}
 use lib.ListN.{length, get_or, get_or-eq_default}
 use lib.Dec.{lit<}
-use lib.Pow.{pow_pos, shl_exact, shr_shr}
+use lib.Pow.{pow_pos, shl_exact, shr-shr}
 use Rattle.bits.specs.Bits.{value, bytes_bits, field_at}
 use Rattle.bits.specs.Inner.{widest_field, window, ByteAt, WordAt, FieldRoom, FieldTaken, TwoRoom, TwoTaken}
 use Rattle.bits.proofs.Values.{value_lt, value-append}
@@ -123,7 +123,7 @@ module _ (l : List ℕ) (at w : ℕ) where
   taken g room got =
       let r : ℕ = 63 - (at % 8 + w) in
       field_is l at w _ _
-      (ap (λ (x : ℕ). x % (1 * 2 ^ w % 2 ^ 64)) (shr_shr g 1 r)
+      (ap (λ (x : ℕ). x % (1 * 2 ^ w % 2 ^ 64)) (shr-shr g 1 r)
       ∙ cut l (at / 8) g got (at % 8) (1 + r) at w room.narrow (sym (div-add-mod' at 8)) (omega (arith, room.narrow)) room.within
       (omega (arith, room.narrow)))
       refl
@@ -142,7 +142,7 @@ module _ (l : List ℕ) (at w : ℕ) where
       record {
         first =
             field_is l at w _ _
-            (ap (λ (x : ℕ). x % (1 * 2 ^ w % 2 ^ 64)) (shr_shr g r w)
+            (ap (λ (x : ℕ). x % (1 * 2 ^ w % 2 ^ 64)) (shr-shr g r w)
             ∙ cut l i g got o (r + w) at w narrow place (omega (arith, covered)) (omega (arith, room.within)) (omega (arith, covered)))
             refl;
         second =

@@ -10,7 +10,7 @@ use lib.ListN.{length, take, drop, replicate, length-append, length-drop, length
 use lib.Seq.{length-take-le}
 use lib.Dec.{eqb, lit<}
 use lib.Arith.{digits_lt}
-use lib.Pow.{pow-add, mod-pow-add, shr_shr, high, low}
+use lib.Pow.{pow-add, mod-pow-add, shr-shr, high, low}
 use Rattle.bits.specs.Bits.{bit, odd, bits, value}
 
 bit_eqb : (m : ℕ) → m < 2 → bit (eqb m 1) ≡ m
@@ -81,7 +81,7 @@ unfolding bits
 bits-add zero b x = ap (λ (k : ℕ). bits k x) (zero-add b)
 bits-add (suc a) b x =
     ap (λ (k : ℕ). bits k x) (suc-add a b)
-    ∙ ap₂ (λ (n : ℕ) (r : List Bool). odd n ∷ r) (ap (λ (k : ℕ). x / 2 ^ k) (add_comm a b) ∙ sym (shr_shr x b a)) (bits-add a b x)
+    ∙ ap₂ (λ (n : ℕ) (r : List Bool). odd n ∷ r) (ap (λ (k : ℕ). x / 2 ^ k) (add_comm a b) ∙ sym (shr-shr x b a)) (bits-add a b x)
 
 -- so two numbers, one shifted before the other, are a field of twice the width
 pub bits_two : (w a b : ℕ) → b < 2 ^ w → bits (2 * w) (a * 2 ^ w + b) ≡ bits w a ++ bits w b

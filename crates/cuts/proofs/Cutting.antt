@@ -8,7 +8,7 @@ use Prim.Native.Nat.{ℕ, ◌+◌, ◌-◌, ◌*◌, ◌/◌, ◌^◌, ◌≤◌
 use native.Mathlib.Nat.{mul-zero}
 use native.Mathlib.Omega.{arith}
 use lib.ListN.{length, get_or, set, length-set}
-use lib.Seq.{slice, get_or-set_same, get_or_set_other, set_comm}
+use lib.Seq.{slice, get_or-set_same, get_or-set_other, set_comm}
 use Rattle.clumps.specs.Clumps.{level, clumps_of, overflow_of}
 use Rattle.rows.specs.Inner.{members_at, row_at, Rising, Apart, RowsTo}
 use Rattle.rows.proofs.Lists.{slice_same}
@@ -215,10 +215,10 @@ module _ (old : List ℕ) (at m : ℕ) (l : Pair) (keys rest : ℕ) (asked : Cut
         k_rows =
             subst (RowsTo keys m (j + 1) k' (keys_of old at m a b keys rest)) (set_comm mid rest_place keys_place r' k' differ)
             (rows_more keys m (keys_of old at m a b keys rest) j k k' s (set mid rest_place r') d.keys-rows less
-            (λ c h g. get_or_set_other mid rest_place c r' 0 (λ q. omega (arith, d.keys_low)) ∙ cut.before c g)
+            (λ c h g. get_or-set_other mid rest_place c r' 0 (λ q. omega (arith, d.keys_low)) ∙ cut.before c g)
             cut.keys_rise inside
             (slice_same k k' (set mid rest_place r') mid inside (rw (length-set mid rest_place r') at inside)
-            (λ c h g. get_or_set_other mid rest_place c r' 0 (λ q. omega (arith, k_low)))
+            (λ c h g. get_or-set_other mid rest_place c r' 0 (λ q. omega (arith, k_low)))
             ∙ done.clumps (2 ^ 24) (subst (Rising (2 ^ 24)) (sym row_is) (asked.rising j less))
             ∙ ap (λ (u : List ℕ). map (key_in a) (clumps_of (level a b) (2 ^ 24) u)) row_is))
           where
@@ -228,10 +228,10 @@ module _ (old : List ℕ) (at m : ℕ) (l : Pair) (keys rest : ℕ) (asked : Cut
         r_rows : RowsTo rest m (j + 1) r' (rest_of old at m a b keys rest) new
         r_rows =
             rows_more rest m (rest_of old at m a b keys rest) j r r' s (set mid keys_place k') d.rest_rows less
-            (λ c h g. get_or_set_other mid keys_place c k' 0 (λ q. omega (arith, d.keys_low, keys_above)) ∙ cut.between c (omega (arith, k_low)) g)
+            (λ c h g. get_or-set_other mid keys_place c k' 0 (λ q. omega (arith, d.keys_low, keys_above)) ∙ cut.between c (omega (arith, k_low)) g)
             cut.rest_rise inside
             (slice_same r r' (set mid keys_place k') mid inside (rw (length-set mid keys_place k') at inside)
-            (λ c h g. get_or_set_other mid keys_place c k' 0 (λ q. omega (arith, d.keys_low, keys_above, rest_above)))
+            (λ c h g. get_or-set_other mid keys_place c k' 0 (λ q. omega (arith, d.keys_low, keys_above, rest_above)))
             ∙ done.overflow (2 ^ 24) (subst (Rising (2 ^ 24)) (sym row_is) (asked.rising j less))
             ∙ ap (overflow_of (level a b) (2 ^ 24)) row_is)
           where
@@ -261,7 +261,7 @@ module _ (old : List ℕ) (at m : ℕ) (l : Pair) (keys rest : ℕ) (asked : Cut
             }
           where
             other : (c : ℕ) → (c ≡ rest_place → ⊥) → (c ≡ keys_place → ⊥) → get_or new c 0 ≡ get_or mid c 0
-            other c h g = get_or_set_other (set mid keys_place k') rest_place c r' 0 h ∙ get_or_set_other mid keys_place c k' 0 g
+            other c h g = get_or-set_other (set mid keys_place k') rest_place c r' 0 h ∙ get_or-set_other mid keys_place c k' 0 g
 
   -- the first places set
   abbrev keys_first : ℕ
@@ -277,7 +277,7 @@ module _ (old : List ℕ) (at m : ℕ) (l : Pair) (keys rest : ℕ) (asked : Cut
   long = length-set (set old keys keys_first) rest rest_first ∙ length-set old keys keys_first
 
   other : (c : ℕ) → (c ≡ rest → ⊥) → (c ≡ keys → ⊥) → get_or placed c 0 ≡ get_or old c 0
-  other c h g = get_or_set_other (set old keys keys_first) rest c rest_first 0 h ∙ get_or_set_other old keys c keys_first 0 g
+  other c h g = get_or-set_other (set old keys keys_first) rest c rest_first 0 h ∙ get_or-set_other old keys c keys_first 0 g
 
   kept : (c : ℕ) → at ≤ c → c < end → get_or placed c 0 ≡ get_or old c 0
   kept c h g = by_side asked.away
@@ -311,7 +311,7 @@ module _ (old : List ℕ) (at m : ℕ) (l : Pair) (keys rest : ℕ) (asked : Cut
               fits = rw long asked.fits;
             };
         keys_first_lem =
-            get_or_set_other (set old keys keys_first) rest keys rest_first 0 (λ e. omega (arith, asked.keys_room))
+            get_or-set_other (set old keys keys_first) rest keys rest_first 0 (λ e. omega (arith, asked.keys_room))
             ∙ get_or-set_same old keys keys_first 0 places_there.0;
         rest_first_lem = get_or-set_same (set old keys keys_first) rest rest_first 0 (rw (length-set old keys keys_first) places_there.1);
       }

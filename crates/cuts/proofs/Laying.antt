@@ -6,7 +6,7 @@ use mathlib.Core.List.{List, [], ◌∷◌, ◌++◌}
 use Prim.Native.Nat.{ℕ, suc, ◌+◌, ◌-◌, ◌≤◌, ◌<◌}
 use native.Mathlib.Omega.{arith}
 use lib.ListN.{length, get_or, set, length-set}
-use lib.Seq.{slice, slice_empty, get_or_set_other}
+use lib.Seq.{slice, slice_empty, get_or-set_other}
 use Rattle.digits.specs.Range.{list_to}
 use Rattle.digits.proofs.Listed.{length-list, get_d_list}
 use Rattle.rows.specs.Inner.{Apart}
@@ -36,8 +36,8 @@ module _ (f : ℕ → ℕ) (r : ℕ) (old : List ℕ) where
         apart =
             record {
               size = length-set s e x ∙ d.apart.size;
-              before = λ c g. get_or_set_other s e c x 0 (λ q. omega (arith, d.after)) ∙ d.apart.before c g;
-              behind = λ c g. get_or_set_other s e c x 0 (λ q. omega arith) ∙ d.apart.behind c (omega arith);
+              before = λ c g. get_or-set_other s e c x 0 (λ q. omega (arith, d.after)) ∙ d.apart.before c g;
+              behind = λ c g. get_or-set_other s e c x 0 (λ q. omega arith) ∙ d.apart.behind c (omega arith);
             };
         are =
             slice_set r e x s d.after (omega (arith, d.apart.size))

@@ -9,7 +9,7 @@ use native.Mathlib.Nat.{le_antisymm, div-lt_iff_lt-mul, le-div_iff_mul-le}
 use native.Mathlib.Numerals.{add-one}
 use native.Mathlib.Omega.{arith}
 use lib.ListN.{length, get_or, set, get_or-eq_default}
-use lib.Pow.{pow-add, pow_pos, pow_mono, high, low, shl_lt, shl_exact, shr_shr}
+use lib.Pow.{pow-add, pow_pos, pow_mono, high, low, shl_lt, shl_exact, shr-shr}
 use Rattle.chain.specs.Written.{over, laid}
 use Rattle.chain.proofs.Written.{laid_nil, laid_laid, over_laid}
 use Rattle.digits.specs.Digits.{digit}
@@ -121,7 +121,7 @@ module _ (c : ℕ) (row left : Row) (old cells : List ℕ) (e : Cut c row left o
       record {
         onward = omega arith;
         held_less = rw more (omega (arith, e.held_less, add-mul m 1 c, one-mul c));
-        rest = rw (more, further) (bits ∙ ap (λ (x : ℕ). x / 2 ^ c) e.rest ∙ shr_shr row.bits (c * m) c);
+        rest = rw (more, further) (bits ∙ ap (λ (x : ℕ). x / 2 ^ c) e.rest ∙ shr-shr row.bits (c * m) c);
         parts_are =
             rw more
             (ap (λ (n : ℕ). set cells n t) (sym at)

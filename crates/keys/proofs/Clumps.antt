@@ -4,7 +4,7 @@ use mathlib.Core.List.{List}
 use Prim.Native.Nat.{ℕ, suc, ◌+◌, ◌≤◌, ◌<◌}
 use native.Mathlib.Omega.{arith}
 use lib.ListN.{length, get_or, set, length-set}
-use lib.Seq.{get_or-set_same, get_or_set_other}
+use lib.Seq.{get_or-set_same, get_or-set_other}
 use Rattle.chain.specs.Written.{laid as laidAt}
 use Rattle.digits.proofs.Range.{sum_more, sum_same}
 use Rattle.digits.proofs.Listed.{list_same}
@@ -46,7 +46,7 @@ module _ (s : List ℕ) (keys k a to : ℕ) (asked : ClumpsAsked s keys k a to) 
   first = set s to (to + k + 1)
 
   first_key : (j : ℕ) → j < k → get_or first (keys + j) 0 ≡ get_or s (keys + j) 0
-  first_key j h = get_or_set_other s to (keys + j) (to + k + 1) 0 (λ q. omega (arith, asked.before))
+  first_key j h = get_or-set_other s to (keys + j) (to + k + 1) 0 (λ q. omega (arith, asked.before))
 
   first_clump : (j : ℕ) → j < k → clump_in a first (keys + j) ≡ f j
   first_clump j h = ap (clump_of a) (first_key j h)

@@ -6,7 +6,7 @@ use native.Mathlib.Nat.{zero-add, suc-add}
 use native.Mathlib.Omega.{arith}
 use lib.ListN.{length, take, set}
 use lib.Seq.{take_all, take-append-le, take-append-add}
-use lib.Pow.{shr_shr}
+use lib.Pow.{shr-shr}
 use Rattle.chain.specs.Written.{laid}
 use Rattle.chain.proofs.Written.{laid_laid, cell_laid, cell_after}
 use Rattle.octets.specs.Inner.{spread}
@@ -59,7 +59,7 @@ spread-add zero b x = ap (λ (k : ℕ). spread k x) (zero-add b)
 spread-add (suc a) b x =
     let e : (a + b) * 8 ≡ b * 8 + a * 8 = omega arith in
     ap (λ (k : ℕ). spread k x) (suc-add a b)
-    ∙ ap₂ (λ (n : ℕ) (r : List ℕ). n % 256 ∷ r) (ap (λ (k : ℕ). x / 2 ^ k) e ∙ sym (shr_shr x (b * 8) (a * 8))) (spread-add a b x)
+    ∙ ap₂ (λ (n : ℕ) (r : List ℕ). n % 256 ∷ r) (ap (λ (k : ℕ). x / 2 ^ k) e ∙ sym (shr-shr x (b * 8) (a * 8))) (spread-add a b x)
 
 -- the first count bytes of head * 2 ^ 56 + x: four of them, and then others
 module _ (l : List ℕ) (i count head x : ℕ) (m : List ℕ) where

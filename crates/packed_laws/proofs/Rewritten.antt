@@ -7,7 +7,7 @@ use Prim.Native.Nat.{ℕ, ◌+◌, ◌*◌, ◌/◌, ◌%◌, ◌≤◌, ◌<◌
 use native.Mathlib.Decide.{ℕ_discrete}
 use native.Mathlib.Omega.{arith}
 use lib.ListN.{length, get_or, set}
-use lib.Seq.{get_or-set_same, get_or_set_other}
+use lib.Seq.{get_or-set_same, get_or-set_other}
 use Rattle.chain.specs.Tests.{◌=?◌}
 use Rattle.chain.proofs.Rules.{eq_yes, eq_no}
 use Rattle.packed.specs.Field.{field_bytes, most_packed, plus, unsigned, joined, digits_of, sign_of, amount_of, field_of, written_back, field_from}
@@ -80,7 +80,7 @@ module _ (bytes : List ℕ) (at : ℕ) (there : at + field_bytes ≤ length byte
       by_place (yes e) =
           let ne : byte 4 % 16 ≢ unsigned = rw e at (kept e) in
           rw e (omega (arith, last_is, sign_kept (byte 4 % 16) ne))
-      by_place (no ne) = ap (λ (l : List ℕ). get_or l j 0) back_is ∙ get_or_set_other field 4 j (last_back (byte 4)) 0 ne ∙ field_byte bytes at j h
+      by_place (no ne) = ap (λ (l : List ℕ). get_or l j 0) back_is ∙ get_or-set_other field 4 j (last_back (byte 4)) 0 ne ∙ field_byte bytes at j h
 
   pub byte_plus : byte 4 % 16 ≡ unsigned → get_or (written_back field) 4 0 + 3 ≡ byte 4
   byte_plus e = omega (arith, last_is, sign_plus (byte 4 % 16) e)

@@ -7,7 +7,7 @@ use Prim.Native.Nat.{ℕ, zero, suc, ◌+◌, ◌-◌, ◌^◌, ◌≤◌, ◌<�
 use native.Mathlib.Decide.{dec_lt}
 use native.Mathlib.Omega.{arith}
 use lib.ListN.{length, get_or, set, length-append, length-map, length-set}
-use lib.Seq.{slice, ext_get_or, get_or-set_same, get_or_set_other}
+use lib.Seq.{slice, ext_get_or, get_or-set_same, get_or-set_other}
 use Rattle.chain.specs.Written.{laid as laidAt}
 use Rattle.chain.proofs.Written.{laid_laid, laid-length}
 use Rattle.digits.specs.Range.{sum_to}
@@ -179,7 +179,7 @@ module _ (s : List ℕ) (front back m k to : ℕ) (asked : RaiseAsked s front ba
   first = set s to (to + m + 1)
 
   first_cell : (c : ℕ) → c < to → get_or first c 0 ≡ get_or s c 0
-  first_cell c h = get_or_set_other s to c (to + m + 1) 0 (λ q. omega arith)
+  first_cell c h = get_or-set_other s to c (to + m + 1) 0 (λ q. omega arith)
 
   first_long : length first ≡ length s
   first_long = length-set s to (to + m + 1)

@@ -6,7 +6,7 @@ use native.Mathlib.Numerals.{add-one}
 use native.Mathlib.Decide.{dec_lt}
 use native.Mathlib.Omega.{arith}
 use lib.ListN.{length, get_or, set, length-append, length-set, get_or-append}
-use lib.Seq.{slice, slice_empty, get_or_at, get_or-set_same, get_or_set_other, take-set-le}
+use lib.Seq.{slice, slice_empty, get_or_at, get_or-set_same, get_or-set_other, take-set-le}
 use Rattle.chain.specs.Chain.{Chain, pairs, squarings_of}
 use Rattle.chain.specs.declared.Step.{Step}
 use Rattle.products.specs.Product.{Made, made, payslips}
@@ -79,7 +79,7 @@ module _ (to : ℕ) (slip : ℕ → List Step → Made) (old : List ℕ) where
       making_long = stored-length made_is.stored (omega (arith, state.done.size)) ∙ state.done.size
 
       other : (c : ℕ) → lists_from ≤ c → (c ≡ to + j → ⊥) → get_or (set s' (to + j) v) c 0 ≡ get_or s c 0
-      other c h ne = get_or_set_other s' (to + j) c v 0 ne ∙ stored_behind made_is.stored c (omega arith)
+      other c h ne = get_or-set_other s' (to + j) c v 0 ne ∙ stored_behind made_is.stored c (omega arith)
 
       abbrev value : ℕ
       value = (slip j before.steps).value

@@ -5,7 +5,7 @@ use Prim.Native.Nat.{ℕ, suc, ◌+◌, ◌≤◌, ◌<◌}
 use native.Mathlib.Decide.{ℕ_discrete}
 use native.Mathlib.Omega.{arith}
 use lib.ListN.{length, get_or, set, length-set}
-use lib.Seq.{slice, get_or-set_same, get_or_set_other}
+use lib.Seq.{slice, get_or-set_same, get_or-set_other}
 use Rattle.chain.specs.Written.{laid}
 use Rattle.chain.proofs.Written.{laid-length}
 use Rattle.digits.specs.Range.{list_to}
@@ -51,7 +51,7 @@ module _ (at m : ℕ) (f : ℕ → List ℕ) where
       head = omega (arith, d.between 0 (omega arith))
 
       kept : (c : ℕ) → at ≤ c → c < e → (c ≡ at + j + 1 → ⊥) → get_or t c 0 ≡ get_or s c 0
-      kept c a b ne = get_or_set_other new (at + j + 1) c end 0 ne ∙ same c a b
+      kept c a b ne = get_or-set_other new (at + j + 1) c end 0 ne ∙ same c a b
 
       own_place : get_or t (at + (j + 1)) 0 ≡ end
       own_place =
@@ -81,7 +81,7 @@ module _ (at m : ℕ) (f : ℕ → List ℕ) where
       by_place i g (yes q) =
           rw q
           (ap₂ (λ (a b : ℕ). slice a b t) (place j (omega arith) ∙ d.last) own_end
-          ∙ slice_same e end t new (rw (length-set new (at + j + 1) end) inside) inside (λ c a b. get_or_set_other new (at + j + 1) c end 0 (λ r. omega (arith, head)))
+          ∙ slice_same e end t new (rw (length-set new (at + j + 1) end) inside) inside (λ c a b. get_or-set_other new (at + j + 1) c end 0 (λ r. omega (arith, head)))
           ∙ is)
       by_place i g (no ne) =
           let low = d.between i (omega arith) in
@@ -130,7 +130,7 @@ module _ (at m : ℕ) (f : ℕ → List ℕ) where
       head = omega (arith, d.rows.between 0 (omega arith))
 
       other : (c : ℕ) → (c ≡ at + j + 1 → ⊥) → get_or (set new (at + j + 1) (e + length (f j))) c 0 ≡ get_or new c 0
-      other c ne = get_or_set_other new (at + j + 1) c (e + length (f j)) 0 ne
+      other c ne = get_or-set_other new (at + j + 1) c (e + length (f j)) 0 ne
 
   -- all of them, the first place too
   pub over_all : (e : ℕ) (old s new : List ℕ) → s ≡ set old at (at + m + 1) → RowsOver at m m e f s new → RowsLaid at e (list_to m f) old new
@@ -141,9 +141,9 @@ module _ (at m : ℕ) (f : ℕ → List ℕ) where
         apart =
             record {
               size = d.apart.size ∙ ap length is ∙ length-set old at (at + m + 1);
-              before = λ c g. d.apart.before c g ∙ ap (λ (l : List ℕ). get_or l c 0) is ∙ get_or_set_other old at c (at + m + 1) 0 (λ q. omega arith);
+              before = λ c g. d.apart.before c g ∙ ap (λ (l : List ℕ). get_or l c 0) is ∙ get_or-set_other old at c (at + m + 1) 0 (λ q. omega arith);
               behind = λ c g. d.apart.behind c g ∙ ap (λ (l : List ℕ). get_or l c 0) is
-                  ∙ get_or_set_other old at c (at + m + 1) 0 (λ q. omega (arith, d.rows.between 0 (omega arith)));
+                  ∙ get_or-set_other old at c (at + m + 1) 0 (λ q. omega (arith, d.rows.between 0 (omega arith)));
             };
         formed = rw long all.0;
         are = ap (rows_at new at) long ∙ all.1;

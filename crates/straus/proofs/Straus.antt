@@ -2,7 +2,7 @@
 use mathlib.Core.Path.{◌≡◌, refl, ap₂, ◌∙◌}
 use mathlib.Core.List.{List}
 use Prim.Native.Nat.{ℕ, ◌+◌, ◌-◌, ◌*◌, ◌^◌, ◌≤◌}
-use native.Mathlib.Nat.{mul-add, mul-one, le_refl, le_trans, add_le_add}
+use native.Mathlib.Nat.{mul-add, mul-one, le_refl, le_trans, add-le-add}
 use native.Mathlib.Omega.{arith}
 use lib.ListN.{length, get_or}
 use lib.Pow.{pow_mono}
@@ -20,7 +20,7 @@ use Rattle.straus.proofs.Payslip.{payslip_count_lem, payslip_makes}
 pub straus_ceiling_lem : (p q : ℕ) (amounts : List ℕ) (k : ℕ) → straus_count p q amounts k ≤ straus_ceiling p q amounts k
 unfolding straus_count straus_ceiling
 straus_ceiling_lem p q amounts k =
-    add_le_add (le_refl (2 ^ (p * k) - p - 1)) (sum_le q _ _ (λ i h. each (straus_digits p amounts k i - 1) (digit_vector p amounts k i)))
+    add-le-add (le_refl (2 ^ (p * k) - p - 1)) (sum_le q _ _ (λ i h. each (straus_digits p amounts k i - 1) (digit_vector p amounts k i)))
   where
     each : (n : ℕ) (v : ℕ → ℕ) → n * k + sum_to n (λ j. sign (v j)) ≤ n * (k + 1)
     each n v = omega (arith, signs_low n v, mul-add n k 1, mul-one n)

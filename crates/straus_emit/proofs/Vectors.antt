@@ -8,7 +8,7 @@ use native.Mathlib.Numerals.{add-one}
 use native.Mathlib.Omega.{arith}
 use lib.Bits.{bit_and, and_high}
 use lib.ListN.{length}
-use lib.Pow.{pow_mono, shl-shr, shr_shr}
+use lib.Pow.{pow_mono, shl-shr, shr-shr}
 use Rattle.chain.specs.Chain.{most_columns}
 use Rattle.chain.specs.Written.{over}
 use Rattle.chain.specs.declared.Step.{Step}
@@ -61,9 +61,9 @@ digit_masked k x j c = and_high (x * 2 ^ (k * c) / 2 ^ (k * j)) k (k * c) ∙ ap
   where
     down : x * 2 ^ (k * c) / 2 ^ (k * j) / 2 ^ (k * c) ≡ x / 2 ^ (k * j)
     down =
-        shr_shr (x * 2 ^ (k * c)) (k * j) (k * c)
+        shr-shr (x * 2 ^ (k * c)) (k * j) (k * c)
         ∙ ap (λ (e : ℕ). x * 2 ^ (k * c) / 2 ^ e) (add_comm (k * j) (k * c))
-        ∙ sym (shr_shr (x * 2 ^ (k * c)) (k * c) (k * j))
+        ∙ sym (shr-shr (x * 2 ^ (k * c)) (k * c) (k * j))
         ∙ ap (λ (y : ℕ). y / 2 ^ (k * j)) (shl-shr x (k * c))
 
 pub columns_few : {p : ℕ} {amounts : List ℕ} {k i : ℕ} → PayslipAsked p amounts k i → p ≤ most_columns

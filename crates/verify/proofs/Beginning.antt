@@ -5,7 +5,7 @@ use Prim.Native.Nat.{ℕ, ◌+◌, ◌<◌}
 use native.Mathlib.Omega.{arith}
 use native.Mathlib.Numerals.{add-one}
 use lib.ListN.{length, take, drop, set, replicate, length-set, length-replicate}
-use lib.Seq.{take-set_lt}
+use lib.Seq.{take-set-lt}
 use Rattle.chain.specs.Written.{over}
 use Rattle.chain.specs.Chain.{values, exponents}
 use Rattle.chain.specs.declared.Step.{Step}
@@ -31,7 +31,7 @@ module _ (p c : ℕ) (d : List ℕ) (h : c < p) where
     where
       front : take (p + 1) (set (over (replicate (p + 1) 0) d) (c + 1) 1) ≡ 0 ∷ set (replicate p 0) c 1
       front =
-          take-set_lt (p + 1) (over (replicate (p + 1) 0) d) (c + 1) 1 (omega arith)
+          take-set-lt (p + 1) (over (replicate (p + 1) 0) d) (c + 1) 1 (omega arith)
           ∙ ap (λ (t : List ℕ). set t (c + 1) 1) (take-over (p + 1) (replicate (p + 1) 0) d (length-replicate (p + 1) 0))
           ∙ ap₂ (λ (m k : ℕ). set (replicate m 0) k 1) (add-one p) (add-one c)
 

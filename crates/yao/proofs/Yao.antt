@@ -2,7 +2,7 @@
 use mathlib.Core.Path.{◌≡◌, refl, ap₂, ◌∙◌}
 use mathlib.Core.List.{List}
 use Prim.Native.Nat.{ℕ, ◌+◌, ◌*◌, ◌≤◌}
-use native.Mathlib.Nat.{le_refl, add_le_add}
+use native.Mathlib.Nat.{le_refl, add-le-add}
 use native.Mathlib.Omega.{arith}
 use lib.ListN.{length, get_or}
 use Rattle.chain.specs.Chain.{most_amount}
@@ -21,8 +21,8 @@ use Rattle.yao.proofs.Payslip.{payslip_count_lem, yao_powers, payslip_makes}
 pub yao_ceiling_lem : (p q : ℕ) (amounts : List ℕ) (k : ℕ) → yao_count p q amounts k ≤ yao_ceiling p q amounts k
 unfolding yao_count yao_ceiling
 yao_ceiling_lem p q amounts k =
-    add_le_add (le_refl (sum_to p (yao_squarings p q amounts k)))
-    (sum_le q _ _ (λ i h. add_le_add (sum_le p _ _ (λ c g. amount_ceiling_lem k (yao_digits p q amounts k c) (amount p amounts i c))) (le_refl (yao_joins p amounts i))))
+    add-le-add (le_refl (sum_to p (yao_squarings p q amounts k)))
+    (sum_le q _ _ (λ i h. add-le-add (sum_le p _ _ (λ c g. amount_ceiling_lem k (yao_digits p q amounts k c) (amount p amounts i c))) (le_refl (yao_joins p amounts i))))
 
 module _ (p q : ℕ) (amounts : List ℕ) (k : ℕ) (some : 1 ≤ k) where
   -- the steps are as many as the count

@@ -5,7 +5,7 @@ use Rattle.digits.proofs.Words.{raised_word}
 use Rattle.digits.proofs.raised.Statement.{statement}
 use Rattle.digits.proofs.raised.Tie as tie
 
-shl-result : tie.Need-overflow-shl-result
+shl-result : tie.Need-overflow_shl-result
 shl-result c = search rules
 
 returns : tie.Need-returns

@@ -4,7 +4,7 @@ use borrow.Author.Rules.{rules}
 use Rattle.bits.proofs.byte.Statement.{statement}
 use Rattle.bits.proofs.byte.Tie as tie
 
-shared-slice-read-wide : tie.Need-shared-slice-read-wide
+shared-slice-read-wide : tie.Need-bounds-file-i
 shared-slice-read-wide c = search rules
 
 wide-requires : tie.Need-wide-requires
@@ -14,7 +14,7 @@ returns : tie.Need-returns
 returns c =
     record {
       is = c.wide.ensures;
-      small = omega (arith, c.wide.ensures, c.before.shared-slice-known2.given c.before.before.before.args.i);
+      small = omega (arith, c.wide.ensures, c.shared_slice_known-2-1.given c.args.i);
     }
 
 pub byte_spec : {M : Type 1} → statement M

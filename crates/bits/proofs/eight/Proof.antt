@@ -8,4 +8,4 @@ pub eight_spec : {M : Type 1} → statement M
 eight_spec =
     tie.close
     (tie.spec (λ c κs. search rules) (λ c. search rules) (λ c κs. search rules) (λ c. search rules) (λ c. search rules)
-    (λ c. joined _ _ _ _ c.before.word.ensures c.word2.ensures))
+    (λ c. joined _ _ _ _ c.word-x.ensures c.word-y.ensures))

@@ -7,19 +7,19 @@ use borrow.Author.Rules.{rules}
 use Rattle.bits.proofs.lengthen.Statement.{statement}
 use Rattle.bits.proofs.lengthen.Tie as tie
 
-abbrev invariant-loop : tie.invariant-loop
+abbrev invariant-loop : tie.invariant-loop-i
 invariant-loop file long₀ i₀ long i = LaidTo file 0 long₀ i long
 
-abbrev decreases-loop : tie.decreases-loop
+abbrev decreases-loop : tie.decreases-loop-i
 decreases-loop file long₀ i₀ long i = length file - i
 
-loop-again : tie.Need-loop-preserved invariant-loop decreases-loop
+loop-again : tie.Need-loop-i-preserved invariant-loop decreases-loop
 loop-again c =
     let turn = c.before in
-    front_more _ _ _ _ _ turn.loop-test.true turn.before.before.requires refl turn.before.loop.invariant
+    front_more _ _ _ _ _ turn.loop-i-test.true turn.requires refl turn.loop-i.invariant
 
 returns : tie.Need-returns invariant-loop decreases-loop
-returns c = front_all _ _ _ _ c.loop-test.false c.before.loop.invariant
+returns c = front_all _ _ _ _ c.loop-i-test.false c.loop-i.invariant
 
 pub lengthen_spec : {M : Type 1} → statement M
 lengthen_spec =

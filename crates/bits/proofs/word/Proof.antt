@@ -21,4 +21,4 @@ word_spec =
     (λ c. search rules)
     (λ c. search rules)
     (λ c. search rules)
-    (λ c. gathered _ _ _ _ _ _ c.before.before.before.byte.ensures c.before.before.byte2.ensures c.before.byte3.ensures c.byte4.ensures))
+    (λ c. gathered _ _ _ _ _ _ c.byte-a.ensures c.byte-b.ensures c.byte-c.ensures c.byte-d.ensures))

@@ -11,7 +11,7 @@ start-requires c κs = search rules
 sum-requires : tie.Need-sum-requires
 sum-requires c κs = search rules
 
-same_length : tie.Need-same-length
+same_length : tie.Need-shape_of-scratch
 same_length c = search rules
 
 returns : tie.Need-returns

@@ -11,65 +11,65 @@ use Rattle.verify.proofs.Columns.{HeldTo, held_none, held_next, held_all, summed
 use Rattle.checker.proofs.hold.Statement.{statement}
 use Rattle.checker.proofs.hold.Tie as tie
 
-abbrev invariant-loop : tie.invariant-loop
+abbrev invariant-loop : tie.invariant-loop-c
 invariant-loop p steps outputs amounts scratch₀ found₀ c₀ scratch found c =
     (c ≤ p)
     × (length scratch ≡ length scratch₀)
     × HeldTo p amounts (pairs steps) outputs c found
     × (drop (p + length steps / 2 + 1) scratch ≡ drop (p + length steps / 2 + 1) scratch₀)
 
-abbrev decreases-loop : tie.decreases-loop
+abbrev decreases-loop : tie.decreases-loop-c
 decreases-loop p steps outputs amounts scratch₀ found₀ c₀ scratch found c = p - c
 
-loop-holds : tie.Need-loop-init invariant-loop decreases-loop
+loop-holds : tie.Need-loop-c-init invariant-loop decreases-loop
 loop-holds c = (omega arith, refl, held_none _ _ _ _, refl)
 
-column-requires : tie.Need-column-requires invariant-loop decreases-loop
+column-requires : tie.Need-column-place-requires invariant-loop decreases-loop
 column-requires c κs = search rules
 
-take-up-requires : tie.Need-take-up-requires invariant-loop decreases-loop
+take-up-requires : tie.Need-take_up-found-requires invariant-loop decreases-loop
 take-up-requires c κs =
     let b = c.before.before.before in
-    let l = b.before.before.before.loop in
+    let l = b.loop-c in
     let start = b.before.before.before.before.before.before.before.before in
     record {
-      column = b.before.before.loop-test.true;
+      column = b.loop-c-test.true;
       amounts_fit = start.requires.amounts_fit;
       outputs_within = λ i h. omega (
         arith,
         outputs_low (start.args.p + length (pairs start.args.steps.now)) 1 start.args.outputs.now start.requires.chain_sound.outputs_fine i h,
         length_pairs start.args.steps.now,
-        b.column.auto.1.1.1.0,
+        b.column-place.auto.1.1.1.0,
         l.invariant.1,
         start.requires.chain_sound.steps_sound.room,
       );
     }
 
-add-c : tie.Need-overflow-add-c invariant-loop decreases-loop
+add-c : tie.Need-overflow_add-c invariant-loop decreases-loop
 add-c c = search rules
 
-loop-less : tie.Need-loop-smaller invariant-loop decreases-loop
+loop-less : tie.Need-loop-c-smaller invariant-loop decreases-loop
 loop-less c = search rules
 
-loop-again : tie.Need-loop-preserved invariant-loop decreases-loop
+loop-again : tie.Need-loop-c-preserved invariant-loop decreases-loop
 loop-again c =
     let b = c.before.before.before.before in
-    let l = b.before.before.before.loop in
+    let l = b.loop-c in
     let start = b.before.before.before.before.before.before.before.before in
     let top = ap (λ (n : ℕ). start.args.p + n + 1) (sym (length_pairs start.args.steps.now)) in (
       search rules,
-      b.column.auto.1.1.1.0 ∙ l.invariant.1,
-      held_next _ _ (pairs start.args.steps.now) _ _ _ _ _ _ _ start.requires.chain_sound.outputs_fine b.column.ensures c.take-up.ensures l.invariant.2,
-      summed_past _ _ _ (pairs start.args.steps.now) _ _ _ top b.column.ensures ∙ l.invariant.3,
+      b.column-place.auto.1.1.1.0 ∙ l.invariant.1,
+      held_next _ _ (pairs start.args.steps.now) _ _ _ _ _ _ _ start.requires.chain_sound.outputs_fine b.column-place.ensures c.take_up-found.ensures l.invariant.2,
+      summed_past _ _ _ (pairs start.args.steps.now) _ _ _ top b.column-place.ensures ∙ l.invariant.3,
     )
 
-same_length : tie.Need-same-length invariant-loop decreases-loop
+same_length : tie.Need-shape_of-scratch invariant-loop decreases-loop
 same_length c = search rules
 
 returns : tie.Need-returns invariant-loop decreases-loop
 returns c =
-    let l = c.before.loop in
-    record { verdict = held_all _ _ _ _ _ _ c.loop-test.false l.invariant.0 l.invariant.2; past = l.invariant.3 }
+    let l = c.loop-c in
+    record { verdict = held_all _ _ _ _ _ _ c.loop-c-test.false l.invariant.0 l.invariant.2; past = l.invariant.3 }
 
 pub hold_spec : {M : Type 1} → statement M
 hold_spec =

@@ -11,7 +11,7 @@ use Rattle.verify.proofs.Sums.{sums, sum_on, sum_bad, sum-end, sums_stopped, sum
 use Rattle.checker.proofs.sum.Statement.{statement}
 use Rattle.checker.proofs.sum.Tie as tie
 
-abbrev invariant-loop : tie.invariant-loop
+abbrev invariant-loop : tie.invariant-loop-s
 invariant-loop p steps scratch₀ n s₀ scratch s =
     (s ≤ n)
     × (length scratch ≡ length scratch₀)
@@ -19,101 +19,101 @@ invariant-loop p steps scratch₀ n s₀ scratch s =
     × (scratch ≡ made_to ◌+◌ p steps s scratch₀)
     × (first_over 1 (drop (p + 1) (sums p steps scratch₀)) ≡ over_left p (sums p steps scratch₀) s)
 
-abbrev decreases-loop : tie.decreases-loop
+abbrev decreases-loop : tie.decreases-loop-s
 decreases-loop p steps scratch₀ n s₀ scratch s = n - s
 
-loop-holds : tie.Need-loop-init invariant-loop decreases-loop
+loop-holds : tie.Need-loop-s-init invariant-loop decreases-loop
 loop-holds c = (search rules, search rules, search rules, search fill_start, search over_start)
 
-step-at-requires : tie.Need-step-at-requires invariant-loop decreases-loop
+step-at-requires : tie.Need-step_at-x-requires invariant-loop decreases-loop
 step-at-requires c κs = search rules
 
-cast-a : tie.Need-overflow-cast-a invariant-loop decreases-loop
+cast-a : tie.Need-overflow_cast-a invariant-loop decreases-loop
 cast-a c = search rules
 
-cast-b : tie.Need-overflow-cast-b invariant-loop decreases-loop
+cast-b : tie.Need-overflow_cast-b invariant-loop decreases-loop
 cast-b c = search rules
 
-mul-plus : tie.Need-overflow-mul-plus invariant-loop decreases-loop
+mul-plus : tie.Need-offset_bounds-scratch-a invariant-loop decreases-loop
 mul-plus c = search (rules, within)
 
-slice-read-plus : tie.Need-slice-read-plus invariant-loop decreases-loop
+slice-read-plus : tie.Need-bounds-scratch-a invariant-loop decreases-loop
 slice-read-plus c =
     let l = c.before.before.before.before.before in
-    let t = c.before.before.before.before.loop-test.true in
-    first_within _ _ _ _ _ c.before.before.before.step-at.ensures t l.before.before.before.requires.steps_fine l.loop.invariant.2
+    let t = c.loop-s-test.true in
+    first_within _ _ _ _ _ c.step_at-x.ensures t l.requires.steps_fine l.loop-s.invariant.2
 
-mul-plus-2 : tie.Need-overflow-mul-plus-2 invariant-loop decreases-loop
+mul-plus-2 : tie.Need-offset_bounds-scratch-b invariant-loop decreases-loop
 mul-plus-2 c = search (rules, within)
 
-slice-read-plus-2 : tie.Need-slice-read-plus-2 invariant-loop decreases-loop
+slice-read-plus-2 : tie.Need-bounds-scratch-b invariant-loop decreases-loop
 slice-read-plus-2 c =
     let l = c.before.before.before.before.before.before in
-    let t = c.before.before.before.before.before.loop-test.true in
-    second_within _ _ _ _ _ c.before.before.before.before.step-at.ensures t l.before.before.before.requires.steps_fine l.loop.invariant.2
+    let t = c.loop-s-test.true in
+    second_within _ _ _ _ _ c.step_at-x.ensures t l.requires.steps_fine l.loop-s.invariant.2
 
-plus-requires : tie.Need-plus-requires invariant-loop decreases-loop
+plus-requires : tie.Need-plus-e-requires invariant-loop decreases-loop
 plus-requires c κs = search rules
 
-cast-if1 : tie.Need-overflow-cast-if1 invariant-loop decreases-loop
+cast-if1 : tie.Need-overflow_cast-t-18 invariant-loop decreases-loop
 cast-if1 c = search rules
 
-add-result : tie.Need-overflow-add-result invariant-loop decreases-loop
+add-result : tie.Need-overflow_add-result invariant-loop decreases-loop
 add-result c = search rules
 
-same_length : tie.Need-same-length invariant-loop decreases-loop
+same_length : tie.Need-shape_of-scratch-then-e invariant-loop decreases-loop
 same_length c = search rules
 
-returns : tie.Need-returns invariant-loop decreases-loop
+returns : tie.Need-returns-then-e invariant-loop decreases-loop
 returns c =
     let b = c.before.before.before.before.before.before in
     let l = b.before.before in
-    let start = l.before.before.before.requires in
+    let start = l.requires in
     record {
       place =
-          sum_bad _ _ _ _ _ _ _ _ (record { there = b.before.loop-test.true; legal = start.steps_fine; room = start.room }) b.step-at.ensures
-          c.before.plus.ensures l.loop.invariant.3 c.if1.true l.loop.invariant.4;
+          sum_bad _ _ _ _ _ _ _ _ (record { there = b.loop-s-test.true; legal = start.steps_fine; room = start.room }) b.step_at-x.ensures
+          c.plus-e.ensures l.loop-s.invariant.3 c.if-e.true l.loop-s.invariant.4;
       cells = search sums_stopped;
     }
 
-cast-scratch : tie.Need-overflow-cast-scratch invariant-loop decreases-loop
+cast-scratch : tie.Need-overflow_cast-scratch invariant-loop decreases-loop
 cast-scratch c = search rules
 
-add-scratch : tie.Need-overflow-add-scratch invariant-loop decreases-loop
+add-scratch : tie.Need-overflow_add-scratch invariant-loop decreases-loop
 add-scratch c = search rules
 
-add-scratch-2 : tie.Need-overflow-add-scratch-2 invariant-loop decreases-loop
+add-scratch-2 : tie.Need-overflow_add-scratch-in-loop-s invariant-loop decreases-loop
 add-scratch-2 c = search rules
 
-mul-scratch : tie.Need-overflow-mul-scratch invariant-loop decreases-loop
+mul-scratch : tie.Need-offset_bounds-scratch-p invariant-loop decreases-loop
 mul-scratch c = search rules
 
-slice-write-scratch : tie.Need-slice-write-scratch invariant-loop decreases-loop
+slice-write-scratch : tie.Need-bounds-scratch-p invariant-loop decreases-loop
 slice-write-scratch c = search rules
 
-add-s : tie.Need-overflow-add-s invariant-loop decreases-loop
+add-s : tie.Need-overflow_add-s invariant-loop decreases-loop
 add-s c = search rules
 
-loop-less : tie.Need-loop-smaller invariant-loop decreases-loop
+loop-less : tie.Need-loop-s-smaller invariant-loop decreases-loop
 loop-less c = search rules
 
-loop-again : tie.Need-loop-preserved invariant-loop decreases-loop
+loop-again : tie.Need-loop-s-preserved invariant-loop decreases-loop
 loop-again c =
     let b = c.before.before.before.before.before.before in
     let l = b.before.before in
-    let start = l.before.before.before.requires in (
+    let start = l.requires in (
       search rules,
       simp length-set (search rules),
       simp length-set (search rules),
       search fill_on,
-      sum_on _ _ _ _ _ _ _ _ (record { there = b.before.loop-test.true; legal = start.steps_fine; room = start.room }) b.step-at.ensures
-          c.before.plus.ensures l.loop.invariant.3 c.if1.false l.loop.invariant.4,
+      sum_on _ _ _ _ _ _ _ _ (record { there = b.loop-s-test.true; legal = start.steps_fine; room = start.room }) b.step_at-x.ensures
+          c.plus-e.ensures l.loop-s.invariant.3 c.if-e.false l.loop-s.invariant.4,
     )
 
-same-length-2 : tie.Need-same-length-2 invariant-loop decreases-loop
+same-length-2 : tie.Need-shape_of-scratch invariant-loop decreases-loop
 same-length-2 c = search rules
 
-returns-2 : tie.Need-returns-2 invariant-loop decreases-loop
+returns-2 : tie.Need-returns invariant-loop decreases-loop
 returns-2 c = record { place = search sum-end; cells = search sums_all }
 
 pub sum_spec : {M : Type 1} → statement M

@@ -16,27 +16,27 @@ use Rattle.checker.proofs.verify.Statement.{statement}
 use Rattle.checker.proofs.verify.Tie as tie
 
 -- nothing was found before the scratch is used
-first : (c : tie.After-squarings)
-    → let a = c.before.before.before.before.before.before.before.args in
+first : (c : tie.In-Fine-2)
+    → let a = c.args in
     fine ≡ fitting_rule a.p (pairs a.steps.now) a.outputs.now a.amounts.now (length a.scratch.now)
-first c = found_fine _ _ _ c.before.before.judge.ensures _ c.squarings.given.1
+first c = found_fine _ _ _ c.judge.ensures _ c.squarings-1.given.1
 
 -- and the squarings are counted
-counted : (c : tie.After-squarings) → c.squarings.given.0.0 ≡ squarings_of (pairs c.before.before.before.before.before.before.before.args.steps.now)
-counted c = found_number _ _ _ c.before.before.judge.ensures _ c.squarings.given.1
+counted : (c : tie.In-Fine-2) → c.squarings-1.given.0.0 ≡ squarings_of (pairs c.args.steps.now)
+counted c = found_number _ _ _ c.judge.ensures _ c.squarings-1.given.1
 
 -- what that says of the arguments
-fits : (c : tie.After-squarings)
-    → let a = c.before.before.before.before.before.before.before.args in
+fits : (c : tie.In-Fine-2)
+    → let a = c.args in
     Fitting a.p (pairs a.steps.now) a.outputs.now a.amounts.now (length a.scratch.now)
 fits c = fitting _ _ _ _ _ (sym (first c))
 
-room : (c : tie.After-squarings)
-    → let a = c.before.before.before.before.before.before.before.args in
+room : (c : tie.In-Fine-2)
+    → let a = c.args in
     a.p + length a.steps.now / 2 < length a.scratch.now
-room c = let a = c.before.before.before.before.before.before.before.args in omega (arith, (fits c).room, length_pairs a.steps.now)
+room c = let a = c.args in omega (arith, (fits c).room, length_pairs a.steps.now)
 
-hold-requires : tie.Need-hold-requires
+hold-requires : tie.Need-hold-found-requires
 hold-requires c κs =
     let f = fits c.before.before in
     let k = legal_parts _ _ _ f.legal in
@@ -50,40 +50,40 @@ hold-requires c κs =
       amounts_fit = f.amounts_fit;
     }
 
-counts-of-requires : tie.Need-counts-of-requires
+counts-of-requires : tie.Need-counts_of-requires
 counts-of-requires c κs =
     let k = c.before.before.before.before.before in
-    let steps = k.before.before.before.before.before.before.before.args.steps.now in
+    let steps = k.args.steps.now in
     omega (arith, counted k, squarings_few (pairs steps), length_pairs steps)
 
-add-finish : tie.Need-overflow-add-finish
+add-finish : tie.Need-overflow_add-p
 add-finish c = omega (arith, room c.before.before.before.before.before.before)
 
-add-finish-2 : tie.Need-overflow-add-finish-2
+add-finish-2 : tie.Need-overflow_add-p-in-Fine
 add-finish-2 c = omega (arith, room c.before.before.before.before.before.before)
 
 finish-requires : tie.Need-finish-requires
 finish-requires c κs =
-    omega (arith, room c.before.before.before.before.before.before.before, c.before.before.before.before.hold.auto.1.1.1.1.0)
+    omega (arith, room c.before.before.before.before.before.before.before, c.hold-found.auto.1.1.1.1.0)
 
-returns : tie.Need-returns
+returns : tie.Need-returns-in-Refused
 returns c =
-    let e = found_refused _ _ _ c.before.before.before.judge.ensures _ _ c.before.number.given.1 in
-    let old = c.before.before.before.before.before.before.before.before.args.scratch.now in
+    let e = found_refused _ _ _ c.judge.ensures _ _ c.number-1.given.1 in
+    let old = c.args.scratch.now in
     (early_answer _ _ _ _ old _ _ e, early_scratch _ _ _ _ old _ _ e)
 
-returns-2 : tie.Need-returns-2
+returns-2 : tie.Need-returns-in-Fine
 returns-2 c =
     let k = c.before.before in
     let h = k.before.before.before.before.before in
     let m = h.before.before.before in
-    let a = m.before.before.before.before.before.before.before.args in
+    let a = m.args in
     let e = first m in
     let n = sym (length_pairs a.steps.now) in
     let top = ap (λ (n : ℕ). a.p + n + 1) n in
-    let told = k.before.before.Counts-of.ensures ∙ counts_are (pairs a.steps.now) _ _ n (counted m) in (
-      late_answer _ (pairs a.steps.now) _ _ a.scratch.now e _ _ _ _ _ _ k.finish.ensures told h.hold.ensures.verdict,
-      late_scratch _ (pairs a.steps.now) _ _ a.scratch.now e _ _ _ _ _ _ k.finish.ensures top h.hold.ensures.past,
+    let told = k.counts_of.ensures ∙ counts_are (pairs a.steps.now) _ _ n (counted m) in (
+      late_answer _ (pairs a.steps.now) _ _ a.scratch.now e _ _ _ _ _ _ k.finish.ensures told h.hold-found.ensures.verdict,
+      late_scratch _ (pairs a.steps.now) _ _ a.scratch.now e _ _ _ _ _ _ k.finish.ensures top h.hold-found.ensures.past,
     )
 
 pub verify_spec : {M : Type 1} → statement M

@@ -11,28 +11,28 @@ use Rattle.choose.proofs.Choices.{enough, choice_refused, choice_made}
 use Rattle.choose.proofs.decide.Statement.{statement}
 use Rattle.choose.proofs.decide.Tie as tie
 
-judge-lent-requires : tie.Need-judge-lent-requires
+judge-lent-requires : tie.Need-judge_lent-requires
 judge-lent-requires c κs = search rules
 
-enum-known-number : tie.Need-enum-known-number
+enum-known-number : tie.Need-enum_known-number
 enum-known-number c = search rules
 
-enum_told : tie.Need-enum-told
+enum_told : tie.Need-enum_told-1
 enum_told c = search rules
 
 -- nothing was found before either file
-first : (c : tie.After-enum-told)
-    → let a = c.before.before.before.before.before.before.before.before.before.args in
+first : (c : tie.In-Fine)
+    → let a = c.args in
     fine ≡ choose_rule a.p a.q a.amounts.now (length a.steps.now / 2) (length a.outputs.now) (length a.numbers.now)
-first c = told_fine _ _ c.before.before.judge-lent.ensures c.enum_told.given.1
+first c = told_fine _ _ c.judge_lent.ensures c.enum_told-1.given.1
 
-judge-file-requires : tie.Need-judge-file-requires
+judge-file-requires : tie.Need-judge_file-x-requires
 judge-file-requires c κs = enough _ _ _ _ _ _ (first c.before.before.before)
 
-judge-file-requires-2 : tie.Need-judge-file-requires-2
+judge-file-requires-2 : tie.Need-judge_file-y-requires
 judge-file-requires-2 c κs =
     let j = c.before.before.before.before.before.before.before.before.before in
-    let k = j.judge-file.auto.1.1.1.1 in
+    let k = j.judge_file-x.auto.1.1.1.1 in
     let e = enough _ _ _ _ _ _ (first j.before.before.before.before) in
     record {
       pairs_enough = omega (arith, e.pairs_enough, k.0);
@@ -43,25 +43,25 @@ judge-file-requires-2 c κs =
 better-requires : tie.Need-better-requires
 better-requires c κs = search rules
 
-returns : tie.Need-returns
-returns c = choice_refused _ _ _ _ _ _ _ _ _ _ (told_refused_lem _ _ _ _ c.before.before.before.judge-lent.ensures c.before.number.given.1)
+returns : tie.Need-returns-in-Refused
+returns c = choice_refused _ _ _ _ _ _ _ _ _ _ (told_refused_lem _ _ _ _ c.judge_lent.ensures c.number-1.given.1)
 
-same_length : tie.Need-same-length
+same_length : tie.Need-shape_of-steps
 same_length c = search rules
 
-same-length-2 : tie.Need-same-length-2
+same-length-2 : tie.Need-shape_of-outputs
 same-length-2 c = search rules
 
-same-length-3 : tie.Need-same-length-3
+same-length-3 : tie.Need-shape_of-numbers
 same-length-3 c = search rules
 
-returns-2 : tie.Need-returns-2
+returns-2 : tie.Need-returns-in-Fine
 returns-2 c =
     let y = c.before.before.before.before.before.before.before in
     let x = y.before.before.before.before.before.before.before.before.before.before in
     c.better.ensures
-    ∙ choice_made _ _ _ _ _ _ _ _ x.judge-file.result y.judge-file2.result (first x.before.before.before.before) x.judge-file.ensures
-    y.judge-file2.ensures
+    ∙ choice_made _ _ _ _ _ _ _ _ x.judge_file-x.result y.judge_file-y.result (first x.before.before.before.before) x.judge_file-x.ensures
+    y.judge_file-y.ensures
 
 pub decide_spec : {M : Type 1} → statement M
 decide_spec =

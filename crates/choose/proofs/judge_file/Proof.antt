@@ -13,17 +13,17 @@ use Rattle.choose.proofs.judge_file.Tie as tie
 read-requires : tie.Need-read-requires
 read-requires c κs = search rules
 
-enum-known-number : tie.Need-enum-known-number
+enum-known-number : tie.Need-enum_known-number
 enum-known-number c = search rules
 
-enum-known-columns : tie.Need-enum-known-columns
+enum-known-columns : tie.Need-enum_known-columns
 enum-known-columns c = search rules
 
 -- what the file that was read tells
-read_file : (c : tie.After-columns)
+read_file : (c : tie.In-Chain-2)
     → let r = c.before.before.before.before.before.before in
     let s = r.before.before.before.before.before.before.before.before in
-    let g = c.columns.given.0 in
+    let g = c.columns-1.given.0 in
     Good edition1 s.args.bytes.now r.read.new.1.0 r.read.new.1.1.0 g.0 g.1.0 g.1.1.0.steps
 read_file c =
     let r = c.before.before.before.before.before.before in
@@ -31,65 +31,65 @@ read_file c =
     let a = s.args in
     let e = r.read.ensures in
     read_good edition1 a.bytes.now a.steps.now a.outputs.now s.requires.pairs_enough s.requires.outputs_enough _ (answer_clause e) _ _ _
-    c.columns.given.1 _ _ (first_slice_clause e) (second_slice_clause e)
+    c.columns-1.given.1 _ _ (first_slice_clause e) (second_slice_clause e)
 
-same_length : tie.Need-same-length
+same_length : tie.Need-shape_of-steps-then-columns-p
 same_length c = search rules
 
-same-length-2 : tie.Need-same-length-2
+same-length-2 : tie.Need-shape_of-outputs-then-columns-p
 same-length-2 c = search rules
 
-returns : tie.Need-returns
+returns : tie.Need-returns-then-columns-p
 returns c =
     let t = read_file c.before.before in
-    refusal_says _ _ _ _ _ _ (other_columns _ _ _ _ _ _ _ _ _ t c.if1.true)
+    refusal_says _ _ _ _ _ _ (other_columns _ _ _ _ _ _ _ _ _ t c.if-columns-p.true)
 
-same-length-3 : tie.Need-same-length-3
+same-length-3 : tie.Need-shape_of-steps-then-payslips-q
 same-length-3 c = search rules
 
-same-length-4 : tie.Need-same-length-4
+same-length-4 : tie.Need-shape_of-outputs-then-payslips-q
 same-length-4 c = search rules
 
-returns-2 : tie.Need-returns-2
+returns-2 : tie.Need-returns-then-payslips-q
 returns-2 c =
     let t = read_file c.before.before.before in
-    refusal_says _ _ _ _ _ _ (other_payslips _ _ _ _ _ _ _ _ _ t c.if2.true)
+    refusal_says _ _ _ _ _ _ (other_payslips _ _ _ _ _ _ _ _ _ t c.if-payslips-q.true)
 
-mul-verify : tie.Need-overflow-mul-verify
+mul-verify : tie.Need-overflow_mul-counts
 mul-verify c = omega (arith, (read_file c.before.before.before.before).taken.few)
 
-slice-reshare-prefix-verify : tie.Need-slice-reshare-prefix-verify
+slice-reshare-prefix-verify : tie.Need-slice_bounds-verify-end
 slice-reshare-prefix-verify c = (read_file c.before.before.before.before).taken.steps_room
 
-slice-aggregate-verify : tie.Need-slice-aggregate-verify
+slice-aggregate-verify : tie.Need-slice_bounds-verify-end-in-Chain
 slice-aggregate-verify c = sym (length-take-le _ _ (read_file c.before.before.before.before.before).taken.steps_room)
 
-slice-reshare-prefix-verify-2 : tie.Need-slice-reshare-prefix-verify-2
+slice-reshare-prefix-verify-2 : tie.Need-slice_bounds-verify-end-in-Chain-2
 slice-reshare-prefix-verify-2 c =
-    let e = c.before.before.if2.false in
+    let e = c.if-payslips-q.false in
     omega (arith, (read_file c.before.before.before.before.before).taken.outputs_room)
 
-slice-aggregate-verify-2 : tie.Need-slice-aggregate-verify-2
+slice-aggregate-verify-2 : tie.Need-slice_bounds-verify-end-in-Chain-3
 slice-aggregate-verify-2 c =
-    let e = c.before.before.before.if2.false in
+    let e = c.if-payslips-q.false in
     sym (length-take-le _ _ (omega (arith, (read_file c.before.before.before.before.before.before).taken.outputs_room)))
 
 verify-requires : tie.Need-verify-requires
 verify-requires c κs = search rules
 
-enum-known-number-2 : tie.Need-enum-known-number-2
+enum-known-number-2 : tie.Need-enum_known-number-in-Refused-verify
 enum-known-number-2 c = search rules
 
-enum_told : tie.Need-enum-told
+enum_told : tie.Need-enum_told-1
 enum_told c = search rules
 
-same-length-5 : tie.Need-same-length-5
+same-length-5 : tie.Need-shape_of-steps-in-Refused
 same-length-5 c = search rules
 
-same-length-6 : tie.Need-same-length-6
+same-length-6 : tie.Need-shape_of-outputs-in-Refused
 same-length-6 c = search rules
 
-returns-3 : tie.Need-returns-3
+returns-3 : tie.Need-returns-in-Refused
 returns-3 c =
     let n = c.before in
     let r = n.before.before.before.before.before.before in
@@ -98,37 +98,37 @@ returns-3 c =
     refusal_says _ _ _ _ _ _
     (unread _ _ _ _ _ _
     (read_refused edition1 a.bytes.now a.steps.now a.outputs.now s.requires.pairs_enough s.requires.outputs_enough _ (answer_clause r.read.ensures) _ _
-    n.number.given.1))
+    n.number-1.given.1))
 
-same-length-7 : tie.Need-same-length-7
+same-length-7 : tie.Need-shape_of-steps-in-Refused-verify
 same-length-7 c = search rules
 
-same-length-8 : tie.Need-same-length-8
+same-length-8 : tie.Need-shape_of-outputs-in-Refused-verify
 same-length-8 c = search rules
 
-same-length-9 : tie.Need-same-length-9
+same-length-9 : tie.Need-shape_of-numbers-in-Refused-verify
 same-length-9 c = search rules
 
-returns-4 : tie.Need-returns-4
+returns-4 : tie.Need-returns-in-Refused-verify
 returns-4 c =
     let v = c.before.before.before.before.before in
     let e = v.before.before.before.before.before in
     let k = e.before.before.before in
     let s = k.before.before.before.before.before.before.before.before.before.before.before.before.before.before in
     refusal_says _ _ _ _ _ _
-    (not_held _ _ _ _ _ _ _ _ _ (read_file k) e.before.if1.false e.if2.false _ s.requires.numbers_enough _ (answer_clause v.verify.ensures) _ _
-    c.before.number2.given.1)
+    (not_held _ _ _ _ _ _ _ _ _ (read_file k) e.if-columns-p.false e.if-payslips-q.false _ s.requires.numbers_enough _ (answer_clause v.verify.ensures) _ _
+    c.number-in-Refused-verify-1.given.1)
 
-same-length-10 : tie.Need-same-length-10
+same-length-10 : tie.Need-shape_of-steps-in-Passed
 same-length-10 c = search rules
 
-same-length-11 : tie.Need-same-length-11
+same-length-11 : tie.Need-shape_of-outputs-in-Passed
 same-length-11 c = search rules
 
-same-length-12 : tie.Need-same-length-12
+same-length-12 : tie.Need-shape_of-numbers-in-Passed
 same-length-12 c = search rules
 
-returns-5 : tie.Need-returns-5
+returns-5 : tie.Need-returns-in-Passed
 returns-5 c =
     let v = c.before.before.before.before in
     let e = v.before.before.before.before.before in
@@ -136,8 +136,8 @@ returns-5 c =
     let s = k.before.before.before.before.before.before.before.before.before.before.before.before.before.before in
     record {
       verdict =
-          all_held _ _ _ _ _ _ _ _ _ (read_file k) e.before.if1.false e.if2.false _ s.requires.numbers_enough _ (answer_clause v.verify.ensures) _
-          c.enum_told.given.1;
+          all_held _ _ _ _ _ _ _ _ _ (read_file k) e.if-columns-p.false e.if-payslips-q.false _ s.requires.numbers_enough _ (answer_clause v.verify.ensures) _
+          c.enum_told-1.given.1;
       count = λ f. (read_file k).taken.long;
     }
 

@@ -11,7 +11,7 @@ use Rattle.chooser.proofs.choose.Tie as tie
 
 -- the choice that was found
 chosen : (c : tie.After-decide)
-    → let a = c.before.before.before.before.before.before.before.before.before.before.args in
+    → let a = c.args in
     choice a.p a.q a.amounts.now a.a.now a.b.now (length a.steps.now / 2) (length a.outputs.now) (length a.numbers.now)
     ≡ choice_of c.decide.result
 chosen c = sym c.decide.ensures
@@ -19,60 +19,60 @@ chosen c = sym c.decide.ensures
 decide-requires : tie.Need-decide-requires
 decide-requires c κs = search rules
 
-enum_told : tie.Need-enum-told
+enum_told : tie.Need-enum_told-1
 enum_told c = search rules
 
-enum-told-2 : tie.Need-enum-told-2
+enum-told-2 : tie.Need-enum_told-in-Second
 enum-told-2 c = search rules
 
-enum-known-k : tie.Need-enum-known-k
+enum-known-k : tie.Need-enum_known-k
 enum-known-k c = search rules
 
-slice-aggregate-result : tie.Need-slice-aggregate-result
+slice-aggregate-result : tie.Need-slice_bounds-result-end
 slice-aggregate-result c = search rules
 
-same_length : tie.Need-same-length
+same_length : tie.Need-shape_of-steps-in-First
 same_length c = search rules
 
-same-length-2 : tie.Need-same-length-2
+same-length-2 : tie.Need-shape_of-outputs-in-First
 same-length-2 c = search rules
 
-same-length-3 : tie.Need-same-length-3
+same-length-3 : tie.Need-shape_of-numbers-in-First
 same-length-3 c = search rules
 
-returns : tie.Need-returns
+returns : tie.Need-returns-in-First
 returns c =
     let d = c.before.before.before.before.before.before.before.before in
-    handed _ _ _ _ _ (chosen d ∙ ap choice_of c.enum_told.given.1) (refl, (refl, refl))
+    handed _ _ _ _ _ (chosen d ∙ ap choice_of c.enum_told-1.given.1) (refl, (refl, refl))
 
-same-length-4 : tie.Need-same-length-4
+same-length-4 : tie.Need-shape_of-steps-in-Second
 same-length-4 c = search rules
 
-same-length-5 : tie.Need-same-length-5
+same-length-5 : tie.Need-shape_of-outputs-in-Second
 same-length-5 c = search rules
 
-same-length-6 : tie.Need-same-length-6
+same-length-6 : tie.Need-shape_of-numbers-in-Second
 same-length-6 c = search rules
 
-returns-2 : tie.Need-returns-2
+returns-2 : tie.Need-returns-in-Second
 returns-2 c =
     let d = c.before.before.before.before.before.before.before.before in
-    handed _ _ _ _ _ (chosen d ∙ ap choice_of c.enum-told2.given.1) (refl, (refl, refl))
+    handed _ _ _ _ _ (chosen d ∙ ap choice_of c.enum_told-in-Second-1.given.1) (refl, (refl, refl))
 
-same-length-7 : tie.Need-same-length-7
+same-length-7 : tie.Need-shape_of-steps-in-Neither
 same-length-7 c = search rules
 
-same-length-8 : tie.Need-same-length-8
+same-length-8 : tie.Need-shape_of-outputs-in-Neither
 same-length-8 c = search rules
 
-same-length-9 : tie.Need-same-length-9
+same-length-9 : tie.Need-shape_of-numbers-in-Neither
 same-length-9 c = search rules
 
-returns-3 : tie.Need-returns-3
+returns-3 : tie.Need-returns-in-Neither
 returns-3 c =
     let k = c.before.before in
     let d = k.before.before.before.before.before.before.before.before in
-    handed _ _ _ _ _ (chosen d ∙ ap choice_of k.k.given.1) (refl, (refl, refl))
+    handed _ _ _ _ _ (chosen d ∙ ap choice_of k.k-1.given.1) (refl, (refl, refl))
 
 pub choose_spec : {M : Type 1} → statement M
 choose_spec =

@@ -4,18 +4,18 @@ use Rattle.closing.proofs.Closing.{clumps_asked, rest_asked, join_asked, outputs
 use Rattle.closing.proofs.close_outputs.Statement.{statement}
 use Rattle.closing.proofs.close_outputs.Tie as tie
 
-transpose-requires : tie.Need-transpose-requires
-transpose-requires c κs = clumps_asked _ _ _ _ _ _ c.before.before.before.requires
+transpose-requires : tie.Need-transpose-rest-requires
+transpose-requires c κs = clumps_asked _ _ _ _ _ _ c.requires
 
-transpose-requires-2 : tie.Need-transpose-requires-2
-transpose-requires-2 c κs = rest_asked _ _ _ _ _ _ c.before.before.before.before.before.before.before.requires _ _ c.before.before.before.transpose.ensures
+transpose-requires-2 : tie.Need-transpose-requires
+transpose-requires-2 c κs = rest_asked _ _ _ _ _ _ c.requires _ _ c.transpose-rest.ensures
 
 join-requires : tie.Need-join-requires
-join-requires c κs = join_asked _ _ _ _ _ _ c.before.before.before.before.before.before.before.before.before.before.before.requires _ _ c.before.before.before.before.before.before.before.transpose.ensures _ _ c.before.before.before.transpose2.ensures
+join-requires c κs = join_asked _ _ _ _ _ _ c.requires _ _ c.transpose-rest.ensures _ _ c.transpose.ensures
 
 returns : tie.Need-returns
 returns c =
-    outputs_closed _ _ _ _ _ _ c.before.before.before.before.before.before.before.before.before.before.before.before.before.before.requires _ _ c.before.before.before.before.before.before.before.before.before.before.transpose.ensures _ _ c.before.before.before.before.before.before.transpose2.ensures _ _ c.before.before.join.ensures
+    outputs_closed _ _ _ _ _ _ c.requires _ _ c.transpose-rest.ensures _ _ c.transpose.ensures _ _ c.join.ensures
 
 pub close_outputs_spec : {M : Type 1} → statement M
 close_outputs_spec =

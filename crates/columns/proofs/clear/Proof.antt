@@ -8,32 +8,32 @@ use Rattle.verify.proofs.Cleared.{clear_on, clear_end}
 use Rattle.columns.proofs.clear.Statement.{statement}
 use Rattle.columns.proofs.clear.Tie as tie
 
-abbrev invariant-loop : tie.invariant-loop
+abbrev invariant-loop : tie.invariant-loop-i
 invariant-loop n scratch₀ i₀ scratch i =
     (i ≤ n) × (n ≤ length scratch₀) × (length scratch ≡ length scratch₀) × (scratch ≡ replicate i 0 ++ drop i scratch₀)
 
-abbrev decreases-loop : tie.decreases-loop
+abbrev decreases-loop : tie.decreases-loop-i
 decreases-loop n scratch₀ i₀ scratch i = n - i
 
-loop-holds : tie.Need-loop-init invariant-loop decreases-loop
+loop-holds : tie.Need-loop-i-init invariant-loop decreases-loop
 loop-holds c = search rules
 
-mul-scratch : tie.Need-overflow-mul-scratch invariant-loop decreases-loop
+mul-scratch : tie.Need-offset_bounds-scratch-i invariant-loop decreases-loop
 mul-scratch c = search rules
 
-slice-write-scratch : tie.Need-slice-write-scratch invariant-loop decreases-loop
+slice-write-scratch : tie.Need-bounds-scratch-i invariant-loop decreases-loop
 slice-write-scratch c = search rules
 
-add-i : tie.Need-overflow-add-i invariant-loop decreases-loop
+add-i : tie.Need-overflow_add-i invariant-loop decreases-loop
 add-i c = search rules
 
-loop-less : tie.Need-loop-smaller invariant-loop decreases-loop
+loop-less : tie.Need-loop-i-smaller invariant-loop decreases-loop
 loop-less c = search rules
 
-loop-again : tie.Need-loop-preserved invariant-loop decreases-loop
+loop-again : tie.Need-loop-i-preserved invariant-loop decreases-loop
 loop-again c = (search rules, search rules, simp length-set (search rules), search clear_on)
 
-same_length : tie.Need-same-length invariant-loop decreases-loop
+same_length : tie.Need-shape_of-scratch invariant-loop decreases-loop
 same_length c = search rules
 
 returns : tie.Need-returns invariant-loop decreases-loop

@@ -8,72 +8,72 @@ use Rattle.compile.proofs.Answers.{compile_refused, was_accepted, was_counted, f
 use Rattle.compile.proofs.compile.Statement.{statement}
 use Rattle.compile.proofs.compile.Tie as tie
 
-slice-aggregate-judge-accepted : tie.Need-slice-aggregate-judge-accepted
+slice-aggregate-judge-accepted : tie.Need-slice_bounds-judge_accepted-end
 slice-aggregate-judge-accepted c = search rules
 
-judge-accepted-requires : tie.Need-judge-accepted-requires
+judge-accepted-requires : tie.Need-judge_accepted-requires
 judge-accepted-requires c κs = search rules
 
-enum-known-number : tie.Need-enum-known-number
+enum-known-number : tie.Need-enum_known-number
 enum-known-number c = search rules
 
-enum-known-n : tie.Need-enum-known-n
+enum-known-n : tie.Need-enum_known-n
 enum-known-n c = search rules
 
-returns : tie.Need-returns
+returns : tie.Need-returns-then-steps-n
 returns c =
     let n = c.before.before in
     let j = n.before.before.before in
-    let a = j.before.before.before.before.before.args in
-    few_pairs a.p a.q a.amounts.now a.method a.k _ (answer_clause j.judge-accepted.ensures) a.steps.now a.outputs.now _ n.n.given.1 c.if1.true
+    let a = j.args in
+    few_pairs a.p a.q a.amounts.now a.method a.k _ (answer_clause j.judge_accepted.ensures) a.steps.now a.outputs.now _ n.n-1.given.1 c.if-steps-n.true
 
-returns-2 : tie.Need-returns-2
+returns-2 : tie.Need-returns-then-outputs-q
 returns-2 c =
     let n = c.before.before.before in
     let j = n.before.before.before in
-    let a = j.before.before.before.before.before.args in
-    few_outputs a.p a.q a.amounts.now a.method a.k _ (answer_clause j.judge-accepted.ensures) a.steps.now a.outputs.now _ n.n.given.1 c.if2.true
+    let a = j.args in
+    few_outputs a.p a.q a.amounts.now a.method a.k _ (answer_clause j.judge_accepted.ensures) a.steps.now a.outputs.now _ n.n-1.given.1 c.if-outputs-q.true
 
-slice-aggregate-emit : tie.Need-slice-aggregate-emit
+slice-aggregate-emit : tie.Need-slice_bounds-emit-end
 slice-aggregate-emit c = search rules
 
-emit-requires : tie.Need-emit-requires
+emit-requires : tie.Need-emit-made-requires
 emit-requires c κs =
     let e = c.before.before.before in
     let n = e.before.before.before in
     let j = n.before.before.before in
-    let counted = was_counted _ _ _ _ _ _ (answer_clause j.judge-accepted.ensures) [] [] _ n.n.given.1 in
-    let fits = sym (was_accepted _ _ _ _ _ _ (answer_clause j.judge-accepted.ensures) [] [] _ n.n.given.1) in
+    let counted = was_counted _ _ _ _ _ _ (answer_clause j.judge_accepted.ensures) [] [] _ n.n-1.given.1 in
+    let fits = sym (was_accepted _ _ _ _ _ _ (answer_clause j.judge_accepted.ensures) [] [] _ n.n-1.given.1) in
     record {
-      asked = record { accepted = fits; measured = only_slice_clause j.judge-accepted.ensures fits };
-      room = record { steps_fit = omega (arith, counted, e.before.if1.false); outputs_fit = e.if2.false };
+      asked = record { accepted = fits; measured = only_slice_clause j.judge_accepted.ensures fits };
+      room = record { steps_fit = omega (arith, counted, e.if-steps-n.false); outputs_fit = e.if-outputs-q.false };
     }
 
-counts-of-requires : tie.Need-counts-of-requires
-counts-of-requires c κs = omega (arith, squarings_within c.before.before.before.before.emit.ensures)
+counts-of-requires : tie.Need-counts_of-requires
+counts-of-requires c κs = omega (arith, squarings_within c.emit-made.ensures)
 
-returns-3 : tie.Need-returns-3
+returns-3 : tie.Need-returns-in-Refused
 returns-3 c =
     let n = c.before in
     let j = n.before.before.before in
-    let a = j.before.before.before.before.before.args in
-    compile_refused a.p a.q a.amounts.now a.method a.k _ (answer_clause j.judge-accepted.ensures) a.steps.now a.outputs.now _ _ n.number.given.1
+    let a = j.args in
+    compile_refused a.p a.q a.amounts.now a.method a.k _ (answer_clause j.judge_accepted.ensures) a.steps.now a.outputs.now _ _ n.number-1.given.1
 
-same_length : tie.Need-same-length
+same_length : tie.Need-shape_of-steps
 same_length c = search rules
 
-same-length-2 : tie.Need-same-length-2
+same-length-2 : tie.Need-shape_of-outputs
 same-length-2 c = search rules
 
-returns-4 : tie.Need-returns-4
+returns-4 : tie.Need-returns-else-outputs-q
 returns-4 c =
     let w = c.before.before.before.before.before in
     let e = w.before.before.before.before in
     let n = e.before.before.before in
     let j = n.before.before.before in
-    let a = j.before.before.before.before.before.args in
-    compiled a.p a.q a.amounts.now a.method a.k _ (answer_clause j.judge-accepted.ensures) a.steps.now a.outputs.now _ n.n.given.1
-    e.before.if1.false e.if2.false _ _ _ _ w.emit.ensures c.Counts-of.ensures
+    let a = j.args in
+    compiled a.p a.q a.amounts.now a.method a.k _ (answer_clause j.judge_accepted.ensures) a.steps.now a.outputs.now _ n.n-1.given.1
+    e.if-steps-n.false e.if-outputs-q.false _ _ _ _ w.emit-made.ensures c.counts_of.ensures
 
 pub compile_spec : {M : Type 1} → statement M
 compile_spec =

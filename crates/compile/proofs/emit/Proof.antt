@@ -28,12 +28,12 @@ emit-requires c κs =
     let s = c.before.before.before.before.before.before.before in
     record { asked = first_asks (given s).ranges-2 (omega arith); room = room s _ (is_straus _ _ _ _ _ (omega arith)) }
 
-emit-requires-2 : tie.Need-emit-requires-2
+emit-requires-2 : tie.Need-emit-requires-in-2
 emit-requires-2 c κs =
     let s = c.before.before.before.before.before.before.before in
     record { asked = other_asks (given s).ranges-2 s.requires.asked.measured (λ e. omega arith); room = room s _ (is_yao _ _ _ _ _ (omega arith)) }
 
-emit-requires-3 : tie.Need-emit-requires-3
+emit-requires-3 : tie.Need-emit-requires-in_default
 emit-requires-3 c κs =
     let s = c.before.before.before.before.before.before.before in
     record {
@@ -41,33 +41,33 @@ emit-requires-3 c κs =
       room = room s _ (is_partition _ _ _ _ _ (λ e. omega arith) (λ e. omega arith));
     }
 
-same_length : tie.Need-same-length
+same_length : tie.Need-shape_of-steps-in-1
 same_length c = search rules
 
-same-length-2 : tie.Need-same-length-2
+same-length-2 : tie.Need-shape_of-outputs-in-1
 same-length-2 c = search rules
 
-returns : tie.Need-returns
-returns c = emitted (is_straus _ _ _ _ _ (omega arith)) c.before.before.before.before.emit.ensures
+returns : tie.Need-returns-in-1
+returns c = emitted (is_straus _ _ _ _ _ (omega arith)) c.emit.ensures
 
-same-length-3 : tie.Need-same-length-3
+same-length-3 : tie.Need-shape_of-steps-in-2
 same-length-3 c = search rules
 
-same-length-4 : tie.Need-same-length-4
+same-length-4 : tie.Need-shape_of-outputs-in-2
 same-length-4 c = search rules
 
-returns-2 : tie.Need-returns-2
-returns-2 c = emitted (is_yao _ _ _ _ _ (omega arith)) c.before.before.before.before.emit2.ensures
+returns-2 : tie.Need-returns-in-2
+returns-2 c = emitted (is_yao _ _ _ _ _ (omega arith)) c.emit-in-2.ensures
 
-same-length-5 : tie.Need-same-length-5
+same-length-5 : tie.Need-shape_of-steps-in_default
 same-length-5 c = search rules
 
-same-length-6 : tie.Need-same-length-6
+same-length-6 : tie.Need-shape_of-outputs-in_default
 same-length-6 c = search rules
 
-returns-3 : tie.Need-returns-3
+returns-3 : tie.Need-returns-in_default
 returns-3 c =
-    emitted (is_partition _ _ _ _ _ (λ e. omega arith) (λ e. omega arith)) c.before.before.before.before.emit3.ensures
+    emitted (is_partition _ _ _ _ _ (λ e. omega arith) (λ e. omega arith)) c.emit-in_default.ensures
 
 pub emit_spec : {M : Type 1} → statement M
 emit_spec =

@@ -9,50 +9,50 @@ use Rattle.cuts.proofs.Cutting.{RowsCutTo, none_cut, there, row_asked, ends_fit,
 use Rattle.cuts.proofs.cut_each.Statement.{statement}
 use Rattle.cuts.proofs.cut_each.Tie as tie
 
-abbrev invariant-loop : tie.invariant-loop
+abbrev invariant-loop : tie.invariant-loop-j
 invariant-loop s₀ at m keys rest a b j₀ k₀ r₀ s j k r = RowsCutTo s₀ at m a b keys rest j k r s
 
-abbrev decreases-loop : tie.decreases-loop
+abbrev decreases-loop : tie.decreases-loop-j
 decreases-loop s₀ at m keys rest a b j₀ k₀ r₀ s j k r = m - j
 
 -- the row's places are there
-places : (c : tie.In-loop invariant-loop decreases-loop) → let now = c.before.loop in c.before.before.before.args.at + now.j + 1 < length now.s
-places c = there _ _ _ _ _ _ c.before.before.before.requires.asked _ _ _ _ c.before.loop.invariant c.loop-test.true
+places : (c : tie.In-loop-j invariant-loop decreases-loop) → let now = c.loop-j in c.args.at + now.j + 1 < length now.s
+places c = there _ _ _ _ _ _ c.requires.asked _ _ _ _ c.loop-j.invariant c.loop-j-test.true
 
 -- where it ends fits the places of what it is cut into
-fit : (c : tie.After-cut-row invariant-loop decreases-loop)
+fit : (c : tie.After-cut_row-ends invariant-loop decreases-loop)
     → let turn = c.before.before.before.before in
-    let args = turn.before.before.before.args in
-    let j = turn.before.loop.j in
-    let e = c.cut-row.result in
-    let new = c.cut-row.new.0 in
+    let args = turn.args in
+    let j = turn.loop-j.j in
+    let e = c.cut_row-ends.result in
+    let new = c.cut_row-ends.new.0 in
     (e.keys < 2 ^ 32) × (e.rest < 2 ^ 32) × (args.keys + j + 1 < length new) × (args.rest + j + 1 < length new)
 fit c =
     let turn = c.before.before.before.before in
-    ends_fit _ _ _ _ _ _ turn.before.before.before.requires.asked _ _ _ _ turn.before.loop.invariant turn.loop-test.true _ _ _ c.cut-row.ensures
+    ends_fit _ _ _ _ _ _ turn.requires.asked _ _ _ _ turn.loop-j.invariant turn.loop-j-test.true _ _ _ c.cut_row-ends.ensures
 
-loop-holds : tie.Need-loop-init invariant-loop decreases-loop
-loop-holds c = let pre = c.before.requires in none_cut _ _ _ _ _ _ pre.asked pre.keys_first_lem pre.rest_first_lem
+loop-holds : tie.Need-loop-j-init invariant-loop decreases-loop
+loop-holds c = let pre = c.requires in none_cut _ _ _ _ _ _ pre.asked pre.keys_first_lem pre.rest_first_lem
 
-cast_f : tie.Need-overflow-cast-f invariant-loop decreases-loop
-cast_f c = omega (arith, c.slice-known2.given (c.before.before.before.before.args.at + c.before.before.loop.j))
+cast_f : tie.Need-overflow_cast-f invariant-loop decreases-loop
+cast_f c = omega (arith, c.slice_known-in-loop-j-1.given (c.args.at + c.loop-j.j))
 
-cast_t : tie.Need-overflow-cast-t invariant-loop decreases-loop
-cast_t c = omega (arith, c.slice-known3.given (c.before.before.before.before.before.args.at + c.before.before.before.loop.j + 1))
+cast_t : tie.Need-overflow_cast-t invariant-loop decreases-loop
+cast_t c = omega (arith, c.slice_known-in-loop-j-2-1.given (c.args.at + c.loop-j.j + 1))
 
-cut-row-requires : tie.Need-cut-row-requires invariant-loop decreases-loop
+cut-row-requires : tie.Need-cut_row-ends-requires invariant-loop decreases-loop
 cut-row-requires c κs =
     let turn = c.before.before.before in
-    row_asked _ _ _ _ _ _ turn.before.before.before.requires.asked _ _ _ _ turn.before.loop.invariant turn.loop-test.true
+    row_asked _ _ _ _ _ _ turn.requires.asked _ _ _ _ turn.loop-j.invariant turn.loop-j-test.true
 
-loop-again : tie.Need-loop-preserved invariant-loop decreases-loop
+loop-again : tie.Need-loop-j-preserved invariant-loop decreases-loop
 loop-again c =
     let row = c.before.before in
     let turn = row.before.before.before.before in
-    more_cut _ _ _ _ _ _ turn.before.before.before.requires.asked _ _ _ _ turn.before.loop.invariant turn.loop-test.true _ _ _ row.cut-row.ensures
+    more_cut _ _ _ _ _ _ turn.requires.asked _ _ _ _ turn.loop-j.invariant turn.loop-j-test.true _ _ _ row.cut_row-ends.ensures
 
 returns : tie.Need-returns invariant-loop decreases-loop
-returns c = all_cut _ _ _ _ _ _ c.before.before.before.requires.asked _ _ _ _ c.before.loop.invariant c.loop-test.false _ refl refl
+returns c = all_cut _ _ _ _ _ _ c.requires.asked _ _ _ _ c.loop-j.invariant c.loop-j-test.false _ refl refl
 
 pub cut_each_spec : {M : Type 1} → statement M
 cut_each_spec =
@@ -86,7 +86,7 @@ cut_each_spec =
     (λ c. omega (arith, (fit c.before.before).3))
     (λ c. simp length-set (fit c.before.before).3)
     (λ c. search rules)
-    (λ c. falls _ _ c.before.before.before.before.before.before.loop-test.true)
+    (λ c. falls _ _ c.loop-j-test.true)
     loop-again
-    (λ c. c.before.loop.invariant.apart.size)
+    (λ c. c.loop-j.invariant.apart.size)
     returns)

@@ -6,54 +6,54 @@ use Rattle.cuts.proofs.Rowing.{RowTo, row_none, some, part_small, limit_low, par
 use Rattle.cuts.proofs.cut_row.Statement.{statement}
 use Rattle.cuts.proofs.cut_row.Tie as tie
 
-abbrev invariant-loop : tie.invariant-loop
+abbrev invariant-loop : tie.invariant-loop-i
 invariant-loop s₀ from to a b keys rest i₀ k₀ r₀ s i k r = RowTo s₀ from to a b keys rest i k r s
 
-abbrev decreases-loop : tie.decreases-loop
+abbrev decreases-loop : tie.decreases-loop-i
 decreases-loop s₀ from to a b keys rest i₀ k₀ r₀ s i k r = to - i
 
-div-part : tie.Need-nonzero-div-part invariant-loop decreases-loop
+div-part : tie.Need-nonzero_div-part invariant-loop decreases-loop
 div-part c =
     let turn = c.before in
-    some _ _ _ _ _ _ _ turn.before.before.before.requires _ _ _ _ turn.before.loop.invariant turn.loop-test.true
+    some _ _ _ _ _ _ _ turn.requires _ _ _ _ turn.loop-i.invariant turn.loop-i-test.true
 
-add-run-end : tie.Need-overflow-add-run-end invariant-loop decreases-loop
+add-run-end : tie.Need-overflow_add-part invariant-loop decreases-loop
 add-run-end c =
     let turn = c.before.before in
-    omega (arith, part_small _ _ _ _ _ _ _ turn.before.before.before.requires _ _ _ _ turn.before.loop.invariant turn.loop-test.true)
+    omega (arith, part_small _ _ _ _ _ _ _ turn.requires _ _ _ _ turn.loop-i.invariant turn.loop-i-test.true)
 
-mul-run-end : tie.Need-overflow-mul-run-end invariant-loop decreases-loop
+mul-run-end : tie.Need-overflow_mul-part invariant-loop decreases-loop
 mul-run-end c =
     let turn = c.before.before in
-    record { fits = limit_low _ _ _ _ _ _ _ turn.before.before.before.requires _ _ _ _ turn.before.loop.invariant turn.loop-test.true }
+    record { fits = limit_low _ _ _ _ _ _ _ turn.requires _ _ _ _ turn.loop-i.invariant turn.loop-i-test.true }
 
-cut-part-requires : tie.Need-cut-part-requires invariant-loop decreases-loop
+cut-part-requires : tie.Need-cut_part-ends-requires invariant-loop decreases-loop
 cut-part-requires c κs =
     let run = c.before in
     let turn = run.before.before.before in
-    part_asked _ _ _ _ _ _ _ turn.before.before.before.requires _ _ _ _ turn.before.loop.invariant turn.loop-test.true _ run.run-end.ensures
+    part_asked _ _ _ _ _ _ _ turn.requires _ _ _ _ turn.loop-i.invariant turn.loop-i-test.true _ run.run_end-e.ensures
 
-loop-less : tie.Need-loop-smaller invariant-loop decreases-loop
+loop-less : tie.Need-loop-i-smaller invariant-loop decreases-loop
 loop-less c =
     let run = c.before.before.before.before in
     let turn = run.before.before.before in
     omega (
       arith,
-      turn.loop-test.true,
-      run_some _ _ _ _ _ _ _ turn.before.before.before.requires _ _ _ _ turn.before.loop.invariant turn.loop-test.true _ run.run-end.ensures,
+      turn.loop-i-test.true,
+      run_some _ _ _ _ _ _ _ turn.requires _ _ _ _ turn.loop-i.invariant turn.loop-i-test.true _ run.run_end-e.ensures,
     )
 
-loop-again : tie.Need-loop-preserved invariant-loop decreases-loop
+loop-again : tie.Need-loop-i-preserved invariant-loop decreases-loop
 loop-again c =
     let part = c.before.before in
     let run = part.before.before in
     let turn = run.before.before.before in
-    row_more _ _ _ _ _ _ _ turn.before.before.before.requires _ _ _ _ turn.before.loop.invariant turn.loop-test.true _ run.run-end.ensures _ _ _
-    part.cut-part.ensures
+    row_more _ _ _ _ _ _ _ turn.requires _ _ _ _ turn.loop-i.invariant turn.loop-i-test.true _ run.run_end-e.ensures _ _ _
+    part.cut_part-ends.ensures
 
 pub cut_row_spec : {M : Type 1} → statement M
 cut_row_spec =
     tie.close
-    (tie.spec invariant-loop decreases-loop (λ c. row_none _ _ _ _ _ _ _ c.before.requires) (λ c. search rules) (λ c. search rules) div-part add-run-end mul-run-end
-    (λ c κs. search rules) cut-part-requires loop-less loop-again (λ c. c.before.loop.invariant.cut.size)
-    (λ c. row_all _ _ _ _ _ _ _ c.before.before.before.requires _ _ _ _ c.before.loop.invariant c.loop-test.false))
+    (tie.spec invariant-loop decreases-loop (λ c. row_none _ _ _ _ _ _ _ c.requires) (λ c. search rules) (λ c. search rules) div-part add-run-end mul-run-end
+    (λ c κs. search rules) cut-part-requires loop-less loop-again (λ c. c.loop-i.invariant.cut.size)
+    (λ c. row_all _ _ _ _ _ _ _ c.requires _ _ _ _ c.loop-i.invariant c.loop-i-test.false))

@@ -8,11 +8,11 @@ use Rattle.cuts.proofs.cut_rows.Tie as tie
 returns : tie.Need-returns
 returns c =
     let cut = c.before.before in
-    rows_done _ _ _ _ _ _ cut.before.before.before.requires _ _ cut.cut-each.ensures
+    rows_done _ _ _ _ _ _ cut.requires _ _ cut.cut_each.ensures
 
 pub cut_rows_spec : {M : Type 1} → statement M
 cut_rows_spec =
     tie.close
     (tie.spec (λ c. search rules) (λ c. search rules) (λ c. search rules) (λ c. search rules) (λ c. search rules) (λ c. search rules) (λ c. search rules)
-    (λ c. search rules) (λ c. search rules) (λ c. simp length-set (places_there _ _ _ _ _ _ c.before.requires).1)
-    (λ c κs. places-set _ _ _ _ _ _ c.before.before.requires) (λ c. (returns c).apart.size) returns)
+    (λ c. search rules) (λ c. search rules) (λ c. simp length-set (places_there _ _ _ _ _ _ c.requires).1)
+    (λ c κs. places-set _ _ _ _ _ _ c.requires) (λ c. (returns c).apart.size) returns)

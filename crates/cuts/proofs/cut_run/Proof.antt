@@ -6,40 +6,40 @@ use Rattle.cuts.proofs.Keying.{KeysTo, keys_none, keys_inside, keys_room, key_as
 use Rattle.cuts.proofs.cut_run.Statement.{statement}
 use Rattle.cuts.proofs.cut_run.Tie as tie
 
-abbrev invariant-loop : tie.invariant-loop
+abbrev invariant-loop : tie.invariant-loop-i
 invariant-loop s₀ from to b limit top r e₀ i₀ s e i = KeysTo s₀ from to b limit top r e i s
 
-abbrev decreases-loop : tie.decreases-loop
+abbrev decreases-loop : tie.decreases-loop-i
 decreases-loop s₀ from to b limit top r e₀ i₀ s e i = to - i
 
 -- the clump is there, and the cell for its key
-inside : (c : tie.In-loop invariant-loop decreases-loop) → c.before.loop.i + c.before.before.before.args.b ≤ c.before.before.before.args.to
-inside c = keys_inside _ _ _ _ _ _ _ c.before.before.before.requires _ _ _ c.before.loop.invariant c.loop-test.true
+inside : (c : tie.In-loop-i invariant-loop decreases-loop) → c.loop-i.i + c.args.b ≤ c.args.to
+inside c = keys_inside _ _ _ _ _ _ _ c.requires _ _ _ c.loop-i.invariant c.loop-i-test.true
 
-room : (c : tie.In-loop invariant-loop decreases-loop) → c.before.loop.e < length c.before.loop.s
-room c = keys_room _ _ _ _ _ _ _ c.before.before.before.requires _ _ _ c.before.loop.invariant c.loop-test.true
+room : (c : tie.In-loop-i invariant-loop decreases-loop) → c.loop-i.e < length c.loop-i.s
+room c = keys_room _ _ _ _ _ _ _ c.requires _ _ _ c.loop-i.invariant c.loop-i-test.true
 
 key-requires : tie.Need-key-requires invariant-loop decreases-loop
 key-requires c κs =
     let turn = c.before in
-    key_asked _ _ _ _ _ _ _ turn.before.before.before.requires _ _ _ turn.before.loop.invariant turn.loop-test.true
+    key_asked _ _ _ _ _ _ _ turn.requires _ _ _ turn.loop-i.invariant turn.loop-i-test.true
 
-loop-less : tie.Need-loop-smaller invariant-loop decreases-loop
+loop-less : tie.Need-loop-i-smaller invariant-loop decreases-loop
 loop-less c =
     let turn = c.before.before in
-    omega (arith, inside turn, turn.loop-test.true, turn.before.before.before.requires.some)
+    omega (arith, inside turn, turn.loop-i-test.true, turn.requires.some)
 
-loop-again : tie.Need-loop-preserved invariant-loop decreases-loop
+loop-again : tie.Need-loop-i-preserved invariant-loop decreases-loop
 loop-again c =
     let turn = c.before.before in
-    keys_more _ _ _ _ _ _ _ turn.before.before.before.requires _ _ _ turn.before.loop.invariant turn.loop-test.true _ c.key.ensures
+    keys_more _ _ _ _ _ _ _ turn.requires _ _ _ turn.loop-i.invariant turn.loop-i-test.true _ c.key.ensures
 
 returns : tie.Need-returns invariant-loop decreases-loop
-returns c = keys_all _ _ _ _ _ _ _ c.before.before.before.requires _ _ _ c.before.loop.invariant c.loop-test.false
+returns c = keys_all _ _ _ _ _ _ _ c.requires _ _ _ c.loop-i.invariant c.loop-i-test.false
 
 pub cut_run_spec : {M : Type 1} → statement M
 cut_run_spec =
     tie.close
     (tie.spec invariant-loop decreases-loop (λ c. keys_none _ _ _ _ _ _ _) (λ c. omega (arith, inside c.before)) key-requires
     (λ c. omega (arith, room c.before.before)) (λ c. room c.before.before) (λ c. omega (arith, room c.before.before))
-    (λ c. omega (arith, inside c.before.before)) loop-less loop-again (λ c. c.before.loop.invariant.laid.apart.size) returns)
+    (λ c. omega (arith, inside c.before.before)) loop-less loop-again (λ c. c.loop-i.invariant.laid.apart.size) returns)

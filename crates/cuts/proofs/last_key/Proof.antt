@@ -23,6 +23,6 @@ pub last_key_spec : {M : Type 1} → statement M
 last_key_spec =
     tie.close
     (tie.spec (λ c. search rules) (λ c κs. search rules)
-    (λ c. rw c.power.ensures (record { fits = small _ _ c.before.requires.0 c.before.requires.1 }))
-    (λ c. rw c.power.ensures (some c.before.args.part c.before.args.a))
+    (λ c. rw c.power.ensures (record { fits = small _ _ c.requires.0 c.requires.1 }))
+    (λ c. rw c.power.ensures (some c.args.part c.args.a))
     (λ c. rw c.power.ensures))

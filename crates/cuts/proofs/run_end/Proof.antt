@@ -13,10 +13,10 @@ use Rattle.cuts.proofs.run_end.Tie as tie
 abbrev Below : List ℕ → ℕ → ℕ → ℕ → Type 0
 Below s i limit e = (c : ℕ) → i ≤ c → c < e → get_or s c 0 < limit
 
-abbrev invariant-loop : tie.invariant-loop
+abbrev invariant-loop : tie.invariant-loop-e
 invariant-loop s i to limit e₀ e = (i ≤ e) × (e ≤ to) × Below s i limit e
 
-abbrev decreases-loop : tie.decreases-loop
+abbrev decreases-loop : tie.decreases-loop-e
 decreases-loop s i to limit e₀ e = to - e
 
 more : (s : List ℕ) (i limit e : ℕ) → Below s i limit e → get_or s e 0 < limit → Below s i limit (e + 1)
@@ -26,24 +26,24 @@ more s i limit e all last c h k = by_place (dec_lt c e)
     by_place (yes lt) = all c h lt
     by_place (no ge) = let q : c ≡ e = omega arith in rw q last
 
-loop-holds : tie.Need-loop-init invariant-loop decreases-loop
+loop-holds : tie.Need-loop-e-init invariant-loop decreases-loop
 loop-holds c = (search rules, search rules, λ k h g. absurd (omega arith))
 
-returns : tie.Need-returns invariant-loop decreases-loop
+returns : tie.Need-returns-then-limit-s invariant-loop decreases-loop
 returns c =
-    let v = c.before.before.before.loop.invariant in
-    record { after = v.0; within = v.1; below = v.2; stops = λ h. omega (arith, c.if1.true) }
+    let v = c.loop-e.invariant in
+    record { after = v.0; within = v.1; below = v.2; stops = λ h. omega (arith, c.if-limit-s.true) }
 
-loop-again : tie.Need-loop-preserved invariant-loop decreases-loop
+loop-again : tie.Need-loop-e-preserved invariant-loop decreases-loop
 loop-again c =
     let b = c.before.before.before in
-    let a = b.before.args in
-    (search rules, search rules, more a.s.now a.i a.limit b.loop.e b.loop.invariant.2 (omega (arith, c.if1.false)))
+    let a = b.args in
+    (search rules, search rules, more a.s.now a.i a.limit b.loop-e.e b.loop-e.invariant.2 (omega (arith, c.if-limit-s.false)))
 
-returns-2 : tie.Need-returns-2 invariant-loop decreases-loop
+returns-2 : tie.Need-returns invariant-loop decreases-loop
 returns-2 c =
-    let v = c.before.loop.invariant in
-    record { after = v.0; within = v.1; below = v.2; stops = λ h. absurd (omega (arith, c.loop-test.false)) }
+    let v = c.loop-e.invariant in
+    record { after = v.0; within = v.1; below = v.2; stops = λ h. absurd (omega (arith, c.loop-e-test.false)) }
 
 pub run_end_spec : {M : Type 1} → statement M
 run_end_spec =

@@ -8,41 +8,41 @@ use Rattle.cutting.proofs.Rows.{cut_none, cut_on}
 use Rattle.cutting.proofs.cut_parts.Statement.{statement}
 use Rattle.cutting.proofs.cut_parts.Tie as tie
 
-abbrev invariant-loop : tie.invariant-loop
+abbrev invariant-loop : tie.invariant-loop-r
 invariant-loop c cells₀ r₀ cells r = (length cells ≡ length cells₀) × (r.g + r.held ≤ length cells) × Cut c r₀ r cells₀ cells
 
-abbrev decreases-loop : tie.decreases-loop
+abbrev decreases-loop : tie.decreases-loop-r
 decreases-loop c cells₀ r₀ cells r = r.held
 
-loop-holds : tie.Need-loop-init invariant-loop decreases-loop
+loop-holds : tie.Need-loop-r-init invariant-loop decreases-loop
 loop-holds c = (search rules, search rules, search cut_none)
 
 front-requires : tie.Need-front-requires invariant-loop decreases-loop
 front-requires c κs = search rules
 
-mul-cells : tie.Need-overflow-mul-cells invariant-loop decreases-loop
+mul-cells : tie.Need-offset_bounds-cells-g invariant-loop decreases-loop
 mul-cells c = search rules
 
-slice-write-cells : tie.Need-slice-write-cells invariant-loop decreases-loop
+slice-write-cells : tie.Need-bounds-cells-g invariant-loop decreases-loop
 slice-write-cells c = search rules
 
-shr-t11 : tie.Need-overflow-shr-t11 invariant-loop decreases-loop
+shr-t11 : tie.Need-overflow_shr-r invariant-loop decreases-loop
 shr-t11 c = search rules
 
-add-t12 : tie.Need-overflow-add-t12 invariant-loop decreases-loop
+add-t12 : tie.Need-overflow_add-r invariant-loop decreases-loop
 add-t12 c = search rules
 
-loop-less : tie.Need-loop-smaller invariant-loop decreases-loop
+loop-less : tie.Need-loop-r-smaller invariant-loop decreases-loop
 loop-less c = search rules
 
-loop-again : tie.Need-loop-preserved invariant-loop decreases-loop
+loop-again : tie.Need-loop-r-preserved invariant-loop decreases-loop
 loop-again c =
     let fronted = c.before.before in
     let start = fronted.before.before.before in
-    let more = cut_on _ _ _ _ _ start.loop.invariant.2 _ _ refl refl refl (search rules) fronted.front.ensures (search rules) in
+    let more = cut_on _ _ _ _ _ start.loop-r.invariant.2 _ _ refl refl refl (search rules) fronted.front.ensures (search rules) in
     (simp length-set (search rules), simp length-set (search rules), more)
 
-same_length : tie.Need-same-length invariant-loop decreases-loop
+same_length : tie.Need-shape_of-cells invariant-loop decreases-loop
 same_length c = search rules
 
 returns : tie.Need-returns invariant-loop decreases-loop

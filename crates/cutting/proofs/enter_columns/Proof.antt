@@ -11,83 +11,83 @@ use Rattle.cutting.proofs.Rows.{behind_low, entered_end, entered_none, entered_o
 use Rattle.cutting.proofs.enter_columns.Statement.{statement}
 use Rattle.cutting.proofs.enter_columns.Tie as tie
 
-abbrev invariant-loop : tie.invariant-loop
+abbrev invariant-loop : tie.invariant-loop-col
 invariant-loop s amounts bits i cells₀ r₀ col₀ cells r col =
     (col ≤ s.p) × (length cells ≡ length cells₀) × Entered s amounts i col r cells₀ cells
 
-abbrev decreases-loop : tie.decreases-loop
+abbrev decreases-loop : tie.decreases-loop-col
 decreases-loop s amounts bits i cells₀ r₀ col₀ cells r col = s.p - col
 
-loop-holds : tie.Need-loop-init invariant-loop decreases-loop
-loop-holds c = (search rules, search rules, entered_none _ _ _ _ _ refl refl refl c.before.before.before.requires.grouped.cuts.some)
+loop-holds : tie.Need-loop-col-init invariant-loop decreases-loop
+loop-holds c = (search rules, search rules, entered_none _ _ _ _ _ refl refl refl c.requires.grouped.cuts.some)
 
 amount-requires : tie.Need-amount-requires invariant-loop decreases-loop
 amount-requires c κs =
     let s = c.before.before.before.before.before.before in
     amount_there _ _ _ _ _ s.requires.inside (search rules) s.requires.grouped.sheet.amounts_are
 
-raised-requires : tie.Need-raised-requires invariant-loop decreases-loop
+raised-requires : tie.Need-raised-x-requires invariant-loop decreases-loop
 raised-requires c κs =
     let start = c.before.before.before in
-    omega (arith, start.loop.invariant.2.short, start.before.before.before.before.requires.grouped.cuts.few)
+    omega (arith, start.loop-col.invariant.2.short, start.requires.grouped.cuts.few)
 
-add-t12 : tie.Need-overflow-add-t12 invariant-loop decreases-loop
+add-t12 : tie.Need-overflow_add-row invariant-loop decreases-loop
 add-t12 c =
     let raised = c.before in
     let start = raised.before.before.before.before in
-    let few = start.before.before.before.before.requires.grouped.cuts.few in
-    let low = behind_low raised.before.amount.result start.loop.r.held (omega arith) (omega (arith, few, start.loop.invariant.2.short)) in
-    omega (arith, row_low _ _ _ _ _ _ _ start.loop.invariant.2 few, raised.raised.ensures, low)
+    let few = start.requires.grouped.cuts.few in
+    let low = behind_low raised.amount.result start.loop-col.r.held (omega arith) (omega (arith, few, start.loop-col.invariant.2.short)) in
+    omega (arith, row_low _ _ _ _ _ _ _ start.loop-col.invariant.2 few, raised.raised-x.ensures, low)
 
-mul-t13 : tie.Need-overflow-mul-t13 invariant-loop decreases-loop
+mul-t13 : tie.Need-offset_bounds-bits-col invariant-loop decreases-loop
 mul-t13 c = search rules
 
-shared-slice-read-t11 : tie.Need-shared-slice-read-t11 invariant-loop decreases-loop
+shared-slice-read-t11 : tie.Need-bounds-bits-col invariant-loop decreases-loop
 shared-slice-read-t11 c =
     let start = c.before.before.before.before.before.before in
     let s = start.before.before.before.before in
     omega (arith, grouped_long s.requires.grouped)
 
-cast-t15 : tie.Need-overflow-cast-t15 invariant-loop decreases-loop
-cast-t15 c = omega (arith, c.shared-slice-known3.given c.before.before.before.before.before.before.loop.col)
+cast-t15 : tie.Need-overflow_cast-row invariant-loop decreases-loop
+cast-t15 c = omega (arith, c.shared_slice_known-in-loop-col-1.given c.loop-col.col)
 
-add-t16 : tie.Need-overflow-add-t16 invariant-loop decreases-loop
+add-t16 : tie.Need-overflow_add-row-in-loop-col invariant-loop decreases-loop
 add-t16 c =
     let start = c.before.before.before.before.before.before.before in
-    omega (arith, c.before.shared-slice-known3.given start.loop.col, start.loop.invariant.2.short, start.before.before.before.before.requires.grouped.cuts.few)
+    omega (arith, c.shared_slice_known-in-loop-col-1.given start.loop-col.col, start.loop-col.invariant.2.short, start.requires.grouped.cuts.few)
 
-cut-parts-requires : tie.Need-cut-parts-requires invariant-loop decreases-loop
+cut-parts-requires : tie.Need-cut_parts-r-requires invariant-loop decreases-loop
 cut-parts-requires c κs =
     let start = c.before.before.before.before.before.before.before.before in
     let s = start.before.before.before.before in
-    let is = grouped_at s.requires.grouped start.loop.col (search rules) in
+    let is = grouped_at s.requires.grouped start.loop-col.col (search rules) in
     let few = grouped_few s.requires.grouped in
-    let fits = row_fits _ _ _ _ _ _ _ start.loop.invariant.2 _ (search rules) is few s.requires.room start.loop.invariant.1 in
+    let fits = row_fits _ _ _ _ _ _ _ start.loop-col.invariant.2 _ (search rules) is few s.requires.room start.loop-col.invariant.1 in
     (s.requires.grouped.cuts.some, s.requires.grouped.cuts.few, fits)
 
-add-col : tie.Need-overflow-add-col invariant-loop decreases-loop
+add-col : tie.Need-overflow_add-col invariant-loop decreases-loop
 add-col c = search rules
 
-loop-less : tie.Need-loop-smaller invariant-loop decreases-loop
+loop-less : tie.Need-loop-col-smaller invariant-loop decreases-loop
 loop-less c = search rules
 
-loop-again : tie.Need-loop-preserved invariant-loop decreases-loop
+loop-again : tie.Need-loop-col-preserved invariant-loop decreases-loop
 loop-again c =
     let cut = c.before.before in
     let raised = c.before.before.before.before.before.before.before in
     let start = raised.before.before.before.before in
     let s = start.before.before.before.before in
-    let is = grouped_at s.requires.grouped start.loop.col (search rules) in
-    let entered = entered_on _ _ _ _ _ _ _ start.loop.invariant.2 _ _ _ (search rules) s.requires.inside raised.before.amount.ensures raised.raised.ensures is in
-    (search rules, search rules, entered _ _ _ refl refl refl cut.cut_parts.ensures)
+    let is = grouped_at s.requires.grouped start.loop-col.col (search rules) in
+    let entered = entered_on _ _ _ _ _ _ _ start.loop-col.invariant.2 _ _ _ (search rules) s.requires.inside raised.amount.ensures raised.raised-x.ensures is in
+    (search rules, search rules, entered _ _ _ refl refl refl cut.cut_parts-r.ensures)
 
-same_length : tie.Need-same-length invariant-loop decreases-loop
+same_length : tie.Need-shape_of-cells invariant-loop decreases-loop
 same_length c = search rules
 
 returns : tie.Need-returns invariant-loop decreases-loop
 returns c =
     let start = c.before.before in
-    entered_end _ _ _ _ _ _ _ start.loop.invariant.2 (search rules) (search rules)
+    entered_end _ _ _ _ _ _ _ start.loop-col.invariant.2 (search rules) (search rules)
 
 pub enter_columns_spec : {M : Type 1} → statement M
 enter_columns_spec =

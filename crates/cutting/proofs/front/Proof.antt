@@ -7,13 +7,13 @@ use Rattle.cutting.proofs.Rows.{base_word, front_low}
 use Rattle.cutting.proofs.front.Statement.{statement}
 use Rattle.cutting.proofs.front.Tie as tie
 
-shl-result : tie.Need-overflow-shl-result
+shl-result : tie.Need-overflow_shl-result
 shl-result c = search rules
 
-rem-result : tie.Need-nonzero-rem-result
+rem-result : tie.Need-nonzero_rem-result
 rem-result c = rw (base_word c.args.c c.requires) (pow_pos _)
 
-cast-result : tie.Need-overflow-cast-result
+cast-result : tie.Need-overflow_cast-result
 cast-result c = rw (base_word c.args.c c.requires) (Fits-under _ _ (2 ^ most_members) (front_low _ _ c.requires) tt)
 
 returns : tie.Need-returns

@@ -8,51 +8,51 @@ use Rattle.cutting.proofs.Rows.{part_cell, part_last, row_end, row_low}
 use Rattle.cutting.proofs.number_parts.Statement.{statement}
 use Rattle.cutting.proofs.number_parts.Tie as tie
 
-enter-columns-requires : tie.Need-enter-columns-requires
+enter-columns-requires : tie.Need-enter_columns-r-requires
 enter-columns-requires c κs = search rules
 
-cast-cells : tie.Need-overflow-cast-cells
+cast-cells : tie.Need-overflow_cast-cells
 cast-cells c =
     let entered = c.before.before.before.before.before in
     let s = entered.before.before.before.before.before in
-    Fits-under _ _ (2 ^ most_members) (row_low _ _ _ _ _ _ _ entered.enter-columns.ensures s.requires.grouped.cuts.few) tt
+    Fits-under _ _ (2 ^ most_members) (row_low _ _ _ _ _ _ _ entered.enter_columns-r.ensures s.requires.grouped.cuts.few) tt
 
-mul-cells : tie.Need-overflow-mul-cells
+mul-cells : tie.Need-offset_bounds-cells-g
 mul-cells c =
     let entered = c.before.before.before.before.before in
     let s = entered.before.before.before.before.before in
     let few = grouped_few s.requires.grouped in
     let G = grouped_count s.requires.grouped in
-    omega (arith, part_cell _ _ _ _ _ _ entered.enter-columns.ensures G (search rules) few)
+    omega (arith, part_cell _ _ _ _ _ _ entered.enter_columns-r.ensures G (search rules) few)
 
-slice-write-cells : tie.Need-slice-write-cells
+slice-write-cells : tie.Need-bounds-cells-g
 slice-write-cells c =
     let entered = c.before.before.before.before.before in
     let s = entered.before.before.before.before.before in
     let few = grouped_few s.requires.grouped in
     let G = grouped_count s.requires.grouped in
-    let inside = part_cell _ _ _ _ _ _ entered.enter-columns.ensures G (search rules) few in
+    let inside = part_cell _ _ _ _ _ _ entered.enter_columns-r.ensures G (search rules) few in
     omega (arith, s.requires.room)
 
-same_length : tie.Need-same-length
+same_length : tie.Need-shape_of-cells-then-r-ne0
 same_length c = search rules
 
-returns : tie.Need-returns
+returns : tie.Need-returns-then-r-ne0
 returns c =
     let entered = c.before.before.before.before.before in
     let s = entered.before.before.before.before.before in
     let few = grouped_few s.requires.grouped in
     let G = grouped_count s.requires.grouped in
-    part_last _ _ _ _ _ _ entered.enter-columns.ensures G (search rules) few s.requires.room
+    part_last _ _ _ _ _ _ entered.enter_columns-r.ensures G (search rules) few s.requires.room
 
-same-length-2 : tie.Need-same-length-2
+same-length-2 : tie.Need-shape_of-cells-else-r-ne0
 same-length-2 c = search rules
 
-returns-2 : tie.Need-returns-2
+returns-2 : tie.Need-returns-else-r-ne0
 returns-2 c =
     let entered = c.before.before.before.before in
-    let G = grouped_count entered.before.before.before.before.before.requires.grouped in
-    row_end _ _ _ _ _ _ entered.enter-columns.ensures G (search rules)
+    let G = grouped_count entered.requires.grouped in
+    row_end _ _ _ _ _ _ entered.enter_columns-r.ensures G (search rules)
 
 pub number_parts_spec : {M : Type 1} → statement M
 number_parts_spec =

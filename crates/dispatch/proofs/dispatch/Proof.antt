@@ -13,55 +13,55 @@ use Rattle.dispatch.proofs.dispatch.Tie as tie
 write-requires : tie.Need-write-requires
 write-requires c κs = search rules
 
-enum-known-number : tie.Need-enum-known-number
+enum-known-number : tie.Need-enum_known-number
 enum-known-number c = search rules
 
-enum-known-count : tie.Need-enum-known-count
+enum-known-count : tie.Need-enum_known-count
 enum-known-count c = search rules
 
-slice-reshare-prefix-read : tie.Need-slice-reshare-prefix-read
+slice-reshare-prefix-read : tie.Need-slice_bounds-read-end
 slice-reshare-prefix-read c =
     let n = c.before in
     let w = n.before.before.before.before in
-    let a = w.before.before.before.before.before.before.before.args in
-    write_room edition1 a.p (pairs a.steps.now) a.outputs.now a.bytes.now _ (answer_clause w.write.ensures) _ n.count.given.1 _
+    let a = w.args in
+    write_room edition1 a.p (pairs a.steps.now) a.outputs.now a.bytes.now _ (answer_clause w.write.ensures) _ n.count-1.given.1 _
     (only_slice_clause w.write.ensures)
 
-slice-aggregate-read : tie.Need-slice-aggregate-read
+slice-aggregate-read : tie.Need-slice_bounds-read-end-in-Bytes
 slice-aggregate-read c = sym (length-take-le _ _ (slice-reshare-prefix-read c.before))
 
 read-requires : tie.Need-read-requires
 read-requires c κs = search rules
 
-same_length : tie.Need-same-length
+same_length : tie.Need-shape_of-bytes-in-Refused
 same_length c = search rules
 
-returns : tie.Need-returns
+returns : tie.Need-returns-in-Refused
 returns c =
     let w = c.before.before.before.before.before in
-    let a = w.before.before.before.before.before.before.before.args in
+    let a = w.args in
     not_written a.p (pairs a.steps.now) a.outputs.now a.bytes.now a.received.now a.results.now _ (answer_clause w.write.ensures) _
     (only_slice_clause w.write.ensures)
-    _ _ c.before.number.given.1
+    _ _ c.number-1.given.1
 
-same-length-2 : tie.Need-same-length-2
+same-length-2 : tie.Need-shape_of-bytes-in-Bytes
 same-length-2 c = search rules
 
-same-length-3 : tie.Need-same-length-3
+same-length-3 : tie.Need-shape_of-received
 same-length-3 c = search rules
 
-same-length-4 : tie.Need-same-length-4
+same-length-4 : tie.Need-shape_of-results
 same-length-4 c = search rules
 
-returns-2 : tie.Need-returns-2
+returns-2 : tie.Need-returns-in-Bytes
 returns-2 c =
     let r = c.before.before.before.before in
     let n = r.before.before.before.before.before in
     let w = n.before.before.before.before in
-    let a = w.before.before.before.before.before.before.before.args in
+    let a = w.args in
     then_read a.p (pairs a.steps.now) a.outputs.now a.bytes.now a.received.now a.results.now _ (answer_clause w.write.ensures) _
     (only_slice_clause w.write.ensures)
-    _ n.count.given.1 _ _ _ (answer_clause r.read.ensures) (first_slice_clause r.read.ensures) (second_slice_clause r.read.ensures)
+    _ n.count-1.given.1 _ _ _ (answer_clause r.read.ensures) (first_slice_clause r.read.ensures) (second_slice_clause r.read.ensures)
 
 pub dispatch_spec : {M : Type 1} → statement M
 dispatch_spec =

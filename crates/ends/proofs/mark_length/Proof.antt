@@ -6,7 +6,7 @@ use Rattle.decimal.proofs.Choices.{choosing}
 use Rattle.ends.proofs.mark_length.Statement.{statement}
 use Rattle.ends.proofs.mark_length.Tie as tie
 
-returns : tie.Need-returns
+returns : tie.Need-returns-then-text-lt3
 returns c = search mark_short
 
 pub mark_length_spec : {M : Type 1} → statement M

@@ -14,30 +14,30 @@ use Rattle.extent.proofs.extent.Statement.{statement}
 use Rattle.extent.proofs.extent.Tie as tie
 
 -- the sizes are judged by the limit of edition 1
-judged : (c : tie.After-judge-shape) → let a = c.before.before.args in
-    verdict_of c.judge-shape.result ≡ shape_rule edition1.limit a.p a.q a.n
-judged c = rw c.before.first-edition.ensures at c.judge-shape.ensures
+judged : (c : tie.After-judge_shape) → let a = c.args in
+    verdict_of c.judge_shape.result ≡ shape_rule edition1.limit a.p a.q a.n
+judged c = rw c.first_edition-layout.ensures at c.judge_shape.ensures
 
-passed : (c : tie.After-enum-told) → let a = c.before.before.before.before.args in
+passed : (c : tie.In-Fine) → let a = c.args in
     fine ≡ shape_rule edition1.limit a.p a.q a.n
-passed c = told_fine _ _ (judged c.before.before) c.enum_told.given.1
+passed c = told_fine _ _ (judged c.before.before) c.enum_told-1.given.1
 
-sized : (c : tie.After-enum-told) → let a = c.before.before.before.before.args in Sized edition1 a.p a.q a.n
+sized : (c : tie.In-Fine) → let a = c.args in Sized edition1 a.p a.q a.n
 sized c = shape_sized edition1 _ _ _ (sym (passed c))
 
-extent-of-requires : tie.Need-extent-of-requires
-extent-of-requires c κs = rw c.before.before.before.first-edition.ensures (record { sound = edition1_sound; sized = sized c })
+extent-of-requires : tie.Need-extent_of-s-requires
+extent-of-requires c κs = rw c.first_edition-layout.ensures (record { sound = edition1_sound; sized = sized c })
 
 -- what was found
-found : (c : tie.After-extent-of) → let a = c.before.before.before.before.before.args in
-    c.extent-of.result ≡ extent_of edition1 a.p a.q a.n
-found c = rw c.before.before.before.before.first-edition.ensures at c.extent-of.ensures
+found : (c : tie.After-extent_of-s) → let a = c.args in
+    c.extent_of-s.result ≡ extent_of edition1 a.p a.q a.n
+found c = rw c.first_edition-layout.ensures at c.extent_of-s.ensures
 
-returns : tie.Need-returns
+returns : tie.Need-returns-in-Refused
 unfolding extent_answer
-returns c = answer_refused _ _ _ _ (told_refused_lem _ _ _ _ (judged c.before.before.before) c.before.number.given.1)
+returns c = answer_refused _ _ _ _ (told_refused_lem _ _ _ _ (judged c.before.before.before) c.number-1.given.1)
 
-returns-2 : tie.Need-returns-2
+returns-2 : tie.Need-returns-in-Fine
 unfolding extent_answer
 returns-2 c = rw (found c) (answer_done _ _ (passed c.before))
 

@@ -8,115 +8,115 @@ use borrow.Author.Rules.{rules}
 use Rattle.fields.proofs.put_fields.Statement.{statement}
 use Rattle.fields.proofs.put_fields.Tie as tie
 
-abbrev invariant-loop : tie.invariant-loop
+abbrev invariant-loop : tie.invariant-loop-j
 invariant-loop buf₀ width list count c₀ j₀ buf c j =
     (length buf ≡ length buf₀)
     × Putting (filed_from buf₀ c₀.at width (take count list)) (c₀.at + count * width) width list count buf c.at j
 
-abbrev decreases-loop : tie.decreases-loop
+abbrev decreases-loop : tie.decreases-loop-j
 decreases-loop buf₀ width list count c₀ j₀ buf c j = count - j
 
-loop-holds : tie.Need-loop-init invariant-loop decreases-loop
-loop-holds c = (refl, put_start _ _ _ _ _ c.before.before.requires.fill)
+loop-holds : tie.Need-loop-j-init invariant-loop decreases-loop
+loop-holds c = (refl, put_start _ _ _ _ _ c.requires.fill)
 
-sub-loop : tie.Need-overflow-sub-loop invariant-loop decreases-loop
+sub-loop : tie.Need-overflow_sub-count invariant-loop decreases-loop
 sub-loop c = search rules
 
-mul_wide : tie.Need-overflow-mul-wide invariant-loop decreases-loop
+mul_wide : tie.Need-offset_bounds-list-j invariant-loop decreases-loop
 mul_wide c = search rules
 
-shared-slice-read-wide : tie.Need-shared-slice-read-wide invariant-loop decreases-loop
+shared-slice-read-wide : tie.Need-bounds-list-j invariant-loop decreases-loop
 shared-slice-read-wide c = search rules
 
 wide-requires : tie.Need-wide-requires invariant-loop decreases-loop
 wide-requires c κs = search rules
 
-shl-both : tie.Need-overflow-shl-both invariant-loop decreases-loop
+shl-both : tie.Need-overflow_shl-both invariant-loop decreases-loop
 shl-both c = search rules
 
-add_wide : tie.Need-overflow-add-wide invariant-loop decreases-loop
+add_wide : tie.Need-overflow_add-j invariant-loop decreases-loop
 add_wide c = search rules
 
-mul-wide-2 : tie.Need-overflow-mul-wide-2 invariant-loop decreases-loop
+mul-wide-2 : tie.Need-offset_bounds-list-j-in-loop-j invariant-loop decreases-loop
 mul-wide-2 c = search rules
 
-shared-slice-read-wide-2 : tie.Need-shared-slice-read-wide-2 invariant-loop decreases-loop
+shared-slice-read-wide-2 : tie.Need-bounds-list-j-in-loop-j invariant-loop decreases-loop
 shared-slice-read-wide-2 c = search rules
 
-wide-requires-2 : tie.Need-wide-requires-2 invariant-loop decreases-loop
+wide-requires-2 : tie.Need-wide-requires-in-loop-j invariant-loop decreases-loop
 wide-requires-2 c κs = search rules
 
-add-both : tie.Need-overflow-add-both invariant-loop decreases-loop
+add-both : tie.Need-overflow_add-both invariant-loop decreases-loop
 add-both c =
     let v = c.before.before in
     let l = v.before.before in
     let s = l.before.before.before.before in
-    record { fits = both_fits _ _ _ _ _ _ _ _ s.requires.there l.before.loop.invariant.1 _ _ l.loop-test.true v.wide.ensures c.wide2.ensures }
+    record { fits = both_fits _ _ _ _ _ _ _ _ s.requires.there l.loop-j.invariant.1 _ _ l.loop-j-test.true v.wide.ensures c.wide-in-loop-j.ensures }
 
-mul-put : tie.Need-overflow-mul-put invariant-loop decreases-loop
+mul-put : tie.Need-overflow_mul-width invariant-loop decreases-loop
 mul-put c = search rules
 
-put-requires : tie.Need-put-requires invariant-loop decreases-loop
+put-requires : tie.Need-put-c-requires invariant-loop decreases-loop
 put-requires c κs =
     let u = c.before in
     let v = u.before.before in
     let l = v.before.before in
     let s = l.before.before.before.before in
-    two_room _ _ _ _ _ _ _ _ s.requires.there l.before.loop.invariant.1 _ _ l.loop-test.true v.wide.ensures u.wide2.ensures
+    two_room _ _ _ _ _ _ _ _ s.requires.there l.loop-j.invariant.1 _ _ l.loop-j-test.true v.wide.ensures u.wide-in-loop-j.ensures
 
-add-j : tie.Need-overflow-add-j invariant-loop decreases-loop
+add-j : tie.Need-overflow_add-j-in-loop-j invariant-loop decreases-loop
 add-j c = search rules
 
-loop-less : tie.Need-loop-smaller invariant-loop decreases-loop
+loop-less : tie.Need-loop-j-smaller invariant-loop decreases-loop
 loop-less c = search rules
 
-loop-again : tie.Need-loop-preserved invariant-loop decreases-loop
+loop-again : tie.Need-loop-j-preserved invariant-loop decreases-loop
 loop-again c =
     let p = c.before.before in
     let u = p.before.before in
     let v = u.before.before in
     let l = v.before.before in
     let s = l.before.before.before.before in
-    let i = l.before.loop.invariant in (
-      p.put.auto.1.0 ∙ i.0,
-      two_on _ _ _ _ _ _ _ _ s.requires.there i.1 _ _ l.loop-test.true v.wide.ensures u.wide2.ensures _ _ p.put.ensures p.put.auto.1.0,
+    let i = l.loop-j.invariant in (
+      p.put-c.auto.1.0 ∙ i.0,
+      two_on _ _ _ _ _ _ _ _ s.requires.there i.1 _ _ l.loop-j-test.true v.wide.ensures u.wide-in-loop-j.ensures _ _ p.put-c.ensures p.put-c.auto.1.0,
     )
 
-mul-wide-3 : tie.Need-overflow-mul-wide-3 invariant-loop decreases-loop
+mul-wide-3 : tie.Need-offset_bounds-list-j-then-j-count invariant-loop decreases-loop
 mul-wide-3 c = search rules
 
-shared-slice-read-wide-3 : tie.Need-shared-slice-read-wide-3 invariant-loop decreases-loop
+shared-slice-read-wide-3 : tie.Need-bounds-list-j-then-j-count invariant-loop decreases-loop
 shared-slice-read-wide-3 c = search rules
 
-wide-requires-3 : tie.Need-wide-requires-3 invariant-loop decreases-loop
+wide-requires-3 : tie.Need-wide-requires-then-j-count invariant-loop decreases-loop
 wide-requires-3 c κs = search rules
 
-put-requires-2 : tie.Need-put-requires-2 invariant-loop decreases-loop
+put-requires-2 : tie.Need-put-c-requires-then-j-count invariant-loop decreases-loop
 put-requires-2 c κs =
     let t = c.before.before.before in
     let l = t.before.before in
     let s = l.before.before.before in
-    one_room _ _ _ _ _ _ _ _ s.requires.there l.loop.invariant.1 _ t.if1.true c.wide3.ensures
+    one_room _ _ _ _ _ _ _ _ s.requires.there l.loop-j.invariant.1 _ t.if-j-count.true c.wide-then-j-count.ensures
 
-same_length : tie.Need-same-length invariant-loop decreases-loop
+same_length : tie.Need-shape_of-buf-then-j-count invariant-loop decreases-loop
 same_length c =
     let p = c.before.before in
-    p.put2.auto.1.0 ∙ p.before.before.before.before.before.before.loop.invariant.0
+    p.put-c-then-j-count.auto.1.0 ∙ p.loop-j.invariant.0
 
-returns : tie.Need-returns invariant-loop decreases-loop
+returns : tie.Need-returns-then-j-count invariant-loop decreases-loop
 returns c =
     let p = c.before.before in
     let t = p.before.before.before.before in
     let l = t.before.before in
     let s = l.before.before.before in
-    let last = one_on _ _ _ _ _ _ _ _ s.requires.there l.loop.invariant.1 _ t.if1.true p.before.wide3.ensures _ _ p.put2.ensures p.put2.auto.1.0 in
-    put_end _ _ _ _ _ _ _ _ last (omega (arith, t.before.loop-test.false))
+    let last = one_on _ _ _ _ _ _ _ _ s.requires.there l.loop-j.invariant.1 _ t.if-j-count.true p.wide-then-j-count.ensures _ _ p.put-c-then-j-count.ensures p.put-c-then-j-count.auto.1.0 in
+    put_end _ _ _ _ _ _ _ _ last (omega (arith, t.loop-j-test.false))
 
-same-length-2 : tie.Need-same-length-2 invariant-loop decreases-loop
-same-length-2 c = c.before.before.loop.invariant.0
+same-length-2 : tie.Need-shape_of-buf-else-j-count invariant-loop decreases-loop
+same-length-2 c = c.loop-j.invariant.0
 
-returns-2 : tie.Need-returns-2 invariant-loop decreases-loop
-returns-2 c = put_end _ _ _ _ _ _ _ _ c.before.before.loop.invariant.1 c.if1.false
+returns-2 : tie.Need-returns-else-j-count invariant-loop decreases-loop
+returns-2 c = put_end _ _ _ _ _ _ _ _ c.loop-j.invariant.1 c.if-j-count.false
 
 pub put_fields_spec : {M : Type 1} → statement M
 put_fields_spec =

@@ -5,13 +5,13 @@ use Rattle.fields.proofs.Taking.{long_room, long_taken}
 use Rattle.fields.proofs.take_fields.Statement.{statement}
 use Rattle.fields.proofs.take_fields.Tie as tie
 
-take-long-requires : tie.Need-take-long-requires
+take-long-requires : tie.Need-take_long-requires
 take-long-requires c κs =
     let copied = c.before.before.before in
     let start = copied.before.before.before.before.before in
     long_room _ _ _ copied.lengthen.ensures _ _ _ _ start.requires (search rules) (omega arith)
 
-returns : tie.Need-returns
+returns : tie.Need-returns-then-file-lt8
 returns c =
     let read = c.before.before in
     let copied = read.before.before.before.before in

@@ -8,19 +8,19 @@ use Rattle.groups.specs.Inner.{bits_less}
 use Rattle.group_tables.proofs.count_squarings.Statement.{statement}
 use Rattle.group_tables.proofs.count_squarings.Tie as tie
 
-abbrev invariant-loop : tie.invariant-loop
+abbrev invariant-loop : tie.invariant-loop-col
 invariant-loop bits cells₀ col₀ cells col = FilledTo (bits_less bits 1) cells₀ (length bits) col cells
 
-abbrev decreases-loop : tie.decreases-loop
+abbrev decreases-loop : tie.decreases-loop-col
 decreases-loop bits cells₀ col₀ cells col = length bits - col
 
-cast-lessened : tie.Need-overflow-cast-lessened invariant-loop decreases-loop
-cast-lessened c = omega (arith, c.shared-slice-known2.given c.before.before.loop.col)
+cast-lessened : tie.Need-overflow_cast-bits invariant-loop decreases-loop
+cast-lessened c = omega (arith, c.shared_slice_known-in-loop-col-1.given c.loop-col.col)
 
-cast-cells : tie.Need-overflow-cast-cells invariant-loop decreases-loop
+cast-cells : tie.Need-overflow_cast-cells invariant-loop decreases-loop
 cast-cells c =
     let start = c.before.before.before in
-    omega (arith, c.lessened.ensures, c.before.shared-slice-known2.given start.loop.col)
+    omega (arith, c.lessened.ensures, c.shared_slice_known-in-loop-col-1.given start.loop-col.col)
 
 pub count_squarings_spec : {M : Type 1} → statement M
 count_squarings_spec =

@@ -5,37 +5,37 @@ use Rattle.group_tables.proofs.Making.{counted_long, counted_squarings}
 use Rattle.group_tables.proofs.make_squarings.Statement.{statement}
 use Rattle.group_tables.proofs.make_squarings.Tie as tie
 
-slice-aggregate-count-squarings : tie.Need-slice-aggregate-count-squarings
+slice-aggregate-count-squarings : tie.Need-slice_bounds-count_squarings-end
 slice-aggregate-count-squarings c = search rules
 
-count-squarings-requires : tie.Need-count-squarings-requires
+count-squarings-requires : tie.Need-count_squarings-requires
 count-squarings-requires c κs = search rules
 
-array-share-prefix-counts : tie.Need-array-share-prefix-counts
+array-share-prefix-counts : tie.Need-slice_bounds-counts-end
 array-share-prefix-counts c = search rules
 
-slice-aggregate-square-columns : tie.Need-slice-aggregate-square-columns
+slice-aggregate-square-columns : tie.Need-slice_bounds-square_columns-end
 slice-aggregate-square-columns c =
     let counted = c.before.before in
-    counted_long counted.before.before.before.before.args.bits.now _ _ counted.count-squarings.ensures
+    counted_long counted.args.bits.now _ _ counted.count_squarings.ensures
 
-square-columns-requires : tie.Need-square-columns-requires
+square-columns-requires : tie.Need-square_columns-requires
 square-columns-requires c κs =
     let counted = c.before.before.before in
     let s = counted.before.before.before.before in
-    let long = counted_long s.args.bits.now _ _ counted.count-squarings.ensures in
-    let same = counted_squarings s.args.bits.now _ _ counted.count-squarings.ensures in
+    let long = counted_long s.args.bits.now _ _ counted.count_squarings.ensures in
+    let same = counted_squarings s.args.bits.now _ _ counted.count_squarings.ensures in
     record { asked = omega (arith, s.requires.asked); room = rw same s.requires.room }
 
-same_length : tie.Need-same-length
+same_length : tie.Need-shape_of-steps
 same_length c = search rules
 
 returns : tie.Need-returns
 returns c =
     let squared = c.before.before in
     let counted = c.before.before.before.before.before.before in
-    let same = counted_squarings counted.before.before.before.before.args.bits.now _ _ counted.count-squarings.ensures in
-    rw same at squared.square-columns.ensures
+    let same = counted_squarings counted.args.bits.now _ _ counted.count_squarings.ensures in
+    rw same at squared.square_columns.ensures
 
 pub make_squarings_spec : {M : Type 1} → statement M
 make_squarings_spec =

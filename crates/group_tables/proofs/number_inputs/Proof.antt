@@ -13,74 +13,74 @@ use Rattle.groups.proofs.Numbering.{column_few, column_on, column_room, first_nu
 use Rattle.group_tables.proofs.number_inputs.Statement.{statement}
 use Rattle.group_tables.proofs.number_inputs.Tie as tie
 
-abbrev invariant-loop : tie.invariant-loop
+abbrev invariant-loop : tie.invariant-loop-col
 invariant-loop bits cells₀ at₀ first₀ col₀ cells at first col =
     (col ≤ length bits) × (length cells ≡ length cells₀) × (at ≡ sum_to col (counts_of bits))
     × (first ≡ length bits + sum_to col (bits_less bits 1)) × (cells ≡ over (bit_inputs bits col) cells₀)
 
-abbrev decreases-loop : tie.decreases-loop
+abbrev decreases-loop : tie.decreases-loop-col
 decreases-loop bits cells₀ at₀ first₀ col₀ cells at first col = length bits - col
 
-loop-holds : tie.Need-loop-init invariant-loop decreases-loop
+loop-holds : tie.Need-loop-col-init invariant-loop decreases-loop
 loop-holds c = (search rules, search rules, search rules, search rules, search over_none)
 
-mul-n : tie.Need-overflow-mul-n invariant-loop decreases-loop
+mul-n : tie.Need-offset_bounds-bits-col invariant-loop decreases-loop
 mul-n c = search rules
 
-shared-slice-read-n : tie.Need-shared-slice-read-n invariant-loop decreases-loop
+shared-slice-read-n : tie.Need-bounds-bits-col invariant-loop decreases-loop
 shared-slice-read-n c = search rules
 
-cast-n : tie.Need-overflow-cast-n invariant-loop decreases-loop
-cast-n c = omega (arith, c.shared-slice-known2.given c.before.before.loop.col)
+cast-n : tie.Need-overflow_cast-n invariant-loop decreases-loop
+cast-n c = omega (arith, c.shared_slice_known-in-loop-col-1.given c.loop-col.col)
 
-number-column-requires : tie.Need-number-column-requires invariant-loop decreases-loop
+number-column-requires : tie.Need-number_column-requires invariant-loop decreases-loop
 number-column-requires c κs =
     let start = c.before.before.before in
     let s = start.before.before.before in
-    let room = number_room s.requires start.loop.col start.loop.invariant.2 start.loop.invariant.3 (search rules) in
-    let cells = column_room s.requires start.loop.col start.loop.invariant.2 start.loop.invariant.3 (search rules) in
-    (omega (arith, s.requires.columns), room, cells start.loop.cells start.loop.invariant.1)
+    let room = number_room s.requires start.loop-col.col start.loop-col.invariant.2 start.loop-col.invariant.3 (search rules) in
+    let cells = column_room s.requires start.loop-col.col start.loop-col.invariant.2 start.loop-col.invariant.3 (search rules) in
+    (omega (arith, s.requires.columns), room, cells start.loop-col.cells start.loop-col.invariant.1)
 
-add_at : tie.Need-overflow-add-at invariant-loop decreases-loop
+add_at : tie.Need-overflow_add-at invariant-loop decreases-loop
 add_at c =
     let start = c.before.before.before.before.before.before in
     let s = start.before.before.before in
-    omega (arith, column_few s.requires start.loop.col start.loop.invariant.2 start.loop.invariant.3 (search rules))
+    omega (arith, column_few s.requires start.loop-col.col start.loop-col.invariant.2 start.loop-col.invariant.3 (search rules))
 
-lessened-requires : tie.Need-lessened-requires invariant-loop decreases-loop
+lessened-requires : tie.Need-lessened-first-requires invariant-loop decreases-loop
 lessened-requires c κs = search rules
 
-add-first : tie.Need-overflow-add-first invariant-loop decreases-loop
+add-first : tie.Need-overflow_add-first invariant-loop decreases-loop
 add-first c =
     let start = c.before.before.before.before.before.before.before in
     let s = start.before.before.before in
-    let few = first_number s.requires start.loop.col start.loop.invariant.2 start.loop.invariant.3 (search rules) in
-    omega (arith, c.lessened.ensures)
+    let few = first_number s.requires start.loop-col.col start.loop-col.invariant.2 start.loop-col.invariant.3 (search rules) in
+    omega (arith, c.lessened-first.ensures)
 
-add-col : tie.Need-overflow-add-col invariant-loop decreases-loop
+add-col : tie.Need-overflow_add-col invariant-loop decreases-loop
 add-col c = search rules
 
-loop-less : tie.Need-loop-smaller invariant-loop decreases-loop
+loop-less : tie.Need-loop-col-smaller invariant-loop decreases-loop
 loop-less c = search rules
 
-loop-again : tie.Need-loop-preserved invariant-loop decreases-loop
+loop-again : tie.Need-loop-col-preserved invariant-loop decreases-loop
 loop-again c =
     let numbered = c.before.before.before in
     let start = numbered.before.before.before.before in
     let s = start.before.before.before in
-    let on = column_on s.requires start.loop.col start.loop.invariant.2 start.loop.invariant.3 (search rules) in
-    let next = first_on s.requires start.loop.col start.loop.invariant.2 start.loop.invariant.3 (search rules) c.lessened.ensures in
-    let more = inputs_on s.requires start.loop.col start.loop.invariant.2 start.loop.invariant.3 (search rules) start.loop.invariant.4 numbered.number-column.ensures in
+    let on = column_on s.requires start.loop-col.col start.loop-col.invariant.2 start.loop-col.invariant.3 (search rules) in
+    let next = first_on s.requires start.loop-col.col start.loop-col.invariant.2 start.loop-col.invariant.3 (search rules) c.lessened-first.ensures in
+    let more = inputs_on s.requires start.loop-col.col start.loop-col.invariant.2 start.loop-col.invariant.3 (search rules) start.loop-col.invariant.4 numbered.number_column.ensures in
     (search rules, search rules, on, next, more)
 
-same_length : tie.Need-same-length invariant-loop decreases-loop
+same_length : tie.Need-shape_of-cells invariant-loop decreases-loop
 same_length c = search rules
 
 returns : tie.Need-returns invariant-loop decreases-loop
 returns c =
     let start = c.before in
     let s = start.before.before.before in
-    inputs_end s.args.bits.now s.args.cells.now start.loop.col start.loop.invariant.4 start.loop.invariant.0 c.loop-test.false
+    inputs_end s.args.bits.now s.args.cells.now start.loop-col.col start.loop-col.invariant.4 start.loop-col.invariant.0 c.loop-col-test.false
 
 pub number_inputs_spec : {M : Type 1} → statement M
 number_inputs_spec =

@@ -9,47 +9,47 @@ use Rattle.groups.proofs.Counting.{less_to}
 use Rattle.groups.proofs.column_sum.Statement.{statement}
 use Rattle.groups.proofs.column_sum.Tie as tie
 
-abbrev invariant-loop : tie.invariant-loop
+abbrev invariant-loop : tie.invariant-loop-col
 invariant-loop bits less s₀ col₀ s col = (col ≤ length bits) × (s ≡ less_to bits less col) × (s ≤ 32 * col)
 
-abbrev decreases-loop : tie.decreases-loop
+abbrev decreases-loop : tie.decreases-loop-col
 decreases-loop bits less s₀ col₀ s col = length bits - col
 
-loop-holds : tie.Need-loop-init invariant-loop decreases-loop
+loop-holds : tie.Need-loop-col-init invariant-loop decreases-loop
 loop-holds c = search rules
 
-mul-lessened : tie.Need-overflow-mul-lessened invariant-loop decreases-loop
+mul-lessened : tie.Need-offset_bounds-bits-col invariant-loop decreases-loop
 mul-lessened c = search rules
 
-shared-slice-read-lessened : tie.Need-shared-slice-read-lessened invariant-loop decreases-loop
+shared-slice-read-lessened : tie.Need-bounds-bits-col invariant-loop decreases-loop
 shared-slice-read-lessened c = search rules
 
-cast-lessened : tie.Need-overflow-cast-lessened invariant-loop decreases-loop
-cast-lessened c = omega (arith, c.shared-slice-known2.given c.before.before.loop.col)
+cast-lessened : tie.Need-overflow_cast-bits invariant-loop decreases-loop
+cast-lessened c = omega (arith, c.shared_slice_known-in-loop-col-1.given c.loop-col.col)
 
-lessened-requires : tie.Need-lessened-requires invariant-loop decreases-loop
+lessened-requires : tie.Need-lessened-s-requires invariant-loop decreases-loop
 lessened-requires c κs = search rules
 
-add-s : tie.Need-overflow-add-s invariant-loop decreases-loop
+add-s : tie.Need-overflow_add-s invariant-loop decreases-loop
 add-s c =
     let start = c.before.before.before in
-    omega (arith, c.lessened.ensures, start.before.before.requires.each start.loop.col)
+    omega (arith, c.lessened-s.ensures, start.requires.each start.loop-col.col)
 
-add-col : tie.Need-overflow-add-col invariant-loop decreases-loop
+add-col : tie.Need-overflow_add-col invariant-loop decreases-loop
 add-col c = search rules
 
-loop-less : tie.Need-loop-smaller invariant-loop decreases-loop
+loop-less : tie.Need-loop-col-smaller invariant-loop decreases-loop
 loop-less c = search rules
 
-loop-again : tie.Need-loop-preserved invariant-loop decreases-loop
+loop-again : tie.Need-loop-col-preserved invariant-loop decreases-loop
 loop-again c =
     let start = c.before.before.before in
-    (search rules, search sum_on, omega (arith, c.lessened.ensures, start.before.before.requires.each start.loop.col))
+    (search rules, search sum_on, omega (arith, c.lessened-s.ensures, start.requires.each start.loop-col.col))
 
 returns : tie.Need-returns invariant-loop decreases-loop
 returns c =
     let start = c.before in
-    let all = sum-end _ start.loop.col _ _ start.loop.invariant.0 c.loop-test.false start.loop.invariant.1 in
+    let all = sum-end _ start.loop-col.col _ _ start.loop-col.invariant.0 c.loop-col-test.false start.loop-col.invariant.1 in
     record { is = all; low = search rules }
 
 pub column_sum_spec : {M : Type 1} → statement M

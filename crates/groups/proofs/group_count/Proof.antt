@@ -5,13 +5,13 @@ use Rattle.groups.proofs.Counting.{groups_few}
 use Rattle.groups.proofs.group_count.Statement.{statement}
 use Rattle.groups.proofs.group_count.Tie as tie
 
-add-result : tie.Need-overflow-add-result
+add-result : tie.Need-overflow_add-result
 add-result c = search rules
 
-sub-result : tie.Need-overflow-sub-result
+sub-result : tie.Need-overflow_sub-result
 sub-result c = search rules
 
-div-result : tie.Need-nonzero-div-result
+div-result : tie.Need-nonzero_div-result
 div-result c = search rules
 
 returns : tie.Need-returns

@@ -6,38 +6,38 @@ use Rattle.keys.proofs.Weighing.{Weighed, weighed_none, weighed_below, weighed_n
 use Rattle.keys.proofs.key.Statement.{statement}
 use Rattle.keys.proofs.key.Tie as tie
 
-abbrev invariant-loop : tie.invariant-loop
+abbrev invariant-loop : tie.invariant-loop-i
 invariant-loop s from to limit top k₀ i₀ k i = Weighed s from to limit top k i
 
-abbrev decreases-loop : tie.decreases-loop
+abbrev decreases-loop : tie.decreases-loop-i
 decreases-loop s from to limit top k₀ i₀ k i = to - i
 
-sub-power : tie.Need-overflow-sub-power invariant-loop decreases-loop
+sub-power : tie.Need-overflow_sub-limit invariant-loop decreases-loop
 sub-power c =
-    omega (arith, weighed_below _ _ _ _ _ c.before.before.before.requires _ _ c.before.loop.invariant c.loop-test.true)
+    omega (arith, weighed_below _ _ _ _ _ c.requires _ _ c.loop-i.invariant c.loop-i-test.true)
 
-sub-power-2 : tie.Need-overflow-sub-power-2 invariant-loop decreases-loop
+sub-power-2 : tie.Need-overflow_sub-limit-in-loop-i invariant-loop decreases-loop
 sub-power-2 c =
     let turn = c.before in
-    omega (arith, weighed_below _ _ _ _ _ turn.before.before.before.requires _ _ turn.before.loop.invariant turn.loop-test.true)
+    omega (arith, weighed_below _ _ _ _ _ turn.requires _ _ turn.loop-i.invariant turn.loop-i-test.true)
 
-power-requires : tie.Need-power-requires invariant-loop decreases-loop
+power-requires : tie.Need-power-k-requires invariant-loop decreases-loop
 power-requires c κs =
     let turn = c.before in
-    weighed_near _ _ _ _ _ turn.before.before.before.requires _ _ turn.before.loop.invariant turn.loop-test.true
+    weighed_near _ _ _ _ _ turn.requires _ _ turn.loop-i.invariant turn.loop-i-test.true
 
-sub-k : tie.Need-overflow-sub-k invariant-loop decreases-loop
+sub-k : tie.Need-overflow_sub-k invariant-loop decreases-loop
 sub-k c =
     let turn = c.before.before in
-    rw c.power.ensures (weighed_more _ _ _ _ _ turn.before.before.before.requires _ _ turn.before.loop.invariant turn.loop-test.true)
+    rw c.power-k.ensures (weighed_more _ _ _ _ _ turn.requires _ _ turn.loop-i.invariant turn.loop-i-test.true)
 
-loop-again : tie.Need-loop-preserved invariant-loop decreases-loop
+loop-again : tie.Need-loop-i-preserved invariant-loop decreases-loop
 loop-again c =
     let turn = c.before.before in
-    rw c.power.ensures (weighed_on _ _ _ _ _ turn.before.before.before.requires _ _ turn.before.loop.invariant turn.loop-test.true)
+    rw c.power-k.ensures (weighed_on _ _ _ _ _ turn.requires _ _ turn.loop-i.invariant turn.loop-i-test.true)
 
 returns : tie.Need-returns invariant-loop decreases-loop
-returns c = weighed_all _ _ _ _ _ _ _ c.before.loop.invariant c.loop-test.false
+returns c = weighed_all _ _ _ _ _ _ _ c.loop-i.invariant c.loop-i-test.false
 
 pub key_spec : {M : Type 1} → statement M
 key_spec =

@@ -14,40 +14,40 @@ factor k a some h = omega (arith, mul-le-mul_left k some, mul-one k)
 own : (k a : ℕ) → a ≤ (k + 1) * a
 own k a = omega (arith, add-mul k 1 a, one-mul a)
 
-div-to : tie.Need-nonzero-div-to
-div-to c = rw c.power.ensures (pow_pos c.before.before.args.a)
+div-to : tie.Need-nonzero_div-to
+div-to c = rw c.power-size.ensures (pow_pos c.args.a)
 
-cast-to : tie.Need-overflow-cast-to
+cast-to : tie.Need-overflow_cast-to
 cast-to c =
     let start = c.before.before in
-    rw c.power.ensures (Fits-under _ _ (2 ^ 32) (omega (arith, factor _ start.args.a start.requires.some start.requires.small)) tt)
+    rw c.power-size.ensures (Fits-under _ _ (2 ^ 32) (omega (arith, factor _ start.args.a start.requires.some start.requires.small)) tt)
 
-add-to : tie.Need-overflow-add-to
+add-to : tie.Need-overflow_add-to
 add-to c =
     let start = c.before.before in
-    rw c.power.ensures (Fits-under _ _ (2 ^ 32) (factor _ start.args.a start.requires.some start.requires.small) tt)
+    rw c.power-size.ensures (Fits-under _ _ (2 ^ 32) (factor _ start.args.a start.requires.some start.requires.small) tt)
 
-mul-to : tie.Need-overflow-mul-to
-mul-to c = rw c.power.ensures (Fits-under _ _ (2 ^ 32) c.before.before.requires.small tt)
+mul-to : tie.Need-overflow_mul-to
+mul-to c = rw c.power-size.ensures (Fits-under _ _ (2 ^ 32) c.requires.small tt)
 
-sub-lay-weight : tie.Need-overflow-sub-lay-weight
-sub-lay-weight c = rw c.before.power.ensures (pow_pos c.before.before.before.args.a)
+sub-lay-weight : tie.Need-overflow_sub-size
+sub-lay-weight c = rw c.power-size.ensures (pow_pos c.args.a)
 
-rem-lay-weight : tie.Need-nonzero-rem-lay-weight
-rem-lay-weight c = rw c.before.power.ensures (pow_pos c.before.before.before.args.a)
+rem-lay-weight : tie.Need-nonzero_rem-key
+rem-lay-weight c = rw c.power-size.ensures (pow_pos c.args.a)
 
-sub-lay-weight-2 : tie.Need-overflow-sub-lay-weight-2
+sub-lay-weight-2 : tie.Need-overflow_sub-size-2
 sub-lay-weight-2 c =
     let start = c.before.before.before in
-    rw c.before.power.ensures (omega (arith, mod-lt start.args.key (pow_pos start.args.a)))
+    rw c.power-size.ensures (omega (arith, mod-lt start.args.key (pow_pos start.args.a)))
 
-lay-weight-requires : tie.Need-lay-weight-requires
+lay-weight-requires : tie.Need-lay_weight-requires
 lay-weight-requires c κs =
     let start = c.before.before.before in
-    rw c.before.power.ensures (record { below = own _ start.args.a; few = start.requires.few; small = start.requires.small; room = start.requires.room })
+    rw c.power-size.ensures (record { below = own _ start.args.a; few = start.requires.few; small = start.requires.small; room = start.requires.room })
 
 returns : tie.Need-returns
-returns c = rw c.before.before.before.before.power.ensures at c.before.before.lay-weight.ensures
+returns c = rw c.power-size.ensures at c.lay_weight.ensures
 
 pub lay_clump_spec : {M : Type 1} → statement M
 lay_clump_spec =

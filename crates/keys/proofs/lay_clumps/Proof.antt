@@ -4,13 +4,13 @@ use Rattle.keys.proofs.Clumps.{first_asked, clumps_laid}
 use Rattle.keys.proofs.lay_clumps.Statement.{statement}
 use Rattle.keys.proofs.lay_clumps.Tie as tie
 
-lay-rows-requires : tie.Need-lay-rows-requires
-lay-rows-requires c κs = first_asked _ _ _ _ _ c.before.before.requires
+lay-rows-requires : tie.Need-lay_rows-requires
+lay-rows-requires c κs = first_asked _ _ _ _ _ c.requires
 
 returns : tie.Need-returns
-returns c = clumps_laid _ _ _ _ _ c.before.before.before.before.before.requires _ _ c.before.before.lay-rows.ensures
+returns c = clumps_laid _ _ _ _ _ c.requires _ _ c.lay_rows.ensures
 
-same_length : tie.Need-same-length
+same_length : tie.Need-shape_of-s
 same_length c = (returns c).laid.apart.size
 
 pub lay_clumps_spec : {M : Type 1} → statement M

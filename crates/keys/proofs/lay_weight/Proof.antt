@@ -6,48 +6,48 @@ use Rattle.keys.proofs.Laying.{MembersTo, members_none, members_room, members_on
 use Rattle.keys.proofs.lay_weight.Statement.{statement}
 use Rattle.keys.proofs.lay_weight.Tie as tie
 
-abbrev invariant-loop : tie.invariant-loop
+abbrev invariant-loop : tie.invariant-loop-i
 invariant-loop s₀ to n weight r w₀ e₀ i₀ s w e i = MembersTo to n weight r s₀ w e i s
 
-abbrev decreases-loop : tie.decreases-loop
+abbrev decreases-loop : tie.decreases-loop-i
 decreases-loop s₀ to n weight r w₀ e₀ i₀ s w e i = i
 
-power-requires : tie.Need-power-requires invariant-loop decreases-loop
-power-requires c κs = omega (arith, c.before.before.before.requires.few, c.before.loop.invariant.high, c.loop-test.true)
+power-requires : tie.Need-power-own-requires invariant-loop decreases-loop
+power-requires c κs = omega (arith, c.requires.few, c.loop-i.invariant.high, c.loop-i-test.true)
 
-sub-s : tie.Need-overflow-sub-s invariant-loop decreases-loop
+sub-s : tie.Need-overflow_sub-s invariant-loop decreases-loop
 sub-s c =
     let turn = c.before.before in
-    omega (arith, turn.before.before.before.requires.below, turn.before.loop.invariant.high, turn.loop-test.true)
+    omega (arith, turn.requires.below, turn.loop-i.invariant.high, turn.loop-i-test.true)
 
-sub-s-2 : tie.Need-overflow-sub-s-2 invariant-loop decreases-loop
+sub-s-2 : tie.Need-overflow_sub-s-then-own-w invariant-loop decreases-loop
 sub-s-2 c =
     let turn = c.before.before in
-    omega (arith, turn.before.before.before.requires.below, turn.before.loop.invariant.high, turn.loop-test.true)
+    omega (arith, turn.requires.below, turn.loop-i.invariant.high, turn.loop-i-test.true)
 
-cast-s : tie.Need-overflow-cast-s invariant-loop decreases-loop
+cast-s : tie.Need-overflow_cast-s invariant-loop decreases-loop
 cast-s c =
     let turn = c.before.before in
-    Fits-under _ _ (2 ^ 32) (omega (arith, turn.before.before.before.requires.small)) tt
+    Fits-under _ _ (2 ^ 32) (omega (arith, turn.requires.small)) tt
 
-slice-write-s : tie.Need-slice-write-s invariant-loop decreases-loop
+slice-write-s : tie.Need-bounds-s-e invariant-loop decreases-loop
 slice-write-s c =
     let turn = c.before.before in
-    members_room _ _ _ _ _ turn.before.before.before.requires _ _ _ _ turn.before.loop.invariant turn.loop-test.true _ c.before.power.ensures c.if1.true
+    members_room _ _ _ _ _ turn.requires _ _ _ _ turn.loop-i.invariant turn.loop-i-test.true _ c.power-own.ensures c.if-own-w.true
 
-loop-again : tie.Need-loop-preserved invariant-loop decreases-loop
+loop-again : tie.Need-loop-i-preserved-then-own-w invariant-loop decreases-loop
 loop-again c =
     let turn = c.before.before in
-    members_on _ _ _ _ _ turn.before.before.before.requires _ _ _ _ turn.before.loop.invariant turn.loop-test.true _ c.before.power.ensures c.if1.true
+    members_on _ _ _ _ _ turn.requires _ _ _ _ turn.loop-i.invariant turn.loop-i-test.true _ c.power-own.ensures c.if-own-w.true
 
-loop-again-2 : tie.Need-loop-preserved-2 invariant-loop decreases-loop
+loop-again-2 : tie.Need-loop-i-preserved invariant-loop decreases-loop
 loop-again-2 c =
     let turn = c.before.before in
-    members_pass _ _ _ _ _ turn.before.before.before.requires _ _ _ _ turn.before.loop.invariant turn.loop-test.true _ c.before.power.ensures
-    c.if1.false
+    members_pass _ _ _ _ _ turn.requires _ _ _ _ turn.loop-i.invariant turn.loop-i-test.true _ c.power-own.ensures
+    c.if-own-w.false
 
 returns : tie.Need-returns invariant-loop decreases-loop
-returns c = members_all _ _ _ _ _ _ _ _ _ c.before.loop.invariant c.loop-test.false
+returns c = members_all _ _ _ _ _ _ _ _ _ c.loop-i.invariant c.loop-i-test.false
 
 pub lay_weight_spec : {M : Type 1} → statement M
 lay_weight_spec =

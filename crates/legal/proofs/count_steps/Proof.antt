@@ -8,7 +8,7 @@ use Rattle.legal.proofs.Counting.{left_to_add, legal_at, squaring_at, adding}
 use Rattle.legal.proofs.count_steps.Statement.{statement}
 use Rattle.legal.proofs.count_steps.Tie as tie
 
-abbrev invariant-loop : tie.invariant-loop
+abbrev invariant-loop : tie.invariant-loop-s
 invariant-loop p steps n legal₀ squarings₀ v₀ s₀ legal squarings v s =
     (s ≤ n)
     × (legal ≤ s)
@@ -17,7 +17,7 @@ invariant-loop p steps n legal₀ squarings₀ v₀ s₀ legal squarings v s =
     × (legal_of p (pairs steps) ≡ legal + left_to_add (legal_at p) steps s)
     × (squarings_of (pairs steps) ≡ squarings + left_to_add squaring_at steps s)
 
-abbrev decreases-loop : tie.decreases-loop
+abbrev decreases-loop : tie.decreases-loop-s
 decreases-loop p steps n legal₀ squarings₀ v₀ s₀ legal squarings v s = n - s
 
 pub count_steps_spec : {M : Type 1} → statement M

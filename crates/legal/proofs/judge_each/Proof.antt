@@ -7,10 +7,10 @@ use Rattle.chain.proofs.Steps.{steps_left, stepping}
 use Rattle.legal.proofs.judge_each.Statement.{statement}
 use Rattle.legal.proofs.judge_each.Tie as tie
 
-abbrev invariant-loop : tie.invariant-loop
+abbrev invariant-loop : tie.invariant-loop-s
 invariant-loop p steps n s₀ s = (s ≤ n) × (steps_rule p 1 (pairs steps) ≡ steps_left p steps s)
 
-abbrev decreases-loop : tie.decreases-loop
+abbrev decreases-loop : tie.decreases-loop-s
 decreases-loop p steps n s₀ s = n - s
 
 pub judge_each_spec : {M : Type 1} → statement M

@@ -16,13 +16,13 @@ few n a some most small =
     let power : 2 ^ a ≤ 2 ^ most_part = pow_mono most in
     omega (arith, mul-le-mul_left q power, mul-le-mul_left q some, mul-one q, div-add-mod' (n + a - 1) a)
 
-mul-result : tie.Need-overflow-mul-result
+mul-result : tie.Need-overflow_mul-result
 mul-result c =
     let start = c.before in
     rw c.power.ensures (Fits-under _ _ (2 ^ 33) (few start.args.n start.args.a start.requires.0 start.requires.1 start.requires.2) tt)
 
 returns : tie.Need-returns
-returns c = ap (λ (x : ℕ). group_count c.before.args.a c.before.args.n * x) c.power.ensures
+returns c = ap (λ (x : ℕ). group_count c.args.a c.args.n * x) c.power.ensures
 
 pub key_count_spec : {M : Type 1} → statement M
 key_count_spec =

@@ -7,17 +7,17 @@ use Rattle.lines.proofs.Lines.{content_long}
 use Rattle.lines.proofs.first_line.Statement.{statement}
 use Rattle.lines.proofs.first_line.Tie as tie
 
-content-length-requires : tie.Need-content-length-requires
+content-length-requires : tie.Need-content_length-n-requires
 content-length-requires c κs = search rules
 
-slice-aggregate-head-of : tie.Need-slice-aggregate-head-of
-slice-aggregate-head-of c = content_long _ _ c.before.content-length.ensures
+slice-aggregate-head-of : tie.Need-slice_bounds-head_of-end
+slice-aggregate-head-of c = content_long _ _ c.content_length-n.ensures
 
-head-of-requires : tie.Need-head-of-requires
+head-of-requires : tie.Need-head_of-requires
 head-of-requires c κs = search rules
 
 returns : tie.Need-returns
-returns c = c.head_of.ensures ∙ ap (λ n. head_of (take n c.before.before.before.before.args.line.now)) c.before.before.content-length.ensures
+returns c = c.head_of.ensures ∙ ap (λ n. head_of (take n c.args.line.now)) c.content_length-n.ensures
 
 pub first_line_spec : {M : Type 1} → statement M
 first_line_spec =

@@ -16,7 +16,7 @@ use Rattle.listing.proofs.Tables.{at_outputs, filled_on}
 use Rattle.listing.proofs.measure.Statement.{statement}
 use Rattle.listing.proofs.measure.Tie as tie
 
-abbrev invariant-loop : tie.invariant-loop
+abbrev invariant-loop : tie.invariant-loop-c
 invariant-loop p steps outputs scratch₀ table₀ large₀ c₀ scratch table large c =
     (c ≤ p)
     × (length scratch ≡ length scratch₀)
@@ -24,13 +24,13 @@ invariant-loop p steps outputs scratch₀ table₀ large₀ c₀ scratch table l
     × (large ≡ earliest c (large_in p (pairs steps)))
     × (large ≡ 0 → TableHolds table (length outputs) c (at_outputs p (pairs steps) outputs))
 
-abbrev decreases-loop : tie.decreases-loop
+abbrev decreases-loop : tie.decreases-loop-c
 decreases-loop p steps outputs scratch₀ table₀ large₀ c₀ scratch table large c = p - c
 
-loop-holds : tie.Need-loop-init invariant-loop decreases-loop
+loop-holds : tie.Need-loop-c-init invariant-loop decreases-loop
 loop-holds c = (omega arith, refl, refl, refl, λ z. record { each = λ i j hi hj. absurd (omega arith) })
 
-column-requires : tie.Need-column-requires invariant-loop decreases-loop
+column-requires : tie.Need-column-place-requires invariant-loop decreases-loop
 column-requires c κs = search rules
 
 gather-requires : tie.Need-gather-requires invariant-loop decreases-loop
@@ -39,7 +39,7 @@ gather-requires c κs =
     let l = b.before.before.before in
     let s = l.before.before.before.before.before in
     record {
-      column_low = omega (arith, b.before.before.loop-test.true, s.requires.chain_sound.steps_sound.p_low);
+      column_low = omega (arith, b.loop-c-test.true, s.requires.chain_sound.steps_sound.p_low);
       figures_able =
           record {
             figures_fit = s.requires.outputs_few;
@@ -47,64 +47,64 @@ gather-requires c κs =
               arith,
               outputs_low (s.args.p + length (pairs s.args.steps.now)) 1 s.args.outputs.now s.requires.chain_sound.outputs_fine i h,
               length_pairs s.args.steps.now,
-              b.column.auto.1.1.1.0,
-              l.loop.invariant.1,
+              b.column-place.auto.1.1.1.0,
+              l.loop-c.invariant.1,
               s.requires.chain_sound.steps_sound.room,
             );
           };
-      table_whole = l.loop.invariant.2 ∙ s.requires.table_whole;
+      table_whole = l.loop-c.invariant.2 ∙ s.requires.table_whole;
     }
 
-earlier-requires : tie.Need-earlier-requires invariant-loop decreases-loop
+earlier-requires : tie.Need-earlier-large-requires invariant-loop decreases-loop
 earlier-requires c κs = search rules
 
-add-c : tie.Need-overflow-add-c invariant-loop decreases-loop
+add-c : tie.Need-overflow_add-c invariant-loop decreases-loop
 add-c c = search rules
 
-loop-less : tie.Need-loop-smaller invariant-loop decreases-loop
+loop-less : tie.Need-loop-c-smaller invariant-loop decreases-loop
 loop-less c = search rules
 
-loop-again : tie.Need-loop-preserved invariant-loop decreases-loop
+loop-again : tie.Need-loop-c-preserved invariant-loop decreases-loop
 loop-again c =
     let g = c.before.before.before in
     let b = g.before.before.before.before.before in
     let l = b.before.before.before in
     let s = l.before.before.before.before.before in (
       search rules,
-      b.column.auto.1.1.1.0 ∙ l.loop.invariant.1,
-      g.gather.auto.1.1.1.0 ∙ l.loop.invariant.2,
-      earliest_next l.loop.c (large_in s.args.p (pairs s.args.steps.now)) _ _ _ c.earlier.ensures l.loop.invariant.3 b.column.ensures.place,
-      filled_on s.args.p l.loop.c (pairs s.args.steps.now) s.args.outputs.now _ _ _ _ _ _ _ s.requires.chain_sound.outputs_fine
-          s.requires.outputs_few (omega (arith, b.before.before.loop-test.true, s.requires.chain_sound.steps_sound.p_low)) (l.loop.invariant.2 ∙ s.requires.table_whole)
-          c.earlier.ensures b.column.ensures l.loop.invariant.4 g.gather.ensures,
+      b.column-place.auto.1.1.1.0 ∙ l.loop-c.invariant.1,
+      g.gather.auto.1.1.1.0 ∙ l.loop-c.invariant.2,
+      earliest_next l.loop-c.c (large_in s.args.p (pairs s.args.steps.now)) _ _ _ c.earlier-large.ensures l.loop-c.invariant.3 b.column-place.ensures.place,
+      filled_on s.args.p l.loop-c.c (pairs s.args.steps.now) s.args.outputs.now _ _ _ _ _ _ _ s.requires.chain_sound.outputs_fine
+          s.requires.outputs_few (omega (arith, b.loop-c-test.true, s.requires.chain_sound.steps_sound.p_low)) (l.loop-c.invariant.2 ∙ s.requires.table_whole)
+          c.earlier-large.ensures b.column-place.ensures l.loop-c.invariant.4 g.gather.ensures,
     )
 
-same_length : tie.Need-same-length invariant-loop decreases-loop
+same_length : tie.Need-shape_of-scratch-then-large-ne0 invariant-loop decreases-loop
 same_length c = search rules
 
-same-length-2 : tie.Need-same-length-2 invariant-loop decreases-loop
+same-length-2 : tie.Need-shape_of-table-then-large-ne0 invariant-loop decreases-loop
 same-length-2 c = search rules
 
-returns : tie.Need-returns invariant-loop decreases-loop
+returns : tie.Need-returns-then-large-ne0 invariant-loop decreases-loop
 returns c =
-    let l = c.before.before.loop in
+    let l = c.loop-c in
     record {
-      told_is = exponents_large _ _ _ _ c.before.loop-test.false l.invariant.0 l.invariant.3 c.if1.true;
+      told_is = exponents_large _ _ _ _ c.loop-c-test.false l.invariant.0 l.invariant.3 c.if-large-ne0.true;
       holds = λ f. absurd (not_fine f);
     }
 
-same-length-3 : tie.Need-same-length-3 invariant-loop decreases-loop
+same-length-3 : tie.Need-shape_of-scratch invariant-loop decreases-loop
 same-length-3 c = search rules
 
-same-length-4 : tie.Need-same-length-4 invariant-loop decreases-loop
+same-length-4 : tie.Need-shape_of-table invariant-loop decreases-loop
 same-length-4 c = search rules
 
-returns-2 : tie.Need-returns-2 invariant-loop decreases-loop
+returns-2 : tie.Need-returns invariant-loop decreases-loop
 returns-2 c =
-    let l = c.before.before.loop in
+    let l = c.loop-c in
     record {
-      told_is = exponents_fine _ _ _ _ c.before.loop-test.false l.invariant.0 l.invariant.3 c.if1.false;
-      holds = λ f. record { each = λ i j hi hj. (l.invariant.4 c.if1.false).each i j hi (omega (arith, c.before.loop-test.false)) };
+      told_is = exponents_fine _ _ _ _ c.loop-c-test.false l.invariant.0 l.invariant.3 c.if-large-ne0.false;
+      holds = λ f. record { each = λ i j hi hj. (l.invariant.4 c.if-large-ne0.false).each i j hi (omega (arith, c.loop-c-test.false)) };
     }
 
 pub measure_spec : {M : Type 1} → statement M

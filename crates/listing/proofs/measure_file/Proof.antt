@@ -13,44 +13,44 @@ use Rattle.listing.proofs.Judged.{listing_refused, too_long, unread, columns_few
 use Rattle.listing.proofs.measure_file.Statement.{statement}
 use Rattle.listing.proofs.measure_file.Tie as tie
 
-returns : tie.Need-returns
-returns c = listing_refused _ _ 6 0 (too_long _ c.if1.true)
+returns : tie.Need-returns-then-bytes-gt-MOST_BYTES
+returns c = listing_refused _ _ 6 0 (too_long _ c.if-bytes-gt-MOST_BYTES.true)
 
 read-requires : tie.Need-read-requires
 read-requires c κs = search rules
 
-enum-known-number : tie.Need-enum-known-number
+enum-known-number : tie.Need-enum_known-number
 enum-known-number c = search rules
 
-enum-known-p : tie.Need-enum-known-p
+enum-known-p : tie.Need-enum_known-p
 enum-known-p c = search rules
 
 -- what the file that was read tells
-read_file : (c : tie.After-p)
+read_file : (c : tie.In-Chain-2)
     → let r = c.before.before.before.before.before.before in
-    Good edition1 r.before.before.before.before.before.before.before.before.before.args.bytes.now r.read.new.1.0 r.read.new.1.1.0
-    c.p.given.0.0 c.p.given.0.1.0 c.p.given.0.1.1.0.steps
+    Good edition1 r.args.bytes.now r.read.new.1.0 r.read.new.1.1.0
+    c.p-1.given.0.0 c.p-1.given.0.1.0 c.p-1.given.0.1.1.0.steps
 read_file c =
     let r = c.before.before.before.before.before.before in
     let s = r.before.before.before.before.before.before.before.before.before in
     let a = s.args in
     let e = r.read.ensures in
     read_good edition1 a.bytes.now a.steps.now a.outputs.now (omega (arith, s.requires.steps_whole)) (omega (arith, s.requires.outputs_whole)) _ (answer_clause e) _ _ _
-    c.p.given.1 _ _ (first_slice_clause e) (second_slice_clause e)
+    c.p-1.given.1 _ _ (first_slice_clause e) (second_slice_clause e)
 
-mul-measure : tie.Need-overflow-mul-measure
+mul-measure : tie.Need-overflow_mul-counts
 mul-measure c = omega (arith, (read_file c.before.before).taken.few)
 
-slice-reshare-prefix-measure : tie.Need-slice-reshare-prefix-measure
+slice-reshare-prefix-measure : tie.Need-slice_bounds-measure-end
 slice-reshare-prefix-measure c = (read_file c.before.before).taken.steps_room
 
-slice-aggregate-measure : tie.Need-slice-aggregate-measure
+slice-aggregate-measure : tie.Need-slice_bounds-measure-end-in-Chain
 slice-aggregate-measure c = sym (length-take-le _ _ (read_file c.before.before.before).taken.steps_room)
 
-slice-reshare-prefix-measure-2 : tie.Need-slice-reshare-prefix-measure-2
+slice-reshare-prefix-measure-2 : tie.Need-slice_bounds-measure-end-in-Chain-2
 slice-reshare-prefix-measure-2 c = (read_file c.before.before.before).taken.outputs_room
 
-slice-aggregate-measure-2 : tie.Need-slice-aggregate-measure-2
+slice-aggregate-measure-2 : tie.Need-slice_bounds-measure-end-in-Chain-3
 slice-aggregate-measure-2 c = sym (length-take-le _ _ (read_file c.before.before.before.before).taken.outputs_room)
 
 measure-requires : tie.Need-measure-requires
@@ -73,70 +73,70 @@ measure-requires c κs =
       table_whole = s.requires.table_whole;
     }
 
-enum-known-number-2 : tie.Need-enum-known-number-2
+enum-known-number-2 : tie.Need-enum_known-number-in-Refused-measure
 enum-known-number-2 c = search rules
 
-enum_told : tie.Need-enum-told
+enum_told : tie.Need-enum_told-1
 enum_told c = search rules
 
-same_length : tie.Need-same-length
+same_length : tie.Need-shape_of-steps-in-Refused
 same_length c = search rules
 
-same-length-2 : tie.Need-same-length-2
+same-length-2 : tie.Need-shape_of-outputs-in-Refused
 same-length-2 c = search rules
 
-returns-2 : tie.Need-returns-2
+returns-2 : tie.Need-returns-in-Refused
 returns-2 c =
     let n = c.before in
     let r = n.before.before.before.before.before.before in
     let s = r.before.before.before.before.before.before.before.before.before in
     let a = s.args in
     listing_refused _ _ _ _
-    (unread _ r.before.before.before.if1.false _ _
+    (unread _ r.if-bytes-gt-MOST_BYTES.false _ _
     (read_refused edition1 a.bytes.now a.steps.now a.outputs.now (omega (arith, s.requires.steps_whole)) (omega (arith, s.requires.outputs_whole)) _
-    (answer_clause r.read.ensures) _ _ n.number.given.1))
+    (answer_clause r.read.ensures) _ _ n.number-1.given.1))
 
-same-length-3 : tie.Need-same-length-3
+same-length-3 : tie.Need-shape_of-steps-in-Refused-measure
 same-length-3 c = search rules
 
-same-length-4 : tie.Need-same-length-4
+same-length-4 : tie.Need-shape_of-outputs-in-Refused-measure
 same-length-4 c = search rules
 
-same-length-5 : tie.Need-same-length-5
+same-length-5 : tie.Need-shape_of-scratch-in-Refused-measure
 same-length-5 c = search rules
 
-same-length-6 : tie.Need-same-length-6
+same-length-6 : tie.Need-shape_of-table-in-Refused-measure
 same-length-6 c = search rules
 
-returns-3 : tie.Need-returns-3
+returns-3 : tie.Need-returns-in-Refused-measure
 returns-3 c =
     let m = c.before.before.before.before.before.before.before in
     let k = m.before.before.before.before.before.before.before in
     let r = k.before.before.before.before.before.before in
     listing_refused _ _ _ _
-    (measured _ _ _ _ _ _ (read_file k) r.before.before.before.if1.false _ (told_refused_lem _ _ _ _ m.measure.ensures.told_is c.before.number2.given.1))
+    (measured _ _ _ _ _ _ (read_file k) r.if-bytes-gt-MOST_BYTES.false _ (told_refused_lem _ _ _ _ m.measure.ensures.told_is c.number-in-Refused-measure-1.given.1))
 
-same-length-7 : tie.Need-same-length-7
+same-length-7 : tie.Need-shape_of-steps-in-Fine
 same-length-7 c = search rules
 
-same-length-8 : tie.Need-same-length-8
+same-length-8 : tie.Need-shape_of-outputs-in-Fine
 same-length-8 c = search rules
 
-same-length-9 : tie.Need-same-length-9
+same-length-9 : tie.Need-shape_of-scratch-in-Fine
 same-length-9 c = search rules
 
-same-length-10 : tie.Need-same-length-10
+same-length-10 : tie.Need-shape_of-table-in-Fine
 same-length-10 c = search rules
 
-returns-4 : tie.Need-returns-4
+returns-4 : tie.Need-returns-in-Fine
 returns-4 c =
     let m = c.before.before.before.before.before.before in
     let k = m.before.before.before.before.before.before.before in
     let r = k.before.before.before.before.before.before in
-    let passed = c.enum_told.given.1 in
-    let a = r.before.before.before.before.before.before.before.before.before.args in
-    let told = read_counts edition1 a.bytes.now a.steps.now a.outputs.now _ (answer_clause r.read.ensures) _ _ _ k.p.given.1 in
-    listing_done _ _ _ _ _ _ (read_file k) r.before.before.before.if1.false _ _ told (told_fine _ _ m.measure.ensures.told_is passed)
+    let passed = c.enum_told-1.given.1 in
+    let a = r.args in
+    let told = read_counts edition1 a.bytes.now a.steps.now a.outputs.now _ (answer_clause r.read.ensures) _ _ _ k.p-1.given.1 in
+    listing_done _ _ _ _ _ _ (read_file k) r.if-bytes-gt-MOST_BYTES.false _ _ told (told_fine _ _ m.measure.ensures.told_is passed)
     (m.measure.ensures.holds (ap verdict_of passed))
 
 pub measure_file_spec : {M : Type 1} → statement M

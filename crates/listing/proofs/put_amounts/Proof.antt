@@ -14,69 +14,69 @@ use Rattle.listing.proofs.Lines.{put_amount}
 use Rattle.listing.proofs.put_amounts.Statement.{statement}
 use Rattle.listing.proofs.put_amounts.Tie as tie
 
-abbrev invariant-loop : tie.invariant-loop
+abbrev invariant-loop : tie.invariant-loop-c
 invariant-loop i p table at text₀ end₀ c₀ text end c =
     (c ≤ p) × (length text ≡ length text₀) × (end ≤ at + most_field * c) × Put at (more_fields (list_to c (amount_in table i))) text₀ end text
 
-abbrev decreases-loop : tie.decreases-loop
+abbrev decreases-loop : tie.decreases-loop-c
 decreases-loop i p table at text₀ end₀ c₀ text end c = p - c
 
 -- the amount at hand is of 32 bits
-amount_low : (c : tie.After-shared-slice-known2 invariant-loop decreases-loop)
+amount_low : (c : tie.After-shared_slice_known-in-loop-c-1 invariant-loop decreases-loop)
     → let l = c.before.before in
-    get_or l.before.before.before.args.table.now (64 * l.loop.c + l.before.before.before.args.i) 0 < 10 ^ 10
+    get_or l.args.table.now (64 * l.loop-c.c + l.args.i) 0 < 10 ^ 10
 amount_low c =
     let l = c.before.before in
-    omega (arith, (c.shared-slice-known2.given (64 * l.loop.c + l.before.before.before.args.i)).fits)
+    omega (arith, (c.shared_slice_known-in-loop-c-1.given (64 * l.loop-c.c + l.args.i)).fits)
 
-loop-holds : tie.Need-loop-init invariant-loop decreases-loop
+loop-holds : tie.Need-loop-c-init invariant-loop decreases-loop
 loop-holds c = (search rules, refl, omega arith, put_none _ _)
 
-mul-put-field : tie.Need-overflow-mul-put-field invariant-loop decreases-loop
+mul-put-field : tie.Need-overflow_mul-c invariant-loop decreases-loop
 mul-put-field c = search rules
 
-add-put-field : tie.Need-overflow-add-put-field invariant-loop decreases-loop
+add-put-field : tie.Need-overflow_add-c invariant-loop decreases-loop
 add-put-field c = search rules
 
-mul-put-field-2 : tie.Need-overflow-mul-put-field-2 invariant-loop decreases-loop
+mul-put-field-2 : tie.Need-offset_bounds-table-c invariant-loop decreases-loop
 mul-put-field-2 c = search rules
 
-shared-slice-read-put-field : tie.Need-shared-slice-read-put-field invariant-loop decreases-loop
+shared-slice-read-put-field : tie.Need-bounds-table-c invariant-loop decreases-loop
 shared-slice-read-put-field c = search rules
 
-put-field-requires : tie.Need-put-field-requires invariant-loop decreases-loop
+put-field-requires : tie.Need-put_field-end-requires invariant-loop decreases-loop
 put-field-requires c κs =
     let k = c.before in
     let l = k.before.before in
     let s = l.before.before.before in
-    omega (arith, decimal_short 9 _ (amount_low k), l.loop.invariant.1, l.loop.invariant.2, k.before.loop-test.true, s.requires.room)
+    omega (arith, decimal_short 9 _ (amount_low k), l.loop-c.invariant.1, l.loop-c.invariant.2, k.loop-c-test.true, s.requires.room)
 
-add-c : tie.Need-overflow-add-c invariant-loop decreases-loop
+add-c : tie.Need-overflow_add-c-in-loop-c invariant-loop decreases-loop
 add-c c = search rules
 
-loop-less : tie.Need-loop-smaller invariant-loop decreases-loop
+loop-less : tie.Need-loop-c-smaller invariant-loop decreases-loop
 loop-less c = search rules
 
-loop-again : tie.Need-loop-preserved invariant-loop decreases-loop
+loop-again : tie.Need-loop-c-preserved invariant-loop decreases-loop
 loop-again c =
     let b = c.before.before in
     let k = b.before.before in
     let l = k.before.before in
     let s = l.before.before.before in (
       search rules,
-      b.put-field.auto.1.1.0 ∙ l.loop.invariant.1,
-      omega (arith, decimal_short 9 _ (amount_low k), b.put-field.ensures.place, l.loop.invariant.2),
-      put_amount _ _ (amount_in s.args.table.now s.args.i) _ _ _ _ _ (omega (arith, s.requires.room)) l.loop.invariant.3 b.put-field.ensures,
+      b.put_field-end.auto.1.1.0 ∙ l.loop-c.invariant.1,
+      omega (arith, decimal_short 9 _ (amount_low k), b.put_field-end.ensures.place, l.loop-c.invariant.2),
+      put_amount _ _ (amount_in s.args.table.now s.args.i) _ _ _ _ _ (omega (arith, s.requires.room)) l.loop-c.invariant.3 b.put_field-end.ensures,
     )
 
-same_length : tie.Need-same-length invariant-loop decreases-loop
+same_length : tie.Need-shape_of-text invariant-loop decreases-loop
 same_length c = search rules
 
 returns : tie.Need-returns invariant-loop decreases-loop
 returns c =
-    let l = c.before.loop in
+    let l = c.loop-c in
     let s = c.before.before.before.before in
-    let e : l.c ≡ s.args.p = omega (arith, l.invariant.0, c.loop-test.false) in
+    let e : l.c ≡ s.args.p = omega (arith, l.invariant.0, c.loop-c-test.false) in
     record { put = rw e at l.invariant.3; short = rw e at l.invariant.2 }
 
 pub put_amounts_spec : {M : Type 1} → statement M

@@ -5,13 +5,13 @@ use Rattle.listing.proofs.Lines.{put_listing}
 use Rattle.listing.proofs.put_chain.Statement.{statement}
 use Rattle.listing.proofs.put_chain.Tie as tie
 
-put-sizes-requires : tie.Need-put-sizes-requires
+put-sizes-requires : tie.Need-put_sizes-at-requires
 put-sizes-requires c κs = search rules
 
-put-payslips-requires : tie.Need-put-payslips-requires
+put-payslips-requires : tie.Need-put_payslips-requires
 put-payslips-requires c κs = search rules
 
-same_length : tie.Need-same-length
+same_length : tie.Need-shape_of-text
 same_length c = search rules
 
 returns : tie.Need-returns
@@ -19,7 +19,7 @@ returns c =
     let k = c.before.before in
     let j = k.before.before.before.before in
     let s = j.before.before.before.before in
-    put_listing _ _ _ (amount_in s.args.table.now) _ _ _ _ _ j.put-sizes.ensures.put k.put-payslips.ensures
+    put_listing _ _ _ (amount_in s.args.table.now) _ _ _ _ _ j.put_sizes-at.ensures.put k.put_payslips.ensures
 
 pub put_chain_spec : {M : Type 1} → statement M
 put_chain_spec = tie.close (tie.spec put-sizes-requires put-payslips-requires same_length returns)

@@ -7,20 +7,20 @@ use Rattle.listing.proofs.Lines.{put_blank}
 use Rattle.listing.proofs.put_field.Statement.{statement}
 use Rattle.listing.proofs.put_field.Tie as tie
 
-slice-write-text : tie.Need-slice-write-text
+slice-write-text : tie.Need-bounds-text-at
 slice-write-text c = search rules
 
-add-put-decimal : tie.Need-overflow-add-put-decimal
+add-put-decimal : tie.Need-overflow_add-at
 add-put-decimal c = search rules
 
-put-decimal-requires : tie.Need-put-decimal-requires
-put-decimal-requires c κs = simp length-set (omega (arith, c.before.before.requires))
+put-decimal-requires : tie.Need-put_decimal-requires
+put-decimal-requires c κs = simp length-set (omega (arith, c.requires))
 
-same_length : tie.Need-same-length
-same_length c = c.before.before.put-decimal.auto.1.1.0 ∙ simp length-set
+same_length : tie.Need-shape_of-text
+same_length c = c.put_decimal.auto.1.1.0 ∙ simp length-set
 
 returns : tie.Need-returns
-returns c = put_blank _ _ _ _ _ (omega (arith, c.before.before.before.before.before.requires)) c.before.before.put-decimal.ensures
+returns c = put_blank _ _ _ _ _ (omega (arith, c.requires)) c.put_decimal.ensures
 
 pub put_field_spec : {M : Type 1} → statement M
 put_field_spec =

@@ -9,15 +9,15 @@ use Rattle.listing.proofs.Lines.{put_line}
 use Rattle.listing.proofs.put_payslip.Statement.{statement}
 use Rattle.listing.proofs.put_payslip.Tie as tie
 
-add-put-decimal : tie.Need-overflow-add-put-decimal
+add-put-decimal : tie.Need-overflow_add-i
 add-put-decimal c = search rules
 
-put-decimal-requires : tie.Need-put-decimal-requires
+put-decimal-requires : tie.Need-put_decimal-first-requires
 put-decimal-requires c κs =
     let s = c.before.before.before in
     omega (arith, decimal_short 1 (s.args.i + 1) (omega (arith, s.requires.inside)), s.requires.room)
 
-put-amounts-requires : tie.Need-put-amounts-requires
+put-amounts-requires : tie.Need-put_amounts-end-requires
 put-amounts-requires c κs =
     let k = c.before.before.before in
     let s = k.before.before.before.before in
@@ -25,31 +25,31 @@ put-amounts-requires c κs =
     search rules
 
 -- where the newline goes
-line_end_lem : (c : tie.After-slice-known3)
-    → c.before.before.put-amounts.result ≤ c.before.before.before.before.before.before.before.before.before.before.args.at + 178
+line_end_lem : (c : tie.After-slice_known-3-1)
+    → c.put_amounts-end.result ≤ c.args.at + 178
 line_end_lem c =
     let k = c.before.before in
     let j = k.before.before.before.before in
     let s = j.before.before.before.before in
-    omega (arith, decimal_short 1 (s.args.i + 1) (omega (arith, s.requires.inside)), j.put-decimal.ensures.place, k.put-amounts.ensures.short, s.requires.p_low)
+    omega (arith, decimal_short 1 (s.args.i + 1) (omega (arith, s.requires.inside)), j.put_decimal-first.ensures.place, k.put_amounts-end.ensures.short, s.requires.p_low)
 
-slice-write-text : tie.Need-slice-write-text
+slice-write-text : tie.Need-bounds-text-end
 slice-write-text c =
     let k = c.before.before in
     let j = k.before.before.before.before in
     let s = j.before.before.before.before in
-    omega (arith, line_end_lem c, j.put-decimal.auto.1.1.0, k.put-amounts.auto.1.1.1.1.0, s.requires.room)
+    omega (arith, line_end_lem c, j.put_decimal-first.auto.1.1.0, k.put_amounts-end.auto.1.1.1.1.0, s.requires.room)
 
-add-result : tie.Need-overflow-add-result
+add-result : tie.Need-overflow_add-result
 add-result c =
     let s = c.before.before.before.before.before.before.before.before.before.before in
     omega (arith, line_end_lem c, s.requires.room, s.well-formed.1.1.1.1.0.0)
 
-same_length : tie.Need-same-length
+same_length : tie.Need-shape_of-text
 same_length c =
     let k = c.before.before in
     let j = k.before.before.before.before in
-    simp length-set (k.put-amounts.auto.1.1.1.1.0 ∙ j.put-decimal.auto.1.1.0)
+    simp length-set (k.put_amounts-end.auto.1.1.1.1.0 ∙ j.put_decimal-first.auto.1.1.0)
 
 returns : tie.Need-returns
 returns c =
@@ -57,7 +57,7 @@ returns c =
     let j = k.before.before.before.before in
     let s = j.before.before.before.before in
     record {
-      put = put_line _ _ _ _ _ _ _ _ j.put-decimal.ensures k.put-amounts.ensures.put (omega (arith, line_end_lem c, s.requires.room));
+      put = put_line _ _ _ _ _ _ _ _ j.put_decimal-first.ensures k.put_amounts-end.ensures.put (omega (arith, line_end_lem c, s.requires.room));
       short = omega (arith, line_end_lem c);
     }
 

@@ -12,44 +12,44 @@ use Rattle.listing.proofs.Lines.{put_next}
 use Rattle.listing.proofs.put_payslips.Statement.{statement}
 use Rattle.listing.proofs.put_payslips.Tie as tie
 
-abbrev invariant-loop : tie.invariant-loop
+abbrev invariant-loop : tie.invariant-loop-i
 invariant-loop p q table at text₀ end₀ i₀ text end i =
     (i ≤ q) × (length text ≡ length text₀) × (end ≤ at + most_line * i) × Put at (payslip_lines p (amount_in table) i) text₀ end text
 
-abbrev decreases-loop : tie.decreases-loop
+abbrev decreases-loop : tie.decreases-loop-i
 decreases-loop p q table at text₀ end₀ i₀ text end i = q - i
 
-loop-holds : tie.Need-loop-init invariant-loop decreases-loop
+loop-holds : tie.Need-loop-i-init invariant-loop decreases-loop
 loop-holds c = (search rules, refl, omega arith, put_none _ _)
 
-put-payslip-requires : tie.Need-put-payslip-requires invariant-loop decreases-loop
+put-payslip-requires : tie.Need-put_payslip-end-requires invariant-loop decreases-loop
 put-payslip-requires c κs = search rules
 
-add-i : tie.Need-overflow-add-i invariant-loop decreases-loop
+add-i : tie.Need-overflow_add-i invariant-loop decreases-loop
 add-i c = search rules
 
-loop-less : tie.Need-loop-smaller invariant-loop decreases-loop
+loop-less : tie.Need-loop-i-smaller invariant-loop decreases-loop
 loop-less c = search rules
 
-loop-again : tie.Need-loop-preserved invariant-loop decreases-loop
+loop-again : tie.Need-loop-i-preserved invariant-loop decreases-loop
 loop-again c =
     let b = c.before.before in
     let l = b.before.before.before in
     let s = l.before.before.before in (
       search rules,
-      b.put-payslip.auto.1.1.1.1.0 ∙ l.loop.invariant.1,
-      omega (arith, b.put-payslip.ensures.short, l.loop.invariant.2),
-      put_next _ _ _ (amount_in s.args.table.now) _ _ _ _ _ (omega (arith, s.requires.room)) l.loop.invariant.3 b.put-payslip.ensures.put,
+      b.put_payslip-end.auto.1.1.1.1.0 ∙ l.loop-i.invariant.1,
+      omega (arith, b.put_payslip-end.ensures.short, l.loop-i.invariant.2),
+      put_next _ _ _ (amount_in s.args.table.now) _ _ _ _ _ (omega (arith, s.requires.room)) l.loop-i.invariant.3 b.put_payslip-end.ensures.put,
     )
 
-same_length : tie.Need-same-length invariant-loop decreases-loop
+same_length : tie.Need-shape_of-text invariant-loop decreases-loop
 same_length c = search rules
 
 returns : tie.Need-returns invariant-loop decreases-loop
 returns c =
-    let l = c.before.loop in
+    let l = c.loop-i in
     let s = c.before.before.before.before in
-    let e : l.i ≡ s.args.q = omega (arith, l.invariant.0, c.loop-test.false) in
+    let e : l.i ≡ s.args.q = omega (arith, l.invariant.0, c.loop-i-test.false) in
     rw e at l.invariant.3
 
 pub put_payslips_spec : {M : Type 1} → statement M

@@ -12,45 +12,45 @@ use Rattle.listing.proofs.put_refused.Tie as tie
 slice-aggregate-put-word : tie.Need-slice-aggregate-put-word
 slice-aggregate-put-word c = search rules
 
-put-word-requires : tie.Need-put-word-requires
+put-word-requires : tie.Need-put_word-first-requires
 put-word-requires c κs = search rules
 
-put-decimal-requires : tie.Need-put-decimal-requires
+put-decimal-requires : tie.Need-put_decimal-end-requires
 put-decimal-requires c κs =
     let k = c.before.before.before in
     let s = k.before.before.before.before in
-    omega (arith, decimal_short 9 s.args.number (omega (arith, s.ranges.number.fits)), k.put_word.ensures.place, k.put_word.auto.1.1.0, s.requires)
+    omega (arith, decimal_short 9 s.args.number (omega (arith, s.ranges.number.fits)), k.put_word-first.ensures.place, k.put_word-first.auto.1.1.0, s.requires)
 
 -- where the newline goes
-line_end_lem : (c : tie.After-slice-known3) → c.before.before.put-decimal.result ≤ 18
+line_end_lem : (c : tie.After-slice_known-3-1) → c.put_decimal-end.result ≤ 18
 line_end_lem c =
     let k = c.before.before in
     let j = k.before.before.before.before in
     let s = j.before.before.before.before in
-    omega (arith, decimal_short 9 s.args.number (omega (arith, s.ranges.number.fits)), j.put_word.ensures.place, k.put-decimal.ensures.place)
+    omega (arith, decimal_short 9 s.args.number (omega (arith, s.ranges.number.fits)), j.put_word-first.ensures.place, k.put_decimal-end.ensures.place)
 
-slice-write-text : tie.Need-slice-write-text
+slice-write-text : tie.Need-bounds-text-end
 slice-write-text c =
     let k = c.before.before in
     let j = k.before.before.before.before in
     let s = j.before.before.before.before in
-    omega (arith, line_end_lem c, j.put_word.auto.1.1.0, k.put-decimal.auto.1.1.0, s.requires)
+    omega (arith, line_end_lem c, j.put_word-first.auto.1.1.0, k.put_decimal-end.auto.1.1.0, s.requires)
 
-add-result : tie.Need-overflow-add-result
+add-result : tie.Need-overflow_add-result
 add-result c = omega (arith, line_end_lem c)
 
-same_length : tie.Need-same-length
+same_length : tie.Need-shape_of-text
 same_length c =
     let k = c.before.before in
     let j = k.before.before.before.before in
-    simp length-set (k.put-decimal.auto.1.1.0 ∙ j.put_word.auto.1.1.0)
+    simp length-set (k.put_decimal-end.auto.1.1.0 ∙ j.put_word-first.auto.1.1.0)
 
 returns : tie.Need-returns
 returns c =
     let k = c.before.before in
     let j = k.before.before.before.before in
     let s = j.before.before.before.before in
-    put_refusal _ _ _ _ _ _ j.put_word.ensures k.put-decimal.ensures (omega (arith, line_end_lem c, j.put_word.auto.1.1.0, s.requires))
+    put_refusal _ _ _ _ _ _ j.put_word-first.ensures k.put_decimal-end.ensures (omega (arith, line_end_lem c, j.put_word-first.auto.1.1.0, s.requires))
 
 pub put_refused_spec : {M : Type 1} → statement M
 put_refused_spec =

@@ -20,54 +20,54 @@ short s = (
       (omega (arith, s.requires.n_low)),
 )
 
-put-decimal-requires : tie.Need-put-decimal-requires
+put-decimal-requires : tie.Need-put_decimal-first-requires
 put-decimal-requires c κs = let s = c.before.before in omega (arith, (short s).0, s.requires.room)
 
-cast-put-field : tie.Need-overflow-cast-put-field
+cast-put-field : tie.Need-overflow_cast-q
 cast-put-field c = search rules
 
-put-field-requires : tie.Need-put-field-requires
+put-field-requires : tie.Need-put_field-second-requires
 put-field-requires c κs =
     let k = c.before.before.before in
     let s = k.before.before.before in
-    omega (arith, (short s).0, (short s).1, k.put-decimal.ensures.place, k.put-decimal.auto.1.1.0, s.requires.room)
+    omega (arith, (short s).0, (short s).1, k.put_decimal-first.ensures.place, k.put_decimal-first.auto.1.1.0, s.requires.room)
 
-cast-put-field-2 : tie.Need-overflow-cast-put-field-2
+cast-put-field-2 : tie.Need-overflow_cast-n
 cast-put-field-2 c = search rules
 
-put-field-requires-2 : tie.Need-put-field-requires-2
+put-field-requires-2 : tie.Need-put_field-end-requires
 put-field-requires-2 c κs =
     let k = c.before.before.before in
     let j = k.before.before.before.before in
     let s = j.before.before.before in
-    omega (arith, (short s).0, (short s).1, (short s).2, j.put-decimal.ensures.place, j.put-decimal.auto.1.1.0, k.put-field.ensures.place, k.put-field.auto.1.1.0, s.requires.room)
+    omega (arith, (short s).0, (short s).1, (short s).2, j.put_decimal-first.ensures.place, j.put_decimal-first.auto.1.1.0, k.put_field-second.ensures.place, k.put_field-second.auto.1.1.0, s.requires.room)
 
 -- where the newline goes
-line_end_lem : (c : tie.After-slice-known4) → c.before.before.put-field2.result ≤ 11
+line_end_lem : (c : tie.After-slice_known-4-1) → c.put_field-end.result ≤ 11
 line_end_lem c =
     let k = c.before.before in
     let j = k.before.before.before.before in
     let i = j.before.before.before.before in
     let s = i.before.before.before in
-    omega (arith, (short s).0, (short s).1, (short s).2, i.put-decimal.ensures.place, j.put-field.ensures.place, k.put-field2.ensures.place)
+    omega (arith, (short s).0, (short s).1, (short s).2, i.put_decimal-first.ensures.place, j.put_field-second.ensures.place, k.put_field-end.ensures.place)
 
-slice-write-text : tie.Need-slice-write-text
+slice-write-text : tie.Need-bounds-text-end
 slice-write-text c =
     let k = c.before.before in
     let j = k.before.before.before.before in
     let i = j.before.before.before.before in
     let s = i.before.before.before in
-    omega (arith, line_end_lem c, i.put-decimal.auto.1.1.0, j.put-field.auto.1.1.0, k.put-field2.auto.1.1.0, s.requires.room)
+    omega (arith, line_end_lem c, i.put_decimal-first.auto.1.1.0, j.put_field-second.auto.1.1.0, k.put_field-end.auto.1.1.0, s.requires.room)
 
-add-result : tie.Need-overflow-add-result
+add-result : tie.Need-overflow_add-result
 add-result c = omega (arith, line_end_lem c)
 
-same_length : tie.Need-same-length
+same_length : tie.Need-shape_of-text
 same_length c =
     let k = c.before.before in
     let j = k.before.before.before.before in
     let i = j.before.before.before.before in
-    simp length-set (k.put-field2.auto.1.1.0 ∙ j.put-field.auto.1.1.0 ∙ i.put-decimal.auto.1.1.0)
+    simp length-set (k.put_field-end.auto.1.1.0 ∙ j.put_field-second.auto.1.1.0 ∙ i.put_decimal-first.auto.1.1.0)
 
 returns : tie.Need-returns
 returns c =
@@ -76,9 +76,9 @@ returns c =
     let i = j.before.before.before.before in
     let s = i.before.before.before in
     record {
-      put = put_line _ _ _ _ _ _ _ _ i.put-decimal.ensures
-          (put_two _ _ _ _ _ _ _ _ (omega (arith, (short s).0, i.put-decimal.ensures.place, i.put-decimal.auto.1.1.0, s.requires.room)) j.put-field.ensures
-          k.put-field2.ensures)
+      put = put_line _ _ _ _ _ _ _ _ i.put_decimal-first.ensures
+          (put_two _ _ _ _ _ _ _ _ (omega (arith, (short s).0, i.put_decimal-first.ensures.place, i.put_decimal-first.auto.1.1.0, s.requires.room)) j.put_field-second.ensures
+          k.put_field-end.ensures)
           (omega (arith, line_end_lem c, s.requires.room));
       short = omega (arith, line_end_lem c);
     }

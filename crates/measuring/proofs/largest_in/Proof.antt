@@ -7,10 +7,10 @@ use Rattle.measuring.proofs.Columns.{largest_to, finding_largest}
 use Rattle.measuring.proofs.largest_in.Statement.{statement}
 use Rattle.measuring.proofs.largest_in.Tie as tie
 
-abbrev invariant-loop : tie.invariant-loop
+abbrev invariant-loop : tie.invariant-loop-i
 invariant-loop p q amounts c most₀ i₀ most i = (i ≤ q) × (most ≡ largest_to p amounts c i)
 
-abbrev decreases-loop : tie.decreases-loop
+abbrev decreases-loop : tie.decreases-loop-i
 decreases-loop p q amounts c most₀ i₀ most i = q - i
 
 pub largest_in_spec : {M : Type 1} → statement M

@@ -7,10 +7,10 @@ use Rattle.measuring.proofs.Columns.{all_largest}
 use Rattle.measuring.proofs.measure_columns.Statement.{statement}
 use Rattle.measuring.proofs.measure_columns.Tie as tie
 
-abbrev invariant-loop : tie.invariant-loop
+abbrev invariant-loop : tie.invariant-loop-c
 invariant-loop p q amounts cells₀ c₀ cells c = FilledTo (largest_in p q amounts) cells₀ p c cells
 
-abbrev decreases-loop : tie.decreases-loop
+abbrev decreases-loop : tie.decreases-loop-c
 decreases-loop p q amounts cells₀ c₀ cells c = p - c
 
 pub measure_columns_spec : {M : Type 1} → statement M

@@ -8,15 +8,15 @@ use Rattle.measuring.proofs.Columns.{digits_low}
 use Rattle.measuring.proofs.measure_digits.Statement.{statement}
 use Rattle.measuring.proofs.measure_digits.Tie as tie
 
-abbrev invariant-loop : tie.invariant-loop
+abbrev invariant-loop : tie.invariant-loop-c
 invariant-loop p k numbers cells₀ c₀ cells c = FilledTo (digits_at k numbers) cells₀ p c cells
 
-abbrev decreases-loop : tie.decreases-loop
+abbrev decreases-loop : tie.decreases-loop-c
 decreases-loop p k numbers cells₀ c₀ cells c = p - c
 
-cast-cells : tie.Need-overflow-cast-cells invariant-loop decreases-loop
+cast-cells : tie.Need-overflow_cast-cells invariant-loop decreases-loop
 cast-cells c =
-    let few = digits_low _ _ _ (search rules) (c.before.shared-slice-known2.given c.before.before.before.loop.c).fits c.digit-count.ensures in
+    let few = digits_low _ _ _ (search rules) (c.shared_slice_known-in-loop-c-1.given c.loop-c.c).fits c.digit_count.ensures in
     Fits-under _ _ 33 (omega arith) tt
 
 pub measure_digits_spec : {M : Type 1} → statement M

@@ -10,44 +10,44 @@ use Rattle.methods.proofs.Columns.{squaring_columns}
 use Rattle.methods.proofs.square_columns.Statement.{statement}
 use Rattle.methods.proofs.square_columns.Tie as tie
 
-abbrev invariant-loop : tie.invariant-loop
+abbrev invariant-loop : tie.invariant-loop-c
 invariant-loop p counts steps₀ progress₀ c₀ steps progress c =
     (c ≤ length counts) × (length steps ≡ length steps₀) × StepsStored steps₀ steps progress (squarings p (counts_of counts) c)
 
-abbrev decreases-loop : tie.decreases-loop
+abbrev decreases-loop : tie.decreases-loop-c
 decreases-loop p counts steps₀ progress₀ c₀ steps progress c = length counts - c
 
-loop-holds : tie.Need-loop-init invariant-loop decreases-loop
+loop-holds : tie.Need-loop-c-init invariant-loop decreases-loop
 loop-holds c = search (rules, squaring_columns)
 
-add-squared : tie.Need-overflow-add-squared invariant-loop decreases-loop
+add-squared : tie.Need-overflow_add-base invariant-loop decreases-loop
 add-squared c = search rules
 
-cast-squared : tie.Need-overflow-cast-squared invariant-loop decreases-loop
+cast-squared : tie.Need-overflow_cast-base invariant-loop decreases-loop
 cast-squared c = search rules
 
-mul-squared : tie.Need-overflow-mul-squared invariant-loop decreases-loop
+mul-squared : tie.Need-offset_bounds-counts-c invariant-loop decreases-loop
 mul-squared c = search rules
 
-shared-slice-read-squared : tie.Need-shared-slice-read-squared invariant-loop decreases-loop
+shared-slice-read-squared : tie.Need-bounds-counts-c invariant-loop decreases-loop
 shared-slice-read-squared c = search rules
 
-cast-squared-2 : tie.Need-overflow-cast-squared-2 invariant-loop decreases-loop
-cast-squared-2 c = omega (arith, c.shared-slice-known2.given c.before.before.loop.c)
+cast-squared-2 : tie.Need-overflow_cast-counts invariant-loop decreases-loop
+cast-squared-2 c = omega (arith, c.shared_slice_known-in-loop-c-1.given c.loop-c.c)
 
-squared-requires : tie.Need-squared-requires invariant-loop decreases-loop
+squared-requires : tie.Need-squared-r-requires invariant-loop decreases-loop
 squared-requires c κs = search squaring_columns
 
-add-c : tie.Need-overflow-add-c invariant-loop decreases-loop
+add-c : tie.Need-overflow_add-c invariant-loop decreases-loop
 add-c c = search rules
 
-loop-less : tie.Need-loop-smaller invariant-loop decreases-loop
+loop-less : tie.Need-loop-c-smaller invariant-loop decreases-loop
 loop-less c = search rules
 
-loop-again : tie.Need-loop-preserved invariant-loop decreases-loop
+loop-again : tie.Need-loop-c-preserved invariant-loop decreases-loop
 loop-again c = (search rules, search rules, search squaring_columns)
 
-same_length : tie.Need-same-length invariant-loop decreases-loop
+same_length : tie.Need-shape_of-steps invariant-loop decreases-loop
 same_length c = search rules
 
 returns : tie.Need-returns invariant-loop decreases-loop

@@ -4,28 +4,28 @@ use Rattle.text.proofs.Outcomes.{numbers_cut, numbers_read}
 use Rattle.numbers.proofs.read_numbers.Statement.{statement}
 use Rattle.numbers.proofs.read_numbers.Tie as tie
 
-is-cut-requires : tie.Need-is-cut-requires
+is-cut-requires : tie.Need-is_cut-requires
 is-cut-requires c κs = search rules
 
-cut-text-requires : tie.Need-cut-text-requires
+cut-text-requires : tie.Need-cut_text-requires
 cut-text-requires c κs = search rules
 
-returns : tie.Need-returns
-returns c = numbers_cut _ _ c.before.before.is_cut.ensures _ c.before.if1.true _ _ c.cut-text.ensures
+returns : tie.Need-returns-then-is_cut
+returns c = numbers_cut _ _ c.is_cut.ensures _ c.if-is_cut.true _ _ c.cut_text.ensures
 
-parse-requires : tie.Need-parse-requires
+parse-requires : tie.Need-parse-parsed-requires
 parse-requires c κs = search rules
 
-tell-parsed-requires : tie.Need-tell-parsed-requires
+tell-parsed-requires : tie.Need-tell_parsed-requires
 tell-parsed-requires c κs = search rules
 
-same_length : tie.Need-same-length
+same_length : tie.Need-shape_of-numbers
 same_length c = search rules
 
-returns-2 : tie.Need-returns-2
+returns-2 : tie.Need-returns
 returns-2 c =
     let k = c.before.before.before in
-    numbers_read _ _ k.before.before.before.is_cut.ensures _ k.before.before.if1.false _ _ _ _ k.parse.ensures c.tell-parsed.ensures
+    numbers_read _ _ k.is_cut.ensures _ k.if-is_cut.false _ _ _ _ k.parse-parsed.ensures c.tell_parsed.ensures
 
 pub read_numbers_spec : {M : Type 1} → statement M
 read_numbers_spec =

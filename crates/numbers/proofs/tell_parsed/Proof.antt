@@ -6,20 +6,20 @@ use Rattle.places.proofs.Cases.{case}
 use Rattle.numbers.proofs.tell_parsed.Statement.{statement}
 use Rattle.numbers.proofs.tell_parsed.Tie as tie
 
-enum-known-parsed : tie.Need-enum-known-parsed
+enum-known-parsed : tie.Need-enum_known-parsed
 enum-known-parsed c = search rules
 
-enum-known-parsed-2 : tie.Need-enum-known-parsed-2
+enum-known-parsed-2 : tie.Need-enum_known-parsed-in-Fault-1
 enum-known-parsed-2 c = search rules
 
 refuse-requires : tie.Need-refuse-requires
 refuse-requires c κs = search rules
 
-returns : tie.Need-returns
-returns c = case (told_numbers _) _ _ _ c.before.parsed.given.1 refl
+returns : tie.Need-returns-in-Numbers
+returns c = case (told_numbers _) _ _ _ c.parsed-1.given.1 refl
 
-returns-2 : tie.Need-returns-2
-returns-2 c = case (told_numbers _) _ _ _ c.before.before.parsed2.given.1 c.refuse.ensures
+returns-2 : tie.Need-returns-in-Fault
+returns-2 c = case (told_numbers _) _ _ _ c.parsed-in-Fault-1.given.1 c.refuse.ensures
 
 pub tell_parsed_spec : {M : Type 1} → statement M
 tell_parsed_spec =

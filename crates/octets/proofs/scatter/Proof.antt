@@ -6,85 +6,85 @@ use borrow.Author.Rules.{rules}
 use Rattle.octets.proofs.scatter.Statement.{statement}
 use Rattle.octets.proofs.scatter.Tie as tie
 
-add-low-byte : tie.Need-overflow-add-low-byte
+add-low-byte : tie.Need-overflow_add-head
 add-low-byte c = search rules
 
-low-byte-requires : tie.Need-low-byte-requires
+low-byte-requires : tie.Need-low_byte-requires
 low-byte-requires c κs = search rules
 
-slice-write-buf : tie.Need-slice-write-buf
+slice-write-buf : tie.Need-bounds-buf-i
 slice-write-buf c = search rules
 
-same_length : tie.Need-same-length
+same_length : tie.Need-shape_of-buf-then-count-lt2
 same_length c = search rules
 
-returns : tie.Need-returns
+returns : tie.Need-returns-then-count-lt2
 returns c =
     let one = c.before in
-    let a = one.before.before.args in
+    let a = one.args in
     stored_one a.buf.now a.i a.count a.head a.x _ (omega arith) one.low_byte.ensures (omega arith)
 
-low-byte-requires-2 : tie.Need-low-byte-requires-2
+low-byte-requires-2 : tie.Need-low_byte-requires-2
 low-byte-requires-2 c κs = search rules
 
-add-buf : tie.Need-overflow-add-buf
+add-buf : tie.Need-overflow_add-buf
 add-buf c = search rules
 
-slice-write-buf-2 : tie.Need-slice-write-buf-2
+slice-write-buf-2 : tie.Need-bounds-buf-i-2
 slice-write-buf-2 c = simp length-set (omega arith)
 
-same-length-2 : tie.Need-same-length-2
+same-length-2 : tie.Need-shape_of-buf-then-count-lt3
 same-length-2 c = search rules
 
-returns-2 : tie.Need-returns-2
+returns-2 : tie.Need-returns-then-count-lt3
 returns-2 c =
     let two = c.before in
     let one = two.before.before in
-    let a = one.before.before.args in
-    stored_two a.buf.now a.i a.count a.head a.x _ (omega arith) one.low_byte.ensures _ two.low-byte2.ensures (omega arith)
+    let a = one.args in
+    stored_two a.buf.now a.i a.count a.head a.x _ (omega arith) one.low_byte.ensures _ two.low_byte-2.ensures (omega arith)
 
-low-byte-requires-3 : tie.Need-low-byte-requires-3
+low-byte-requires-3 : tie.Need-low_byte-requires-3
 low-byte-requires-3 c κs = search rules
 
-add-buf-2 : tie.Need-overflow-add-buf-2
+add-buf-2 : tie.Need-overflow_add-buf-2
 add-buf-2 c = search rules
 
-slice-write-buf-3 : tie.Need-slice-write-buf-3
+slice-write-buf-3 : tie.Need-bounds-buf-i-3
 slice-write-buf-3 c = simp length-set (omega arith)
 
-same-length-3 : tie.Need-same-length-3
+same-length-3 : tie.Need-shape_of-buf-then-count-lt4
 same-length-3 c = search rules
 
-returns-3 : tie.Need-returns-3
+returns-3 : tie.Need-returns-then-count-lt4
 returns-3 c =
     let three = c.before in
     let two = three.before.before in
     let one = two.before.before in
-    let a = one.before.before.args in
-    stored_three a.buf.now a.i a.count a.head a.x _ (omega arith) one.low_byte.ensures _ two.low-byte2.ensures _
-    three.low-byte3.ensures (omega arith)
+    let a = one.args in
+    stored_three a.buf.now a.i a.count a.head a.x _ (omega arith) one.low_byte.ensures _ two.low_byte-2.ensures _
+    three.low_byte-3.ensures (omega arith)
 
-low-byte-requires-4 : tie.Need-low-byte-requires-4
+low-byte-requires-4 : tie.Need-low_byte-requires-4
 low-byte-requires-4 c κs = search rules
 
-add-buf-3 : tie.Need-overflow-add-buf-3
+add-buf-3 : tie.Need-overflow_add-buf-3
 add-buf-3 c = search rules
 
-slice-write-buf-4 : tie.Need-slice-write-buf-4
+slice-write-buf-4 : tie.Need-bounds-buf-i-4
 slice-write-buf-4 c = simp length-set (omega arith)
 
-same-length-4 : tie.Need-same-length-4
+same-length-4 : tie.Need-shape_of-buf
 same-length-4 c = search rules
 
-returns-4 : tie.Need-returns-4
+returns-4 : tie.Need-returns
 returns-4 c =
     let three = c.before.before in
     let two = three.before.before in
     let one = two.before.before in
-    let a = one.before.before.args in
-    stored_four a.buf.now a.i a.count a.head a.x _ (omega arith) one.low_byte.ensures _ two.low-byte2.ensures _
-    three.low-byte3.ensures _
-    c.low-byte4.ensures
+    let a = one.args in
+    stored_four a.buf.now a.i a.count a.head a.x _ (omega arith) one.low_byte.ensures _ two.low_byte-2.ensures _
+    three.low_byte-3.ensures _
+    c.low_byte-4.ensures
     (omega arith)
 
 pub scatter_spec : {M : Type 1} → statement M

@@ -6,38 +6,38 @@ use Rattle.opening.proofs.Opening.{first_asked, level_asked, second_asked, outpu
 use Rattle.opening.proofs.open_outputs.Statement.{statement}
 use Rattle.opening.proofs.open_outputs.Tie as tie
 
-add-members : tie.Need-overflow-add-members
-add-members c = Fits-under _ _ (2 ^ 33) (omega (arith, outs_inside _ _ _ _ c.before.requires, c.before.requires.small)) tt
+add-members : tie.Need-overflow_add-members
+add-members c = Fits-under _ _ (2 ^ 33) (omega (arith, outs_inside _ _ _ _ c.requires, c.requires.small)) tt
 
-mul-members : tie.Need-overflow-mul-members
-mul-members c = Fits-under _ _ (2 ^ 35) (omega (arith, outs_inside _ _ _ _ c.before.requires, c.before.requires.small)) tt
+mul-members : tie.Need-offset_bounds-s-outs
+mul-members c = Fits-under _ _ (2 ^ 35) (omega (arith, outs_inside _ _ _ _ c.requires, c.requires.small)) tt
 
-slice-read-members : tie.Need-slice-read-members
-slice-read-members c = (outs_inside _ _ _ _ c.before.before.requires).0
+slice-read-members : tie.Need-bounds-s-outs
+slice-read-members c = (outs_inside _ _ _ _ c.requires).0
 
-add-members-2 : tie.Need-overflow-add-members-2
-add-members-2 c = Fits-under _ _ (2 ^ 33) (omega (arith, outs_inside _ _ _ _ c.before.before.requires, c.before.before.requires.small)) tt
+add-members-2 : tie.Need-overflow_add-members-2
+add-members-2 c = Fits-under _ _ (2 ^ 33) (omega (arith, outs_inside _ _ _ _ c.requires, c.requires.small)) tt
 
-add-members-3 : tie.Need-overflow-add-members-3
-add-members-3 c = Fits-under _ _ (2 ^ 33) (omega (arith, outs_inside _ _ _ _ c.before.before.requires, c.before.before.requires.small)) tt
+add-members-3 : tie.Need-overflow_add-members-3
+add-members-3 c = Fits-under _ _ (2 ^ 33) (omega (arith, outs_inside _ _ _ _ c.requires, c.requires.small)) tt
 
-sub-members : tie.Need-overflow-sub-members
-sub-members c = (outs_inside _ _ _ _ c.before.before.requires).1
+sub-members : tie.Need-overflow_sub-members
+sub-members c = (outs_inside _ _ _ _ c.requires).1
 
 transpose-requires : tie.Need-transpose-requires
-transpose-requires c κs = first_asked _ _ _ _ c.before.before.before.before.requires
+transpose-requires c κs = first_asked _ _ _ _ c.requires
 
-cut-level-requires : tie.Need-cut-level-requires
-cut-level-requires c κs = level_asked _ _ _ _ c.before.before.before.before.before.before.before.before.requires _ _ c.before.before.before.transpose.ensures
+cut-level-requires : tie.Need-cut_level-c-requires
+cut-level-requires c κs = level_asked _ _ _ _ c.requires _ _ c.transpose.ensures
 
-transpose-requires-2 : tie.Need-transpose-requires-2
-transpose-requires-2 c κs = second_asked _ _ _ _ c.before.before.before.before.before.before.before.before.before.before.before.before.requires _ _ c.before.before.before.before.before.before.before.transpose.ensures _ _ c.before.before.before.cut_level.ensures
+transpose-requires-2 : tie.Need-transpose-made-requires
+transpose-requires-2 c κs = second_asked _ _ _ _ c.requires _ _ c.transpose.ensures _ _ c.cut_level-c.ensures
 
 returns : tie.Need-returns
 returns c =
-    outputs_opened _ _ _ _ c.before.before.before.before.before.before.before.before.before.before.before.before.before.before.before.requires _ _ c.before.before.before.before.before.before.before.before.before.before.transpose.ensures _ _ c.before.before.before.before.before.before.cut_level.ensures _ _ c.before.before.transpose2.ensures
+    outputs_opened _ _ _ _ c.requires _ _ c.transpose.ensures _ _ c.cut_level-c.ensures _ _ c.transpose-made.ensures
 
-same_length : tie.Need-same-length
+same_length : tie.Need-shape_of-s
 same_length c = (returns c).size
 
 pub open_outputs_spec : {M : Type 1} → statement M

@@ -17,7 +17,7 @@ returns c =
     sym
     (ap amount_of (five_bytes start.args.bytes.now start.args.at start.requires) ∙ amount_said _ _ _ _ _
     ∙ omega
-    (arith, fourth.said-by.ensures.is, third.said-by2.ensures.is, second.said-by3.ensures.is, first.said-by4.ensures.is, c.first-said-by.ensures.is))
+    (arith, fourth.said_by.ensures.is, third.said_by-2.ensures.is, second.said_by-3.ensures.is, first.said_by-4.ensures.is, c.first_said_by.ensures.is))
 
 pub amount_at_spec : {M : Type 1} → statement M
 amount_at_spec =

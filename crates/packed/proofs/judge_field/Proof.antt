@@ -5,26 +5,26 @@ use Rattle.packed.proofs.Judged.{pairs_refused, last_refused, sign_judged}
 use Rattle.packed.proofs.judge_field.Statement.{statement}
 use Rattle.packed.proofs.judge_field.Tie as tie
 
-returns : tie.Need-returns
+returns : tie.Need-returns-then-count_pairs-lt4
 returns c =
     let counted = c.before in
     let start = counted.before.before in
-    pairs_refused _ _ _ start.requires (omega (arith, counted.count-pairs.ensures, c.if1.true))
+    pairs_refused _ _ _ start.requires (omega (arith, counted.count_pairs.ensures, c.if-count_pairs-lt4.true))
 
-returns-2 : tie.Need-returns-2
+returns-2 : tie.Need-returns-then-last-ge160
 returns-2 c =
     let test = c.before.before in
     let counted = test.before in
     let start = counted.before.before in
-    last_refused _ _ _ start.requires (omega (arith, counted.count-pairs.ensures, test.if1.false)) c.if2.true
+    last_refused _ _ _ start.requires (omega (arith, counted.count_pairs.ensures, test.if-count_pairs-lt4.false)) c.if-last-ge160.true
 
-returns-3 : tie.Need-returns-3
+returns-3 : tie.Need-returns
 returns-3 c =
     let last = c.before in
     let test = last.before.before in
     let counted = test.before in
     let start = counted.before.before in
-    sign_judged _ _ _ start.requires (omega (arith, counted.count-pairs.ensures, test.if1.false)) _ c.judge-sign.ensures last.if2.false
+    sign_judged _ _ _ start.requires (omega (arith, counted.count_pairs.ensures, test.if-count_pairs-lt4.false)) _ c.judge_sign.ensures last.if-last-ge160.false
 
 pub judge_field_spec : {M : Type 1} → statement M
 judge_field_spec =

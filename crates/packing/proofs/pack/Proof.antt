@@ -10,39 +10,39 @@ use Rattle.packed.proofs.Given.{Writable, writable}
 use Rattle.packing.proofs.pack.Statement.{statement}
 use Rattle.packing.proofs.pack.Tie as tie
 
-found_fine : (e : tie.After-enum-told)
+found_fine : (e : tie.In-Fine)
     → let s = e.before.before.before.before.before.args in
     fine ≡ writable_rule s.p s.q s.amounts.now
 found_fine e = told_fine _ _ e.before.before.judge-writable.ensures e.enum_told.given.1
 
-can_write : (e : tie.After-enum-told)
+can_write : (e : tie.In-Fine)
     → let s = e.before.before.before.before.before.args in
     Writable s.p s.q s.amounts.now
 can_write e = writable _ _ _ (sym (found_fine e))
 
-returns : tie.Need-returns
+returns : tie.Need-returns-then-bytes-amounts
 unfolding pack_rule pack_answer pack_bytes
 returns c =
-    refused_leaves _ _ _ _ 5 0 (too_short _ _ _ (found_fine c.before) (omega (arith, (can_write c.before).many, c.if1.true)))
+    refused_leaves _ _ _ _ 5 0 (too_short _ _ _ (found_fine c.before) (omega (arith, (can_write c.before).many, c.if-bytes-amounts.true)))
 
 store-requires : tie.Need-store-requires
 store-requires c κs =
     let room = c.before in
-    record { amounts_low = (can_write room.before).low; room = room.if1.false }
+    record { amounts_low = (can_write room.before).low; room = room.if-bytes-amounts.false }
 
-returns-2 : tie.Need-returns-2
+returns-2 : tie.Need-returns-in-Refused
 unfolding pack_rule pack_answer pack_bytes
 returns-2 c =
     refused_leaves _ _ _ _ _ _
-    (given_refused _ _ _ _ _ (told_refused_lem _ _ _ _ c.before.before.before.judge-writable.ensures c.before.number.given.1))
+    (given_refused _ _ _ _ _ (told_refused_lem _ _ _ _ c.judge_writable.ensures c.number-1.given.1))
 
-returns-3 : tie.Need-returns-3
+returns-3 : tie.Need-returns-else-bytes-amounts
 unfolding pack_rule pack_answer pack_bytes
 returns-3 c =
     let stored = c.before.before in
     let room = stored.before.before in
     let many = (can_write room.before).many in
-    rw (← many) (done_leaves _ _ _ _ _ (long_enough _ _ _ (found_fine room.before) (omega (arith, many, room.if1.false))) stored.store.ensures)
+    rw (← many) (done_leaves _ _ _ _ _ (long_enough _ _ _ (found_fine room.before) (omega (arith, many, room.if-bytes-amounts.false))) stored.store.ensures)
 
 pub pack_spec : {M : Type 1} → statement M
 pack_spec =

@@ -10,16 +10,16 @@ use Rattle.packing.proofs.Stored.{five_stored, field_parted}
 use Rattle.packing.proofs.put_field.Statement.{statement}
 use Rattle.packing.proofs.put_field.Tie as tie
 
-slice-write-bytes-2 : tie.Need-slice-write-bytes-2
+slice-write-bytes-2 : tie.Need-bounds-bytes-at-2
 slice-write-bytes-2 c = simp length-set (omega arith)
 
-slice-write-bytes-3 : tie.Need-slice-write-bytes-3
+slice-write-bytes-3 : tie.Need-bounds-bytes-at-3
 slice-write-bytes-3 c = simp length-set (omega arith)
 
-slice-write-bytes-4 : tie.Need-slice-write-bytes-4
+slice-write-bytes-4 : tie.Need-bounds-bytes-at-4
 slice-write-bytes-4 c = simp length-set (omega arith)
 
-slice-write-bytes-5 : tie.Need-slice-write-bytes-5
+slice-write-bytes-5 : tie.Need-bounds-bytes-at-5
 slice-write-bytes-5 c = simp length-set (omega arith)
 
 returns : tie.Need-returns
@@ -30,9 +30,9 @@ returns c =
     let one = two.before in
     let start = one.before.before in
     let first = one.pair.ensures in
-    let second = two.pair2.ensures in
-    let third = three.pair3.ensures in
-    let fourth = four.pair4.ensures in
+    let second = two.pair-2.ensures in
+    let third = three.pair-3.ensures in
+    let fourth = four.pair-4.ensures in
     five_stored start.args.bytes.now start.args.at _ _ _ _ _ start.requires.room
     ∙ ap (λ (l : List ℕ). laid start.args.at l start.args.bytes.now) (sym (field_parted start.args.amount start.requires.amount_low ∙ sym cc))
 

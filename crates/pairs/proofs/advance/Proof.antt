@@ -10,19 +10,19 @@ use Rattle.pairs.proofs.advance.Statement.{statement}
 use Rattle.pairs.proofs.advance.Tie as tie
 
 -- what the step asks, where the task is known
-judging : (k : tie.After-known-told)
+judging : (k : tie.In-Judging)
     → let g = k.before.task.given.0 in
     let i = k.before.before.before.before.args.i in
     (g.0 + i + 1 < 2 ^ 64) × (g.1.0 ≤ i)
 judging k = ready_judging _ _ _ _ _ _ _ k.before.task.given.1 k.before.before.before.before.requires
 
-multiplying : (k : tie.After-known-told2)
+multiplying : (k : tie.In-Multiplying)
     → let g = k.before.task2.given.0 in
     let a = k.before.before.before.before.args in
     Multiplies g.1.1.0 g.1.1.1.0 (StepCells g.0 a.i (by a.first a.second) (length a.cells.now))
 multiplying k = ready_multiplying _ _ _ _ _ _ _ _ _ k.before.task2.given.1 k.before.before.before.before.requires
 
-adding : (k : tie.After-known-told3)
+adding : (k : tie.In-Adding)
     → let g = k.before.task3.given.0 in
     let a = k.before.before.before.before.args in
     StepCells g.0 a.i (by a.first a.second) (length a.cells.now)

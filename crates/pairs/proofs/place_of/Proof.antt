@@ -8,17 +8,17 @@ use Rattle.pairs.proofs.place_of.Tie as tie
 found-requires : tie.Need-found-requires
 found-requires c κs = search rules
 
-enum-known-number : tie.Need-enum-known-number
+enum-known-number : tie.Need-enum_known-number
 enum-known-number c = search rules
 
-enum_told : tie.Need-enum-told
+enum_told : tie.Need-enum_told-1
 enum_told c = search rules
 
-returns : tie.Need-returns
-returns c = place_refused _ _ _ (told_refused_lem _ _ _ _ c.before.before.before.found.ensures c.before.number.given.1)
+returns : tie.Need-returns-in-Refused
+returns c = place_refused _ _ _ (told_refused_lem _ _ _ _ c.found.ensures c.number-1.given.1)
 
-returns-2 : tie.Need-returns-2
-returns-2 c = place_fine _ (told_fine _ _ c.before.before.found.ensures c.enum_told.given.1)
+returns-2 : tie.Need-returns-in-Fine
+returns-2 c = place_fine _ (told_fine _ _ c.found.ensures c.enum_told-1.given.1)
 
 pub place_of_spec : {M : Type 1} → statement M
 place_of_spec = tie.close (tie.spec found-requires enum-known-number enum_told returns returns-2)

@@ -10,7 +10,7 @@ use Rattle.pairs.proofs.run_end.Statement.{statement}
 use Rattle.pairs.proofs.run_end.Tie as tie
 
 -- nothing was found before, and so the run can end
-able : (e : tie.After-enum-told)
+able : (e : tie.In-Fine)
     → let a = e.before.before.before.before.before.before.args in
     RunEndAble a.n (squarings_in a.task) a.outputs.now (length a.values.now) (length a.figures.now)
 able e = e.before.before.before.before.before.before.requires (sym (told_fine _ _ e.before.before.found.ensures e.enum_told.given.1))

@@ -8,16 +8,16 @@ use Rattle.pairs.proofs.turns.Tie as tie
 found-requires : tie.Need-found-requires
 found-requires c κs = search rules
 
-enum-known-number : tie.Need-enum-known-number
+enum-known-number : tie.Need-enum_known-number
 enum-known-number c = search rules
 
-enum_told : tie.Need-enum-told
+enum_told : tie.Need-enum_told-1
 enum_told c = search rules
 
-returns : tie.Need-returns
-returns c = no_turns _ _ _ _ (told_refused_lem _ _ _ _ c.before.before.before.found.ensures c.before.number.given.1)
+returns : tie.Need-returns-in-Refused
+returns c = no_turns _ _ _ _ (told_refused_lem _ _ _ _ c.found.ensures c.number-1.given.1)
 
-returns-2 : tie.Need-returns-2
+returns-2 : tie.Need-returns-in-Fine
 returns-2 c = search (judging, turning)
 
 pub turns_spec : {M : Type 1} → statement M

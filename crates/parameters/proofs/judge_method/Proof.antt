@@ -5,34 +5,34 @@ use Rattle.parameters.proofs.Method.{first_fits, first_low, first_high, first_wi
 use Rattle.parameters.proofs.judge_method.Statement.{statement}
 use Rattle.parameters.proofs.judge_method.Tie as tie
 
-mul-if3 : tie.Need-overflow-mul-if3
+mul-if3 : tie.Need-overflow_mul-p
 mul-if3 c = let s = c.before.before.before in omega (arith, mul-le-mul_right s.args.k s.requires)
 
-returns : tie.Need-returns
+returns : tie.Need-returns-then-p-k-gt10
 returns c = first_wide _ _ _ (omega arith) (omega arith)
 
-returns-2 : tie.Need-returns-2
+returns-2 : tie.Need-returns-else-p-k-gt10
 returns-2 c = first_fits _ _ _ (omega arith) (omega arith) (omega arith) (omega arith)
 
-returns-3 : tie.Need-returns-3
+returns-3 : tie.Need-returns-in_default-k
 returns-3 c = first_low _ _ _ (omega arith) (omega arith)
 
-returns-4 : tie.Need-returns-4
+returns-4 : tie.Need-returns-in_default-k-3
 returns-4 c = first_high _ _ _ (omega arith) (omega arith)
 
-returns-5 : tie.Need-returns-5
+returns-5 : tie.Need-returns-in-1-to-8
 returns-5 c = second_fits _ _ _ (omega arith) (omega arith) (omega arith) (omega arith)
 
-returns-6 : tie.Need-returns-6
+returns-6 : tie.Need-returns-in_default-k-2
 returns-6 c = second_low _ _ _ (omega arith) (omega arith) (omega arith)
 
-returns-7 : tie.Need-returns-7
+returns-7 : tie.Need-returns-in_default-k-2-2
 returns-7 c = second_high _ _ _ (omega arith) (omega arith) (omega arith)
 
-returns-8 : tie.Need-returns-8
+returns-8 : tie.Need-returns-in_default
 returns-8 c = below_all _ _ _ (omega arith) (omega arith)
 
-returns-9 : tie.Need-returns-9
+returns-9 : tie.Need-returns-in_default-2
 returns-9 c = above_all _ _ _ (omega arith)
 
 pub judge_method_spec : {M : Type 1} → statement M

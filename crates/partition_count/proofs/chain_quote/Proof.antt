@@ -5,31 +5,31 @@ use Rattle.partition_count.proofs.Joining.{most_fits, quote_all}
 use Rattle.partition_count.proofs.chain_quote.Statement.{statement}
 use Rattle.partition_count.proofs.chain_quote.Tie as tie
 
-tables-count-requires : tie.Need-tables-count-requires
+tables-count-requires : tie.Need-tables_count-requires
 tables-count-requires c κs = search rules
 
-add-before : tie.Need-overflow-add-before
+add-before : tie.Need-overflow_add-before
 add-before c = search rules
 
-slice-aggregate-payslips-count : tie.Need-slice-aggregate-payslips-count
+slice-aggregate-payslips-count : tie.Need-slice_bounds-payslips_count-end
 slice-aggregate-payslips-count c = search rules
 
-payslips-count-requires : tie.Need-payslips-count-requires
+payslips-count-requires : tie.Need-payslips_count-requires
 payslips-count-requires c κs = search rules
 
-add-count : tie.Need-overflow-add-count
+add-count : tie.Need-overflow_add-count
 add-count c = search rules
 
 lessened-requires : tie.Need-lessened-requires
 lessened-requires c κs = search rules
 
-mul-ceiling : tie.Need-overflow-mul-ceiling
+mul-ceiling : tie.Need-overflow_mul-ceiling
 mul-ceiling c =
     let most = c.before in
     let s = most.before.before.before.before.before.before.before.before in
     omega (arith, most_fits s.args.s s.args.amounts.now s.args.bits.now s.requires _ most.lessened.ensures)
 
-add-ceiling : tie.Need-overflow-add-ceiling
+add-ceiling : tie.Need-overflow_add-ceiling
 add-ceiling c =
     let most = c.before in
     let tabled = most.before.before.before.before.before in
@@ -37,7 +37,7 @@ add-ceiling c =
     omega (
       arith,
       most_fits s.args.s s.args.amounts.now s.args.bits.now s.requires _ most.lessened.ensures,
-      tabled.tables-count.ensures.low,
+      tabled.tables_count.ensures.low,
       s.requires.cuts.squarings_few,
     )
 
@@ -47,7 +47,7 @@ returns c =
     let paid = most.before.before in
     let tabled = paid.before.before.before in
     let s = tabled.before.before.before in
-    quote_all s.args.s s.args.amounts.now s.args.bits.now s.requires _ _ _ tabled.tables-count.ensures.is paid.payslips-count.ensures.is
+    quote_all s.args.s s.args.amounts.now s.args.bits.now s.requires _ _ _ tabled.tables_count.ensures.is paid.payslips_count.ensures.is
     most.lessened.ensures
 
 pub chain_quote_spec : {M : Type 1} → statement M

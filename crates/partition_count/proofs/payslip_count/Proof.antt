@@ -6,32 +6,32 @@ use Rattle.partition_count.proofs.Joining.{joins_told}
 use Rattle.partition_count.proofs.payslip_count.Statement.{statement}
 use Rattle.partition_count.proofs.payslip_count.Tie as tie
 
-number-parts-requires : tie.Need-number-parts-requires
+number-parts-requires : tie.Need-number_parts-requires
 number-parts-requires c κs = search rules
 
-slice-reshare-prefix-joins : tie.Need-slice-reshare-prefix-joins
+slice-reshare-prefix-joins : tie.Need-slice_bounds-joins-end
 slice-reshare-prefix-joins c = search rules
 
-slice-aggregate-joins : tie.Need-slice-aggregate-joins
+slice-aggregate-joins : tie.Need-slice_bounds-joins-end-2
 slice-aggregate-joins c =
     let numbered = c.before.before.before in
-    let a = numbered.before.before.before.before.before.args in
-    numbers_long a.s a.amounts.now a.i _ _ numbered.number-parts.ensures
+    let a = numbered.args in
+    numbers_long a.s a.amounts.now a.i _ _ numbered.number_parts.ensures
 
 joins-requires : tie.Need-joins-requires
 joins-requires c κs =
     let numbered = c.before.before.before in
     let s = numbered.before.before.before.before.before in
-    omega (arith, numbers_long s.args.s s.args.amounts.now s.args.i _ _ numbered.number-parts.ensures, s.requires.grouped.cuts.groups_few)
+    omega (arith, numbers_long s.args.s s.args.amounts.now s.args.i _ _ numbered.number_parts.ensures, s.requires.grouped.cuts.groups_few)
 
-same_length : tie.Need-same-length
+same_length : tie.Need-shape_of-cells
 same_length c = search rules
 
 returns : tie.Need-returns
 returns c =
     let numbered = c.before.before.before.before in
-    let a = numbered.before.before.before.before.before.args in
-    record { is = joins_told a.s a.amounts.now a.i _ _ numbered.number-parts.ensures _ c.joins.ensures.is; low = c.joins.ensures.low }
+    let a = numbered.args in
+    record { is = joins_told a.s a.amounts.now a.i _ _ numbered.number_parts.ensures _ c.joins.ensures.is; low = c.joins.ensures.low }
 
 pub payslip_count_spec : {M : Type 1} → statement M
 payslip_count_spec =

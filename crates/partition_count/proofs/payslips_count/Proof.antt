@@ -11,48 +11,48 @@ use Rattle.partition.specs.Partition.{join_count}
 use Rattle.partition_count.proofs.payslips_count.Statement.{statement}
 use Rattle.partition_count.proofs.payslips_count.Tie as tie
 
-abbrev invariant-loop : tie.invariant-loop
+abbrev invariant-loop : tie.invariant-loop-i
 invariant-loop s amounts bits cells₀ n₀ i₀ cells n i =
     (i ≤ s.q) × (length cells ≡ length cells₀) × (n ≡ sum_to i (join_count s.p s.q amounts s.c s.groups)) × (n ≤ most_inputs * i)
 
-abbrev decreases-loop : tie.decreases-loop
+abbrev decreases-loop : tie.decreases-loop-i
 decreases-loop s amounts bits cells₀ n₀ i₀ cells n i = s.q - i
 
-loop-holds : tie.Need-loop-init invariant-loop decreases-loop
+loop-holds : tie.Need-loop-i-init invariant-loop decreases-loop
 loop-holds c = search rules
 
-payslip-count-requires : tie.Need-payslip-count-requires invariant-loop decreases-loop
+payslip-count-requires : tie.Need-payslip_count-n-requires invariant-loop decreases-loop
 payslip-count-requires c κs =
     let start = c.before.before.before in
     let s = start.before.before.before.before in
-    record { grouped = s.requires.grouped; inside = search rules; room = omega (arith, start.loop.invariant.1, s.requires.room) }
+    record { grouped = s.requires.grouped; inside = search rules; room = omega (arith, start.loop-i.invariant.1, s.requires.room) }
 
-add-n : tie.Need-overflow-add-n invariant-loop decreases-loop
+add-n : tie.Need-overflow_add-n invariant-loop decreases-loop
 add-n c =
     let start = c.before.before.before.before.before.before in
-    omega (arith, c.before.before.payslip-count.ensures.low, start.loop.invariant.3, start.before.before.before.before.requires.grouped.sheet.q_low)
+    omega (arith, c.payslip_count-n.ensures.low, start.loop-i.invariant.3, start.requires.grouped.sheet.q_low)
 
-add-i : tie.Need-overflow-add-i invariant-loop decreases-loop
+add-i : tie.Need-overflow_add-i invariant-loop decreases-loop
 add-i c = search rules
 
-loop-less : tie.Need-loop-smaller invariant-loop decreases-loop
+loop-less : tie.Need-loop-i-smaller invariant-loop decreases-loop
 loop-less c = search rules
 
-loop-again : tie.Need-loop-preserved invariant-loop decreases-loop
+loop-again : tie.Need-loop-i-preserved invariant-loop decreases-loop
 loop-again c =
     let paid = c.before.before in
     let start = c.before.before.before.before.before.before in
-    let on = sum_on _ start.loop.i _ _ paid.payslip-count.ensures.is start.loop.invariant.2 in
-    (search rules, search rules, on, omega (arith, start.loop.invariant.3, paid.payslip-count.ensures.low))
+    let on = sum_on _ start.loop-i.i _ _ paid.payslip_count-n.ensures.is start.loop-i.invariant.2 in
+    (search rules, search rules, on, omega (arith, start.loop-i.invariant.3, paid.payslip_count-n.ensures.low))
 
-same_length : tie.Need-same-length invariant-loop decreases-loop
+same_length : tie.Need-shape_of-cells invariant-loop decreases-loop
 same_length c = search rules
 
 returns : tie.Need-returns invariant-loop decreases-loop
 returns c =
     let start = c.before.before in
-    let q = start.before.before.before.before.args.s.q in
-    record { is = sum-end _ start.loop.i q _ (search rules) (search rules) start.loop.invariant.2; low = search rules }
+    let q = start.args.s.q in
+    record { is = sum-end _ start.loop-i.i q _ (search rules) (search rules) start.loop-i.invariant.2; low = search rules }
 
 pub payslips_count_spec : {M : Type 1} → statement M
 payslips_count_spec =

@@ -6,33 +6,33 @@ use Rattle.partition_count.proofs.Joining.{quote_given}
 use Rattle.partition_count.proofs.quote.Statement.{statement}
 use Rattle.partition_count.proofs.quote.Tie as tie
 
-slice-aggregate-group-columns : tie.Need-slice-aggregate-group-columns
+slice-aggregate-group-columns : tie.Need-slice_bounds-group_columns-end
 slice-aggregate-group-columns c = search rules
 
-group-columns-requires : tie.Need-group-columns-requires
+group-columns-requires : tie.Need-group_columns-s-requires
 group-columns-requires c κs = search rules
 
-array-share-prefix-bits : tie.Need-array-share-prefix-bits
+array-share-prefix-bits : tie.Need-slice_bounds-bits-end
 array-share-prefix-bits c = search rules
 
-slice-aggregate-chain-quote : tie.Need-slice-aggregate-chain-quote
+slice-aggregate-chain-quote : tie.Need-slice_bounds-chain_quote-end
 slice-aggregate-chain-quote c =
     let g = c.before.before in
     let s = g.before.before.before.before in
-    let told = sheet_grouped s.requires g.group-columns.ensures in
+    let told = sheet_grouped s.requires g.group_columns-s.ensures in
     sym (grouped_long told.grouped ∙ told.same_p)
 
-chain-quote-requires : tie.Need-chain-quote-requires
+chain-quote-requires : tie.Need-chain_quote-requires
 chain-quote-requires c κs =
     let g = c.before.before in
     let s = g.before.before.before.before in
-    (sheet_grouped s.requires g.group-columns.ensures).grouped
+    (sheet_grouped s.requires g.group_columns-s.ensures).grouped
 
 returns : tie.Need-returns
 returns c =
     let g = c.before.before.before in
     let s = g.before.before.before.before in
-    quote_given (sheet_grouped s.requires g.group-columns.ensures) c.chain-quote.ensures
+    quote_given (sheet_grouped s.requires g.group_columns-s.ensures) c.chain_quote.ensures
 
 pub quote_spec : {M : Type 1} → statement M
 quote_spec =

@@ -6,47 +6,47 @@ use Rattle.partition_emit.proofs.Whole.{chain_given, room_given}
 use Rattle.partition_emit.proofs.emit.Statement.{statement}
 use Rattle.partition_emit.proofs.emit.Tie as tie
 
-slice-aggregate-group-columns : tie.Need-slice-aggregate-group-columns
+slice-aggregate-group-columns : tie.Need-slice_bounds-group_columns-end
 slice-aggregate-group-columns c = search rules
 
-group-columns-requires : tie.Need-group-columns-requires
+group-columns-requires : tie.Need-group_columns-s-requires
 group-columns-requires c κs = search rules
 
-array-share-prefix-bits : tie.Need-array-share-prefix-bits
+array-share-prefix-bits : tie.Need-slice_bounds-bits-end
 array-share-prefix-bits c = search rules
 
-slice-aggregate-make-chain : tie.Need-slice-aggregate-make-chain
+slice-aggregate-make-chain : tie.Need-slice_bounds-make_chain-end
 slice-aggregate-make-chain c =
     let g = c.before.before in
     let s = g.before.before.before.before.before.before in
-    let told = sheet_grouped s.requires.asked g.group-columns.ensures in
+    let told = sheet_grouped s.requires.asked g.group_columns-s.ensures in
     sym (grouped_long told.grouped ∙ told.same_p)
 
-slice-aggregate-make-chain-2 : tie.Need-slice-aggregate-make-chain-2
+slice-aggregate-make-chain-2 : tie.Need-slice_bounds-make_chain-end-2
 slice-aggregate-make-chain-2 c = search rules
 
-slice-aggregate-make-chain-3 : tie.Need-slice-aggregate-make-chain-3
+slice-aggregate-make-chain-3 : tie.Need-slice_bounds-make_chain-end-3
 slice-aggregate-make-chain-3 c = search rules
 
-make-chain-requires : tie.Need-make-chain-requires
+make-chain-requires : tie.Need-make_chain-requires
 make-chain-requires c κs =
     let g = c.before.before.before.before.before.before in
     let s = g.before.before.before.before.before.before in
-    let told = sheet_grouped s.requires.asked g.group-columns.ensures in
+    let told = sheet_grouped s.requires.asked g.group_columns-s.ensures in
     let room = room_given told s.requires.room in
     record { grouped = told.grouped; members_room = search rules; cells_room = search rules; fits = room }
 
-same_length : tie.Need-same-length
+same_length : tie.Need-shape_of-steps
 same_length c = search rules
 
-same-length-2 : tie.Need-same-length-2
+same-length-2 : tie.Need-shape_of-outputs
 same-length-2 c = search rules
 
 returns : tie.Need-returns
 returns c =
     let g = c.before.before.before.before.before.before.before.before.before.before.before.before.before in
     let s = g.before.before.before.before.before.before in
-    chain_given (sheet_grouped s.requires.asked g.group-columns.ensures) c.before.before.before.before.before.before.make-chain.ensures
+    chain_given (sheet_grouped s.requires.asked g.group_columns-s.ensures) c.make_chain.ensures
 
 pub emit_spec : {M : Type 1} → statement M
 emit_spec =

@@ -10,34 +10,34 @@ use Rattle.partition_emit.proofs.Paying.{payslip_is, payslip_numbered}
 use Rattle.partition_emit.proofs.make_payslip.Statement.{statement}
 use Rattle.partition_emit.proofs.make_payslip.Tie as tie
 
-number-parts-requires : tie.Need-number-parts-requires
+number-parts-requires : tie.Need-number_parts-requires
 number-parts-requires c κs = search rules
 
-slice-reshare-prefix-make-parts : tie.Need-slice-reshare-prefix-make-parts
+slice-reshare-prefix-make-parts : tie.Need-slice_bounds-make_parts-end
 slice-reshare-prefix-make-parts c = search rules
 
-slice-aggregate-make-parts : tie.Need-slice-aggregate-make-parts
+slice-aggregate-make-parts : tie.Need-slice_bounds-make_parts-end-2
 slice-aggregate-make-parts c =
     let numbered = c.before.before.before in
-    let a = numbered.before.before.before.before.before.before.before.args in
-    numbers_long a.s a.amounts.now a.i _ _ numbered.number-parts.ensures
+    let a = numbered.args in
+    numbers_long a.s a.amounts.now a.i _ _ numbered.number_parts.ensures
 
-make-parts-requires : tie.Need-make-parts-requires
+make-parts-requires : tie.Need-make_parts-requires
 make-parts-requires c κs =
     let numbered = c.before.before.before.before in
     let s = numbered.before.before.before.before.before.before.before in
     let a = s.args in
-    let numbers : List ℕ = take a.s.groups numbered.number-parts.new.1.1.1.1.0 in
-    let at = numbers_at a.s a.amounts.now a.i _ _ numbered.number-parts.ensures in
-    let long = numbers_long a.s a.amounts.now a.i _ _ numbered.number-parts.ensures in
+    let numbers : List ℕ = take a.s.groups numbered.number_parts.new.1.1.1.1.0 in
+    let at = numbers_at a.s a.amounts.now a.i _ _ numbered.number_parts.ensures in
+    let long = numbers_long a.s a.amounts.now a.i _ _ numbered.number_parts.ensures in
     let same = payslip_is s.requires.ready a.i numbers at (steps_in a.steps.now a.progress.steps) in
     let ready = payslip_numbered s.requires.ready a.i numbers at (sym long) in
     record { asked = ready; room = rw same s.requires.room }
 
-same_length : tie.Need-same-length
+same_length : tie.Need-shape_of-cells
 same_length c = search rules
 
-same-length-2 : tie.Need-same-length-2
+same-length-2 : tie.Need-shape_of-steps
 same-length-2 c = search rules
 
 returns : tie.Need-returns
@@ -46,10 +46,10 @@ returns c =
     let numbered = c.before.before.before.before.before.before.before in
     let s = numbered.before.before.before.before.before.before.before in
     let a = s.args in
-    let numbers : List ℕ = take a.s.groups numbered.number-parts.new.1.1.1.1.0 in
-    let at = numbers_at a.s a.amounts.now a.i _ _ numbered.number-parts.ensures in
+    let numbers : List ℕ = take a.s.groups numbered.number_parts.new.1.1.1.1.0 in
+    let at = numbers_at a.s a.amounts.now a.i _ _ numbered.number_parts.ensures in
     let same = payslip_is s.requires.ready a.i numbers at (steps_in a.steps.now a.progress.steps) in
-    rw (← same) made.make-parts.ensures
+    rw (← same) made.make_parts.ensures
 
 pub make_payslip_spec : {M : Type 1} → statement M
 make_payslip_spec =

@@ -5,51 +5,51 @@ use Rattle.phrases.proofs.Phrases.{place_low, phrase_cut, phrase_rises, phrase_w
 use Rattle.phrases.proofs.phrase.Statement.{statement}
 use Rattle.phrases.proofs.phrase.Tie as tie
 
-phrase-place-requires : tie.Need-phrase-place-requires
+phrase-place-requires : tie.Need-phrase_place-n-requires
 phrase-place-requires c κs = search rules
 
-phrase-start-requires : tie.Need-phrase-start-requires
-phrase-start-requires c κs = omega (arith, place_low c.before.before.args.number, c.phrase-place.ensures)
+phrase-start-requires : tie.Need-phrase_start-from-requires
+phrase-start-requires c κs = omega (arith, place_low c.args.number, c.phrase_place-n.ensures)
 
-add-phrase-start : tie.Need-overflow-add-phrase-start
-add-phrase-start c = omega (arith, place_low c.before.before.before.args.number, c.before.phrase-place.ensures)
+add-phrase-start : tie.Need-overflow_add-n
+add-phrase-start c = omega (arith, place_low c.args.number, c.phrase_place-n.ensures)
 
-phrase-start-requires-2 : tie.Need-phrase-start-requires-2
-phrase-start-requires-2 c κs = omega (arith, place_low c.before.before.before.args.number, c.before.phrase-place.ensures)
+phrase-start-requires-2 : tie.Need-phrase_start-end-requires
+phrase-start-requires-2 c κs = omega (arith, place_low c.args.number, c.phrase_place-n.ensures)
 
-sub-if1 : tie.Need-overflow-sub-if1
+sub-if1 : tie.Need-overflow_sub-end
 sub-if1 c = search phrase_rises
 
-returns : tie.Need-returns
+returns : tie.Need-returns-then-text-end
 returns c =
     let ends = c.before.before in
     let begins = ends.before in
     let is = begins.before in
-    let long = phrase-length _ _ _ _ is.phrase-place.ensures begins.phrase-start.ensures ends.phrase-start2.ensures in
-    phrase_refused _ _ (rw long at c.before.if1.true)
+    let long = phrase-length _ _ _ _ is.phrase_place-n.ensures begins.phrase_start-from.ensures ends.phrase_start-end.ensures in
+    phrase_refused _ _ (rw long at c.if-text-end.true)
 
 slice-aggregate-put-part : tie.Need-slice-aggregate-put-part
 slice-aggregate-put-part c = search rules
 
-put-part-requires : tie.Need-put-part-requires
+put-part-requires : tie.Need-put_part-requires
 put-part-requires c κs = (search phrase_rises, search phrase_within, search rules)
 
 sub-t8 : tie.Need-overflow-sub-t8
 sub-t8 c = search phrase_rises
 
-same_length : tie.Need-same-length
+same_length : tie.Need-shape_of-text
 same_length c = search rules
 
-returns-2 : tie.Need-returns-2
+returns-2 : tie.Need-returns
 returns-2 c =
     let put = c.before.before.before in
     let test = put.before.before.before in
     let ends = test.before in
     let begins = ends.before in
     let is = begins.before in
-    let long = phrase-length _ _ _ _ is.phrase-place.ensures begins.phrase-start.ensures ends.phrase-start2.ensures in
-    let says = phrase_cut _ _ _ _ is.phrase-place.ensures begins.phrase-start.ensures ends.phrase-start2.ensures in
-    phrase_told _ _ _ _ (rw long at test.if1.false) long (rw says at put.put-part.ensures)
+    let long = phrase-length _ _ _ _ is.phrase_place-n.ensures begins.phrase_start-from.ensures ends.phrase_start-end.ensures in
+    let says = phrase_cut _ _ _ _ is.phrase_place-n.ensures begins.phrase_start-from.ensures ends.phrase_start-end.ensures in
+    phrase_told _ _ _ _ (rw long at test.if-text-end.false) long (rw says at put.put_part.ensures)
 
 pub phrase_spec : {M : Type 1} → statement M
 phrase_spec =

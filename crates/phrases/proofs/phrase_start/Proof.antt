@@ -7,10 +7,10 @@ use Rattle.phrases.proofs.Phrases.{start_listed}
 use Rattle.phrases.proofs.phrase_start.Statement.{statement}
 use Rattle.phrases.proofs.phrase_start.Tie as tie
 
-mul-result : tie.Need-overflow-mul-result
+mul-result : tie.Need-offset_bounds-n
 mul-result c = search rules
 
-array-read-result : tie.Need-array-read-result
+array-read-result : tie.Need-bounds-n
 array-read-result c = search rules
 
 returns : tie.Need-returns

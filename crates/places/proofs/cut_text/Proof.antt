@@ -4,7 +4,7 @@ use Rattle.places.specs.Places.{cut_text}
 use Rattle.places.proofs.cut_text.Statement.{statement}
 use Rattle.places.proofs.cut_text.Tie as tie
 
-add-refuse : tie.Need-overflow-add-refuse
+add-refuse : tie.Need-overflow_add-text
 add-refuse c = search rules
 
 refuse-requires : tie.Need-refuse-requires

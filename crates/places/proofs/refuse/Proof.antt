@@ -5,11 +5,11 @@ use Rattle.places.specs.Places.{refused_at}
 use Rattle.places.proofs.refuse.Statement.{statement}
 use Rattle.places.proofs.refuse.Tie as tie
 
-spot-of-requires : tie.Need-spot-of-requires
+spot-of-requires : tie.Need-spot_of-spot-requires
 spot-of-requires c κs = search rules
 
 returns : tie.Need-returns
-returns c = let a = c.before.before.args in ap (λ spot. refused_at a.fault spot a.found a.wanted) c.spot_of_lem.ensures
+returns c = let a = c.args in ap (λ spot. refused_at a.fault spot a.found a.wanted) c.spot_of_lem.ensures
 
 pub refuse_spec : {M : Type 1} → statement M
 refuse_spec = tie.close (tie.spec spot-of-requires returns)

@@ -11,11 +11,11 @@ use Rattle.pool.proofs.count_on.Statement.{statement}
 use Rattle.pool.proofs.count_on.Tie as tie
 
 -- the place told is low
-add-t6 : tie.Need-overflow-add-t6
+add-t6 : tie.Need-overflow_add-result
 add-t6 c =
     let told = c.before in
     let start = told.before.before in
-    let is = ap (λ (j : Judgement). place_in (verdict_of j)) told.found.given.1 in
+    let is = ap (λ (j : Judgement). place_in (verdict_of j)) told.found-1.given.1 in
     record { fits = omega (arith, is, start.requires) }
 
 pub count_on_spec : {M : Type 1} → statement M

@@ -14,8 +14,8 @@ use Rattle.pool.proofs.judge_steps.Statement.{statement}
 use Rattle.pool.proofs.judge_steps.Tie as tie
 
 -- the squarings of both parts
-module _ (c : tie.After-squarings2) where
-  abbrev told : tie.After-squarings1
+module _ (c : tie.In-Fine-judge_steps-2) where
+  abbrev told : tie.In-Fine-2
   told = c.before.before.before.before
 
   both : let s = told.before.before.before.before.before.args in
@@ -25,14 +25,14 @@ module _ (c : tie.After-squarings2) where
       (found_number _ _ _ c.before.before.judge-steps2.ensures _ c.squarings2.given.1)
 
 -- the place told is low
-add-t17 : tie.Need-overflow-add-t17
+add-t17 : tie.Need-overflow_add-result
 add-t17 c =
     let judged = c.before.before.before in
     let start = judged.before.before.before.before.before.before.before in
-    let place = found_refused _ _ _ judged.judge-steps2.ensures _ _ c.before.number2.given.1 in
+    let place = found_refused _ _ _ judged.judge_steps-in-Fine.ensures _ _ c.number-in-Refused-judge_steps-2-1.given.1 in
     record { fits = omega (arith, steps_place_low _ start.args.steps2.now _ place start.requires.n'_low, start.requires.n_low) }
 
-add-t18 : tie.Need-overflow-add-t18
+add-t18 : tie.Need-overflow_add-result-in-Fine-judge_steps
 add-t18 c =
     let start = (told c.before).before.before.before.before.before in
     let s = start.args in

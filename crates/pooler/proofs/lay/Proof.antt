@@ -11,31 +11,31 @@ use Rattle.pooler.proofs.Laid.{length-laid, number_laid}
 use Rattle.pooler.proofs.lay.Statement.{statement}
 use Rattle.pooler.proofs.lay.Tie as tie
 
-abbrev invariant-loop : tie.invariant-loop
+abbrev invariant-loop : tie.invariant-loop-i
 invariant-loop to numbers count at cells₀ i₀ cells i = LaidTo (map (renumbered to.p to.n) (take count numbers)) at cells₀ i cells
 
-abbrev decreases-loop : tie.decreases-loop
+abbrev decreases-loop : tie.decreases-loop-i
 decreases-loop to numbers count at cells₀ i₀ cells i = count - i
 
 renumber-requires : tie.Need-renumber-requires invariant-loop decreases-loop
 renumber-requires c κs =
     let start = c.before.before.before.before.before in
-    start.requires.renumberable.low c.before.before.loop.i c.before.loop-test.true
+    start.requires.renumberable.low c.loop-i.i c.loop-i-test.true
 
-loop-again : tie.Need-loop-preserved invariant-loop decreases-loop
+loop-again : tie.Need-loop-i-preserved invariant-loop decreases-loop
 loop-again c =
     let turn = c.before.before in
     let start = turn.before.before.before.before in
     let there = start.requires.renumberable.there in
     let long = length-laid start.args.to.p start.args.to.n start.args.count start.args.numbers.now there in
-    lay_more _ _ _ _ _ _ (omega (arith, long, turn.loop-test.true)) (omega (arith, long, start.requires.room))
-    (c.renumber.ensures ∙ number_laid _ _ _ _ _ turn.loop-test.true there) turn.before.loop.invariant
+    lay_more _ _ _ _ _ _ (omega (arith, long, turn.loop-i-test.true)) (omega (arith, long, start.requires.room))
+    (c.renumber.ensures ∙ number_laid _ _ _ _ _ turn.loop-i-test.true there) turn.loop-i.invariant
 
 returns : tie.Need-returns invariant-loop decreases-loop
 returns c =
     let start = c.before.before.before.before in
     let long = length-laid start.args.to.p start.args.to.n start.args.count start.args.numbers.now start.requires.renumberable.there in
-    lay_all _ _ _ _ _ (omega (arith, long, c.loop-test.false)) c.before.loop.invariant
+    lay_all _ _ _ _ _ (omega (arith, long, c.loop-i-test.false)) c.loop-i.invariant
 
 pub lay_spec : {M : Type 1} → statement M
 lay_spec =

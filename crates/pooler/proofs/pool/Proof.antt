@@ -18,80 +18,80 @@ use Rattle.pooler.proofs.pool.Statement.{statement}
 use Rattle.pooler.proofs.pool.Tie as tie
 
 -- the two parts, against which nothing was found
-abbrev first : tie.After-known-told2 → Part
+abbrev first : tie.In-Fine → Part
 first e = let s = e.before.before.before.before.before.before.before.before.before.before.args in part s.p1 (pairs s.steps1.now) s.outputs1.now
 
-abbrev second : tie.After-known-told2 → Part
+abbrev second : tie.In-Fine → Part
 second e = let s = e.before.before.before.before.before.before.before.before.before.before.args in part s.p2 (pairs s.steps2.now) s.outputs2.now
 
-agreed : (e : tie.After-known-told2) → fine ≡ poolable_rule (first e) (second e)
+agreed : (e : tie.In-Fine) → fine ≡ poolable_rule (first e) (second e)
 agreed e = found_fine _ _ _ e.before.before.before.judge-parts.ensures _ e.before.squarings.given.1
 
 -- the squarings of both are the pool's
-counted : (e : tie.After-known-told2) → e.before.squarings.given.0.0 ≡ squarings_of (pooled_steps (first e) (second e))
+counted : (e : tie.In-Fine) → e.before.squarings.given.0.0 ≡ squarings_of (pooled_steps (first e) (second e))
 counted e =
     found_number _ _ _ e.before.before.before.judge-parts.ensures _ e.before.squarings.given.1 ∙ sym (squarings_pooled (first e) (second e))
 
-both : (e : tie.After-known-told2) → Poolable (first e) (second e)
+both : (e : tie.In-Fine) → Poolable (first e) (second e)
 both e = poolable _ _ (sym (agreed e))
 
-pool_of : (e : tie.After-known-told2)
+pool_of : (e : tie.In-Fine)
     → let s = e.before.before.before.before.before.before.before.before.before.before.args in
     FlatPool s.p1 s.p2 s.steps1.now s.steps2.now s.outputs1.now s.outputs2.now
 pool_of e = flat_pool _ _ _ _ _ _
 
 -- together they are few
-few : (e : tie.After-known-told2)
+few : (e : tie.In-Fine)
     → let s = e.before.before.before.before.before.before.before.before.before.before.args in
     length s.steps1.now / 2 + length s.steps2.now / 2 ≤ most_steps
 few e =
     let s = e.before.before.before.before.before.before.before.before.before.before.args in
     omega (arith, (both e).few, length_pairs s.steps1.now, length_pairs s.steps2.now)
 
-add-if1 : tie.Need-overflow-add-if1
+add-if1 : tie.Need-overflow_add-n1
 add-if1 c = record { fits = omega (arith, few c) }
 
-returns : tie.Need-returns
+returns : tie.Need-returns-then-steps-n1
 returns c =
     let e = c.before in
-    refused_leaves _ _ _ _ 5 0 (steps_short _ _ _ _ (agreed e) (omega (arith, (pool_of e).count, c.if1.true)))
+    refused_leaves _ _ _ _ 5 0 (steps_short _ _ _ _ (agreed e) (omega (arith, (pool_of e).count, c.if-steps-n1.true)))
 
-add-if2 : tie.Need-overflow-add-if2
+add-if2 : tie.Need-overflow_add-outputs1
 add-if2 c = record { fits = omega (arith, (both c.before).payslips) }
 
-returns-2 : tie.Need-returns-2
+returns-2 : tie.Need-returns-then-outputs-outputs1
 returns-2 c =
     let e = c.before.before in
-    refused_leaves _ _ _ _ 5 0 (outputs_short _ _ _ _ (agreed e) (omega (arith, (pool_of e).payslips, c.if2.true)))
+    refused_leaves _ _ _ _ 5 0 (outputs_short _ _ _ _ (agreed e) (omega (arith, (pool_of e).payslips, c.if-outputs-outputs1.true)))
 
-cast-t22 : tie.Need-overflow-cast-t22
+cast-t22 : tie.Need-overflow_cast-to
 cast-t22 c = record { fits = omega (arith, (both c.before.before).sizes') }
 
-cast-t23 : tie.Need-overflow-cast-t23
+cast-t23 : tie.Need-overflow_cast-to-in-Fine
 cast-t23 c = record { fits = omega (arith, few c.before.before) }
 
-mul-put : tie.Need-overflow-mul-put
+mul-put : tie.Need-overflow_mul-n1
 mul-put c = record { fits = omega (arith, few c.before.before) }
 
-mul-put-2 : tie.Need-overflow-mul-put-2
+mul-put-2 : tie.Need-overflow_mul-n2
 mul-put-2 c = record { fits = omega (arith, few c.before.before) }
 
 put-requires : tie.Need-put-requires
 put-requires c κs =
     let e = c.before.before.before in
-    let s = e.before.before.before.before.before.before.before.before.before.before.args in
+    let s = e.args in
     let are = both e in
     let low = few e in
     record {
       first_fits = steps_renumberable s.p1 0 _ are.sizes.p_low (omega arith) (omega (arith, low)) s.steps1.now refl are.steps_fine;
       second_fits = steps_renumberable s.p2 _ _ are.sizes'.p_low (omega (arith, low)) (omega (arith, low)) s.steps2.now refl are.steps_fine';
-      room = omega (arith, c.before.before.if1.false);
+      room = omega (arith, c.if-steps-n1.false);
     }
 
-put-requires-2 : tie.Need-put-requires-2
+put-requires-2 : tie.Need-put-requires-in-Fine
 put-requires-2 c κs =
     let e = c.before.before.before.before.before.before.before in
-    let s = e.before.before.before.before.before.before.before.before.before.before.args in
+    let s = e.args in
     let are = both e in
     let low = few e in
     record {
@@ -101,24 +101,24 @@ put-requires-2 c κs =
       second_fits =
           outputs_renumberable s.p2 _ (length (pairs s.steps2.now)) are.sizes'.p_low (omega (arith, low)) (omega (arith, are.few)) s.outputs2.now
           are.outputs_fine';
-      room = omega (arith, c.before.before.before.before.before.if2.false);
+      room = omega (arith, c.if-outputs-outputs1.false);
     }
 
-add-counts-of : tie.Need-overflow-add-counts-of
+add-counts-of : tie.Need-overflow_add-n1-in-Fine
 add-counts-of c = record { fits = omega (arith, few c.before.before.before.before.before.before.before.before.before.before) }
 
-counts-of-requires : tie.Need-counts-of-requires
+counts-of-requires : tie.Need-counts_of-requires
 counts-of-requires c κs =
     let e = c.before.before.before.before.before.before.before.before.before.before in
     omega (arith, counted e, squarings_few (pooled_steps (first e) (second e)), (pool_of e).count)
 
-returns-3 : tie.Need-returns-3
+returns-3 : tie.Need-returns-in-Refused
 returns-3 c =
     let judged = c.before.before.before in
     refused_leaves _ _ _ _ _ _
-    (parts_refused _ _ _ _ _ _ (found_refused _ _ _ judged.judge-parts.ensures _ _ c.before.number.given.1))
+    (parts_refused _ _ _ _ _ _ (found_refused _ _ _ judged.judge_parts.ensures _ _ c.number-1.given.1))
 
-returns-4 : tie.Need-returns-4
+returns-4 : tie.Need-returns-else-outputs-outputs1
 returns-4 c =
     let put-outputs = c.before.before.before in
     let put-steps = put-outputs.before.before.before.before in
@@ -126,11 +126,11 @@ returns-4 c =
     let e = room.before.before in
     let s = e.before.before.before.before.before.before.before.before.before.before.args in
     let pool = pool_of e in
-    let told = c.Counts-of.ensures ∙ counts_are (pooled_steps (first e) (second e)) _ _ pool.count (counted e) in
+    let told = c.counts_of.ensures ∙ counts_are (pooled_steps (first e) (second e)) _ _ pool.count (counted e) in
     pooled_leaves _ _ s.steps.now s.outputs.now _ _ _
     (room_enough _ _ _ _ (agreed e) (omega (arith, pool.count, room.before.if1.false)) (omega (arith, pool.payslips, room.if2.false))) told
     (put-steps.put.ensures ∙ ap (λ (l : List ℕ). over l s.steps.now) pool.steps)
-    (put-outputs.put2.ensures ∙ ap (λ (l : List ℕ). over l s.outputs.now) pool.outputs)
+    (put-outputs.put-in-Fine.ensures ∙ ap (λ (l : List ℕ). over l s.outputs.now) pool.outputs)
 
 pub pool_spec : {M : Type 1} → statement M
 pool_spec =

@@ -8,4 +8,4 @@ use Rattle.pooler.proofs.renumber.Tie as tie
 pub renumber_spec : {M : Type 1} → statement M
 renumber_spec =
     tie.close
-    (tie.spec (λ c. search rules) (λ c. sym (renumbered_step_lem _ _ _ c.before.if1.true)) (λ c. sym (renumbered_start _ _ _ c.if1.false)))
+    (tie.spec (λ c. search rules) (λ c. sym (renumbered_step_lem _ _ _ c.if-to-v.true)) (λ c. sym (renumbered_start _ _ _ c.if-to-v.false)))

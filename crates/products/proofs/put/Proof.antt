@@ -7,10 +7,10 @@ use Rattle.products.proofs.put.Statement.{statement}
 use Rattle.products.proofs.put.Tie as tie
 
 -- the squarings so far are no more than the steps, and those fit the slice
-add-squarings : tie.Need-overflow-add-t8
+add-squarings : tie.Need-overflow_add-result
 add-squarings c =
-    let room = c.before.before.before.before.requires in
-    omega (arith, squarings_within _ _ room.so_far, room.enough, c.before.squaring.ensures.low)
+    let room = c.requires in
+    omega (arith, squarings_within _ _ room.so_far, room.enough, c.squaring.ensures.low)
 
 pub put_spec : {M : Type 1} → statement M
 put_spec =

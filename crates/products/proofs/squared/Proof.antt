@@ -9,31 +9,31 @@ use Rattle.products.proofs.Emitters.{squaring}
 use Rattle.products.proofs.squared.Statement.{statement}
 use Rattle.products.proofs.squared.Tie as tie
 
-abbrev invariant-loop : tie.invariant-loop
+abbrev invariant-loop : tie.invariant-loop-i
 invariant-loop p k steps₀ r₀ i₀ steps r i =
     (i ≤ k)
     × (length steps ≡ length steps₀)
     × Emitted steps₀ steps r.progress r.value (squared p i (made (steps_in steps₀ r₀.progress.steps) r₀.value))
 
-abbrev decreases-loop : tie.decreases-loop
+abbrev decreases-loop : tie.decreases-loop-i
 decreases-loop p k steps₀ r₀ i₀ steps r i = k - i
 
-loop-holds : tie.Need-loop-init invariant-loop decreases-loop
+loop-holds : tie.Need-loop-i-init invariant-loop decreases-loop
 loop-holds c = search (rules, squaring)
 
-times-requires : tie.Need-times-requires invariant-loop decreases-loop
+times-requires : tie.Need-times-r-requires invariant-loop decreases-loop
 times-requires c κs = search squaring
 
-add-i : tie.Need-overflow-add-i invariant-loop decreases-loop
+add-i : tie.Need-overflow_add-i invariant-loop decreases-loop
 add-i c = search rules
 
-loop-less : tie.Need-loop-smaller invariant-loop decreases-loop
+loop-less : tie.Need-loop-i-smaller invariant-loop decreases-loop
 loop-less c = search rules
 
-loop-again : tie.Need-loop-preserved invariant-loop decreases-loop
+loop-again : tie.Need-loop-i-preserved invariant-loop decreases-loop
 loop-again c = (search rules, search rules, search squaring)
 
-same_length : tie.Need-same-length invariant-loop decreases-loop
+same_length : tie.Need-shape_of-steps invariant-loop decreases-loop
 same_length c = search rules
 
 returns : tie.Need-returns invariant-loop decreases-loop

@@ -12,24 +12,24 @@ given s = in_range _ _ _ _ _ s.requires.passed
 quote-requires : tie.Need-quote-requires
 quote-requires c κs = first_asks (given c.before.before.before) (omega arith)
 
-quote-requires-2 : tie.Need-quote-requires-2
+quote-requires-2 : tie.Need-quote-requires-in-2
 quote-requires-2 c κs =
     let s = c.before.before.before in
     other_asks (given s) s.requires.measured (λ e. omega arith)
 
-quote-requires-3 : tie.Need-quote-requires-3
+quote-requires-3 : tie.Need-quote-requires-in_default
 quote-requires-3 c κs =
     let s = c.before.before.before in
     other_asks (given s) s.requires.measured (λ e. omega arith)
 
-returns : tie.Need-returns
+returns : tie.Need-returns-in-1
 returns c = quoted (is_straus _ _ _ _ _ (omega arith)) c.quote.ensures
 
-returns-2 : tie.Need-returns-2
-returns-2 c = quoted (is_yao _ _ _ _ _ (omega arith)) c.quote2.ensures
+returns-2 : tie.Need-returns-in-2
+returns-2 c = quoted (is_yao _ _ _ _ _ (omega arith)) c.quote-in-2.ensures
 
-returns-3 : tie.Need-returns-3
-returns-3 c = quoted (is_partition _ _ _ _ _ (λ e. omega arith) (λ e. omega arith)) c.quote3.ensures
+returns-3 : tie.Need-returns-in_default
+returns-3 c = quoted (is_partition _ _ _ _ _ (λ e. omega arith) (λ e. omega arith)) c.quote-in_default.ensures
 
 pub quote_spec : {M : Type 1} → statement M
 quote_spec =

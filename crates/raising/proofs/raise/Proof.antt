@@ -7,24 +7,24 @@ use Rattle.raising.proofs.Raising.{RaisedTo, raise_none, raise_room, raise_low, 
 use Rattle.raising.proofs.raise.Statement.{statement}
 use Rattle.raising.proofs.raise.Tie as tie
 
-abbrev invariant-loop : tie.invariant-loop
+abbrev invariant-loop : tie.invariant-loop-i
 invariant-loop s₀ from to k r e₀ i₀ s e i = RaisedTo s₀ from to k r e i s
 
-abbrev decreases-loop : tie.decreases-loop
+abbrev decreases-loop : tie.decreases-loop-i
 decreases-loop s₀ from to k r e₀ i₀ s e i = to - i
 
 -- both cells are there
-room : (c : tie.In-loop invariant-loop decreases-loop) → let now = c.before.loop in (now.e < length now.s) × (now.i < length now.s)
-room c = raise_room _ _ _ _ _ c.before.before.requires _ _ _ c.before.loop.invariant c.loop-test.true
+room : (c : tie.In-loop-i invariant-loop decreases-loop) → let now = c.loop-i in (now.e < length now.s) × (now.i < length now.s)
+room c = raise_room _ _ _ _ _ c.requires _ _ _ c.loop-i.invariant c.loop-i-test.true
 
 -- and the number may be raised
-low : (c : tie.In-loop invariant-loop decreases-loop) → let now = c.before.loop in c.before.before.args.k + get_or now.s now.i 0 < 2 ^ 32
-low c = raise_low _ _ _ _ _ c.before.before.requires _ _ _ c.before.loop.invariant c.loop-test.true
+low : (c : tie.In-loop-i invariant-loop decreases-loop) → let now = c.loop-i in c.args.k + get_or now.s now.i 0 < 2 ^ 32
+low c = raise_low _ _ _ _ _ c.requires _ _ _ c.loop-i.invariant c.loop-i-test.true
 
-loop-again : tie.Need-loop-preserved invariant-loop decreases-loop
+loop-again : tie.Need-loop-i-preserved invariant-loop decreases-loop
 loop-again c =
     let turn = c.before in
-    raise_more _ _ _ _ _ turn.before.before.requires _ _ _ turn.before.loop.invariant turn.loop-test.true
+    raise_more _ _ _ _ _ turn.requires _ _ _ turn.loop-i.invariant turn.loop-i-test.true
 
 pub raise_spec : {M : Type 1} → statement M
 raise_spec =
@@ -44,5 +44,5 @@ raise_spec =
     (λ c. search rules)
     (λ c. search rules)
     loop-again
-    (λ c. c.before.loop.invariant.laid.apart.size)
-    (λ c. raise_all _ _ _ _ _ c.before.before.requires _ _ _ c.before.loop.invariant c.loop-test.false))
+    (λ c. c.loop-i.invariant.laid.apart.size)
+    (λ c. raise_all _ _ _ _ _ c.requires _ _ _ c.loop-i.invariant c.loop-i-test.false))

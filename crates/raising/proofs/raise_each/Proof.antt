@@ -12,71 +12,71 @@ use Rattle.raising.proofs.Joining.{there, copy_asked, raise_asked, row_fits, row
 use Rattle.raising.proofs.raise_each.Statement.{statement}
 use Rattle.raising.proofs.raise_each.Tie as tie
 
-abbrev invariant-loop : tie.invariant-loop
+abbrev invariant-loop : tie.invariant-loop-j
 invariant-loop s₀ front back m k to e₀ j₀ s e j = RowsOver to m j e (raised_row s₀ front back k) s₀ s
 
-abbrev decreases-loop : tie.decreases-loop
+abbrev decreases-loop : tie.decreases-loop-j
 decreases-loop s₀ front back m k to e₀ j₀ s e j = m - j
 
 -- the places of both rows are there
-places : (c : tie.In-loop invariant-loop decreases-loop)
-    → let args = c.before.before.before.args in
-    let now = c.before.loop in
+places : (c : tie.In-loop-j invariant-loop decreases-loop)
+    → let args = c.args in
+    let now = c.loop-j in
     (args.front + now.j + 1 < length now.s) × (args.back + now.j + 1 < length now.s)
-places c = there _ _ _ _ _ _ c.before.before.before.requires.0 _ _ _ c.before.loop.invariant c.loop-test.true
+places c = there _ _ _ _ _ _ c.requires.0 _ _ _ c.loop-j.invariant c.loop-j-test.true
 
-add-e : tie.Need-overflow-add-e invariant-loop decreases-loop
-add-e c = Fits-under _ _ (2 ^ 32) (omega (arith, c.before.requires.0.room, c.before.requires.0.fits)) tt
+add-e : tie.Need-overflow_add-e invariant-loop decreases-loop
+add-e c = Fits-under _ _ (2 ^ 32) (omega (arith, c.requires.0.room, c.requires.0.fits)) tt
 
-add-e-2 : tie.Need-overflow-add-e-2 invariant-loop decreases-loop
-add-e-2 c = Fits-under _ _ (2 ^ 32) (omega (arith, c.before.requires.0.room, c.before.requires.0.fits)) tt
+add-e-2 : tie.Need-overflow_add-e-2 invariant-loop decreases-loop
+add-e-2 c = Fits-under _ _ (2 ^ 32) (omega (arith, c.requires.0.room, c.requires.0.fits)) tt
 
-loop-holds : tie.Need-loop-init invariant-loop decreases-loop
-loop-holds c = over_none _ _ _ _ c.before.requires.1 (omega (arith, c.before.requires.0.room))
+loop-holds : tie.Need-loop-j-init invariant-loop decreases-loop
+loop-holds c = over_none _ _ _ _ c.requires.1 (omega (arith, c.requires.0.room))
 
-cast_f : tie.Need-overflow-cast-f invariant-loop decreases-loop
-cast_f c = omega (arith, c.slice-known2.given (c.before.before.before.before.args.front + c.before.before.loop.j))
+cast_f : tie.Need-overflow_cast-f invariant-loop decreases-loop
+cast_f c = omega (arith, c.slice_known-in-loop-j-1.given (c.args.front + c.loop-j.j))
 
-cast_t : tie.Need-overflow-cast-t invariant-loop decreases-loop
-cast_t c = omega (arith, c.slice-known3.given (c.before.before.before.before.before.args.front + c.before.before.before.loop.j + 1))
+cast_t : tie.Need-overflow_cast-t invariant-loop decreases-loop
+cast_t c = omega (arith, c.slice_known-in-loop-j-2-1.given (c.args.front + c.loop-j.j + 1))
 
-cast-g : tie.Need-overflow-cast-g invariant-loop decreases-loop
-cast-g c = omega (arith, c.slice-known4.given (c.before.before.before.before.before.before.args.back + c.before.before.before.before.loop.j))
+cast-g : tie.Need-overflow_cast-g invariant-loop decreases-loop
+cast-g c = omega (arith, c.slice_known-in-loop-j-3-1.given (c.args.back + c.loop-j.j))
 
-cast-u : tie.Need-overflow-cast-u invariant-loop decreases-loop
-cast-u c = omega (arith, c.slice-known5.given (c.before.before.before.before.before.before.before.args.back + c.before.before.before.before.before.loop.j + 1))
+cast-u : tie.Need-overflow_cast-u invariant-loop decreases-loop
+cast-u c = omega (arith, c.slice_known-in-loop-j-4-1.given (c.args.back + c.loop-j.j + 1))
 
-copy-requires : tie.Need-copy-requires invariant-loop decreases-loop
+copy-requires : tie.Need-copy-e-requires invariant-loop decreases-loop
 copy-requires c κs =
     let turn = c.before.before.before.before.before in
-    copy_asked _ _ _ _ _ _ turn.before.before.before.requires.0 _ _ _ turn.before.loop.invariant turn.loop-test.true
+    copy_asked _ _ _ _ _ _ turn.requires.0 _ _ _ turn.loop-j.invariant turn.loop-j-test.true
 
-raise-requires : tie.Need-raise-requires invariant-loop decreases-loop
+raise-requires : tie.Need-raise-e-requires invariant-loop decreases-loop
 raise-requires c κs =
     let copied = c.before.before.before in
     let turn = copied.before.before.before.before.before.before in
-    raise_asked _ _ _ _ _ _ turn.before.before.before.requires.0 _ _ _ turn.before.loop.invariant turn.loop-test.true _ _ copied.copy.ensures
+    raise_asked _ _ _ _ _ _ turn.requires.0 _ _ _ turn.loop-j.invariant turn.loop-j-test.true _ _ copied.copy-e.ensures
 
 -- where the row ends fits its place
-fit : (c : tie.After-raise invariant-loop decreases-loop)
+fit : (c : tie.After-raise-e invariant-loop decreases-loop)
     → let turn = c.before.before.before.before.before.before.before.before.before.before in
-    (c.raise.result < 2 ^ 32) × (turn.before.before.before.args.to + turn.before.loop.j + 1 < length c.raise.new.0)
+    (c.raise-e.result < 2 ^ 32) × (turn.args.to + turn.loop-j.j + 1 < length c.raise-e.new.0)
 fit c =
     let copied = c.before.before.before.before in
     let turn = copied.before.before.before.before.before.before in
-    row_fits _ _ _ _ _ _ turn.before.before.before.requires.0 _ _ _ turn.before.loop.invariant turn.loop-test.true _ _ copied.copy.ensures _ _ c.raise.ensures
+    row_fits _ _ _ _ _ _ turn.requires.0 _ _ _ turn.loop-j.invariant turn.loop-j-test.true _ _ copied.copy-e.ensures _ _ c.raise-e.ensures
 
-loop-again : tie.Need-loop-preserved invariant-loop decreases-loop
+loop-again : tie.Need-loop-j-preserved invariant-loop decreases-loop
 loop-again c =
     let row = c.before.before in
     let copied = row.before.before.before.before in
     let turn = copied.before.before.before.before.before.before in
-    row_on _ _ _ _ _ _ turn.before.before.before.requires.0 _ _ _ turn.before.loop.invariant turn.loop-test.true _ _ copied.copy.ensures _ _ row.raise.ensures
+    row_on _ _ _ _ _ _ turn.requires.0 _ _ _ turn.loop-j.invariant turn.loop-j-test.true _ _ copied.copy-e.ensures _ _ row.raise-e.ensures
 
 returns : tie.Need-returns invariant-loop decreases-loop
 returns c =
-    let all : c.before.loop.j ≡ c.before.before.before.args.m = omega (arith, c.before.loop.invariant.rows.some, c.loop-test.false) in
-    rw all at c.before.loop.invariant
+    let all : c.loop-j.j ≡ c.args.m = omega (arith, c.loop-j.invariant.rows.some, c.loop-j-test.false) in
+    rw all at c.loop-j.invariant
 
 pub raise_each_spec : {M : Type 1} → statement M
 raise_each_spec =
@@ -113,7 +113,7 @@ raise_each_spec =
     (λ c. omega (arith, fit c.before.before))
     (λ c. (fit c.before.before).1)
     (λ c. omega (arith, fit c.before.before))
-    (λ c. falls _ _ c.before.before.before.before.before.before.before.before.before.before.before.before.loop-test.true)
+    (λ c. falls _ _ c.loop-j-test.true)
     loop-again
-    (λ c. c.before.loop.invariant.apart.size)
+    (λ c. c.loop-j.invariant.apart.size)
     returns)

@@ -11,32 +11,32 @@ use borrow.Author.Rules.{rules}
 use Rattle.reading.proofs.judge_body.Statement.{statement}
 use Rattle.reading.proofs.judge_body.Tie as tie
 
-take-requires : tie.Need-take-requires
+take-requires : tie.Need-take-filling-requires
 take-requires c κs =
     let e = c.before.before.before.before in
-    filling_room _ _ e.before.before.before.requires e.if1.false
+    filling_room _ _ e.requires e.if-bytes-x.false
 
-returns-4 : tie.Need-returns-4
+returns-4 : tie.Need-returns-then-filling-ne0
 returns-4 c =
     let t = c.before.before in
     let e = t.before.before.before.before.before in
     let s = e.before.before.before in
-    counted_refused _ _ _ _ (body_is _ s.args.x s.requires _ _ _ t.take.ensures.is _ (search judging depth 12))
+    counted_refused _ _ _ _ (body_is _ s.args.x s.requires _ _ _ t.take-filling.ensures.is _ (search judging depth 12))
 
-judge-chain-requires : tie.Need-judge-chain-requires
+judge-chain-requires : tie.Need-judge_chain-requires
 judge-chain-requires c κs =
     let e = c.before.before.before.before.before.before.before in
-    contained _ _ e.before.before.before.requires e.if1.false
+    contained _ _ e.requires e.if-bytes-x.false
 
-returns-5 : tie.Need-returns-5
+returns-5 : tie.Need-returns
 returns-5 c =
     let t = c.before.before.before in
     let e = t.before.before.before.before.before in
     let s = e.before.before.before in
     let chain : Verdict = chain_rule s.args.x.p (file_steps s.args.bytes.now s.args.x) (file_outputs s.args.bytes.now s.args.x) in
-    c.judge-chain.ensures
+    c.judge_chain.ensures
     ∙ ap (λ (v : Verdict). counted_by v (squarings_of (file_steps s.args.bytes.now s.args.x)))
-    (body_is _ s.args.x s.requires _ _ _ t.take.ensures.is chain (search judging depth 12))
+    (body_is _ s.args.x s.requires _ _ _ t.take-filling.ensures.is chain (search judging depth 12))
 
 pub judge_body_spec : {M : Type 1} → statement M
 unfolding body_rule

@@ -5,17 +5,17 @@ use Rattle.reading.proofs.Judging.{long_contained, long_judged}
 use Rattle.reading.proofs.judge_chain.Statement.{statement}
 use Rattle.reading.proofs.judge_chain.Tie as tie
 
-judge-lists-requires : tie.Need-judge-lists-requires
+judge-lists-requires : tie.Need-judge_lists-requires
 judge-lists-requires c κs =
     let copied = c.before.before in
     let start = copied.before.before.before.before in
     long_contained _ _ _ copied.lengthen.ensures _ start.requires (search rules) (omega arith)
 
-returns : tie.Need-returns
+returns : tie.Need-returns-then-bytes-lt8
 returns c =
     let copied = c.before.before.before in
     let start = copied.before.before.before.before in
-    long_judged _ _ _ copied.lengthen.ensures _ start.requires _ c.judge-lists.ensures
+    long_judged _ _ _ copied.lengthen.ensures _ start.requires _ c.judge_lists.ensures
 
 pub judge_chain_spec : {M : Type 1} → statement M
 judge_chain_spec =

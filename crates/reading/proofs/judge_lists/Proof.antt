@@ -6,22 +6,22 @@ use Rattle.reading.proofs.ReadAnswers.{chain_is}
 use Rattle.reading.proofs.judge_lists.Statement.{statement}
 use Rattle.reading.proofs.judge_lists.Tie as tie
 
-returns : tie.Need-returns
+returns : tie.Need-returns-in-Refused
 returns c =
-    let x = c.before.before.before.before.before.args.x in
+    let x = c.args.x in
     counted_refused _ _ _ _ (chain_is _ x _ (search (judging, counting) depth 8))
 
-returns-2 : tie.Need-returns-2
+returns-2 : tie.Need-returns-in-Refused-judge_outputs
 returns-2 c =
-    let x = c.before.before.before.before.before.before.before.before.before.args.x in
+    let x = c.args.x in
     counted_refused _ _ _ _ (chain_is _ x _ (search (judging, counting) depth 8))
 
-returns-3 : tie.Need-returns-3
+returns-3 : tie.Need-returns-in-Fine-judge_outputs
 returns-3 c =
     let told = c.before.before.before.before in
     let j = told.before.before in
-    let x = j.before.before.args.x in
-    counted_done _ _ _ (chain_is _ x _ (search (judging, counting) depth 8)) (found_number _ _ _ j.judge-steps.ensures _ told.squarings.given.1)
+    let x = j.args.x in
+    counted_done _ _ _ (chain_is _ x _ (search (judging, counting) depth 8)) (found_number _ _ _ j.judge_steps.ensures _ told.squarings-1.given.1)
 
 pub judge_lists_spec : {M : Type 1} → statement M
 judge_lists_spec =

@@ -10,51 +10,51 @@ use borrow.Author.Rules.{rules}
 use Rattle.reading.proofs.judge_steps.Statement.{statement}
 use Rattle.reading.proofs.judge_steps.Tie as tie
 
-abbrev invariant-loop : tie.invariant-loop
+abbrev invariant-loop : tie.invariant-loop-s
 invariant-loop bytes x n c₀ squarings₀ s₀ c squarings s =
     StepsLeft (steps_rule x.p 1 (file_steps bytes x)) (squarings_of (file_steps bytes x)) bytes x.p x.width n c.at s squarings
 
-abbrev decreases-loop : tie.decreases-loop
+abbrev decreases-loop : tie.decreases-loop-s
 decreases-loop bytes x n c₀ squarings₀ s₀ c squarings s = n - s
 
-loop-holds : tie.Need-loop-init invariant-loop decreases-loop
-loop-holds c = steps_start _ _ _ _ _ (steps_within _ _ c.before.requires.contained)
+loop-holds : tie.Need-loop-s-init invariant-loop decreases-loop
+loop-holds c = steps_start _ _ _ _ _ (steps_within _ _ c.requires.contained)
 
-take-two-requires : tie.Need-take-two-requires invariant-loop decreases-loop
-take-two-requires c κs = step_room _ _ _ _ _ _ _ _ _ c.before.loop.invariant c.loop-test.true c.before.before.before.requires.long
+take-two-requires : tie.Need-take_two-step-requires invariant-loop decreases-loop
+take-two-requires c κs = step_room _ _ _ _ _ _ _ _ _ c.loop-s.invariant c.loop-s-test.true c.requires.long
 
-cast-a : tie.Need-overflow-cast-a invariant-loop decreases-loop
+cast-a : tie.Need-overflow_cast-a invariant-loop decreases-loop
 cast-a c =
     let t = c.before in
-    record { fits = number_fits _ _ t.before.before.loop.invariant.room.narrow t.take-two.ensures.first.small }
+    record { fits = number_fits _ _ t.loop-s.invariant.room.narrow t.take_two-step.ensures.first.small }
 
-cast-b : tie.Need-overflow-cast-b invariant-loop decreases-loop
+cast-b : tie.Need-overflow_cast-b invariant-loop decreases-loop
 cast-b c =
     let t = c.before.before in
-    record { fits = number_fits _ _ t.before.before.loop.invariant.room.narrow t.take-two.ensures.second.small }
+    record { fits = number_fits _ _ t.loop-s.invariant.room.narrow t.take_two-step.ensures.second.small }
 
-returns : tie.Need-returns invariant-loop decreases-loop
+returns : tie.Need-returns-in-Refused invariant-loop decreases-loop
 returns c =
     let j = c.before.before.before in
     let t = j.before.before.before.before in
     let l = t.before in
     counted_refused _ _ _ _
-    (step_bad _ _ _ _ _ _ _ _ _ l.before.loop.invariant l.loop-test.true _ _ _ t.take-two.ensures _ j.judge-step.ensures _ _
-    c.before.number.given.1)
+    (step_bad _ _ _ _ _ _ _ _ _ l.loop-s.invariant l.loop-s-test.true _ _ _ t.take_two-step.ensures _ j.judge_step.ensures _ _
+    c.number-1.given.1)
 
-loop-again : tie.Need-loop-preserved invariant-loop decreases-loop
+loop-again : tie.Need-loop-s-preserved invariant-loop decreases-loop
 loop-again c =
     let q = c.before in
     let j = q.before.before.before in
     let t = j.before.before.before.before in
     let l = t.before in
-    step_on _ _ _ _ _ _ _ _ _ l.before.loop.invariant l.loop-test.true _ _ _ t.take-two.ensures _ j.judge-step.ensures
-    q.before.enum_told.given.1 _ q.squaring.ensures
+    step_on _ _ _ _ _ _ _ _ _ l.loop-s.invariant l.loop-s-test.true _ _ _ t.take_two-step.ensures _ j.judge_step.ensures
+    q.enum_told-1.given.1 _ q.squaring-squarings.ensures
 
-returns-2 : tie.Need-returns-2 invariant-loop decreases-loop
+returns-2 : tie.Need-returns invariant-loop decreases-loop
 returns-2 c =
-    let inv = c.before.loop.invariant in
-    counted_done _ _ _ (steps_end _ _ _ _ _ _ _ _ _ inv c.loop-test.false) (squarings_end _ _ _ _ _ _ _ _ _ inv c.loop-test.false)
+    let inv = c.loop-s.invariant in
+    counted_done _ _ _ (steps_end _ _ _ _ _ _ _ _ _ inv c.loop-s-test.false) (squarings_end _ _ _ _ _ _ _ _ _ inv c.loop-s-test.false)
 
 pub judge_steps_spec : {M : Type 1} → statement M
 judge_steps_spec =

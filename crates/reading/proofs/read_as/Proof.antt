@@ -4,43 +4,43 @@ use borrow.Author.Rules.{rules}
 use Rattle.reading.proofs.read_as.Statement.{statement}
 use Rattle.reading.proofs.read_as.Tie as tie
 
-judge-header-requires : tie.Need-judge-header-requires
+judge-header-requires : tie.Need-judge_header-requires
 judge-header-requires c κs = search rules
 
-enum-known-number : tie.Need-enum-known-number
+enum-known-number : tie.Need-enum_known-number
 enum-known-number c = search rules
 
-enum-known-x : tie.Need-enum-known-x
+enum-known-x : tie.Need-enum_known-x
 enum-known-x c = search rules
 
-read-body-requires : tie.Need-read-body-requires
+read-body-requires : tie.Need-read_body-requires
 read-body-requires c κs =
     let x = c.before.before.before in
     let j = x.before.before in
     let s = j.before.before.before.before in
-    found_proper s.args.layout s.args.bytes.now _ j.judge-header.ensures s.requires _ x.x.given.1
+    found_proper s.args.layout s.args.bytes.now _ j.judge_header.ensures s.requires _ x.x-1.given.1
 
-returns : tie.Need-returns
+returns : tie.Need-returns-in-Refused
 returns c =
     let j = c.before.before.before in
-    let a = j.before.before.before.before.args in
-    let r = not_found a.layout a.bytes.now _ j.judge-header.ensures _ _ c.before.number.given.1 in
+    let a = j.args in
+    let r = not_found a.layout a.bytes.now _ j.judge_header.ensures _ _ c.number-1.given.1 in
     file_refused a.layout a.bytes.now a.steps.now a.outputs.now _ _ r
 
-same_length : tie.Need-same-length
+same_length : tie.Need-shape_of-steps
 same_length c = search rules
 
-same-length-2 : tie.Need-same-length-2
+same-length-2 : tie.Need-shape_of-outputs
 same-length-2 c = search rules
 
-returns-2 : tie.Need-returns-2
+returns-2 : tie.Need-returns-in-Found
 returns-2 c =
     let b = c.before.before.before.before in
     let x = b.before.before.before.before in
     let j = x.before.before in
-    let a = j.before.before.before.before.args in
-    let f = found a.layout a.bytes.now _ j.judge-header.ensures _ x.x.given.1 in
-    file_read_lem a.layout a.bytes.now a.steps.now a.outputs.now _ f _ _ _ b.read-body.ensures
+    let a = j.args in
+    let f = found a.layout a.bytes.now _ j.judge_header.ensures _ x.x-1.given.1 in
+    file_read_lem a.layout a.bytes.now a.steps.now a.outputs.now _ f _ _ _ b.read_body.ensures
 
 pub read_as_spec : {M : Type 1} → statement M
 read_as_spec =

@@ -13,39 +13,39 @@ use Rattle.reading.proofs.read_body.Statement.{statement}
 use Rattle.reading.proofs.read_body.Tie as tie
 
 -- nothing was found
-passed : (c : tie.After-squarings)
-    → let a = c.before.before.before.before.before.before.args in
+passed : (c : tie.In-Fine-2)
+    → let a = c.args in
     fine ≡ body_rule a.bytes.now a.x (length a.steps.now / 2) (length a.outputs.now)
-passed c = found_fine _ _ _ c.before.before.judge-body.ensures _ c.squarings.given.1
+passed c = found_fine _ _ _ c.judge_body.ensures _ c.squarings-1.given.1
 
 -- and the squarings are counted
-counted : (c : tie.After-squarings)
-    → let a = c.before.before.before.before.before.before.args in
-    c.squarings.given.0.0 ≡ squarings_of (file_steps a.bytes.now a.x)
-counted c = found_number _ _ _ c.before.before.judge-body.ensures _ c.squarings.given.1
+counted : (c : tie.In-Fine-2)
+    → let a = c.args in
+    c.squarings-1.given.0.0 ≡ squarings_of (file_steps a.bytes.now a.x)
+counted c = found_number _ _ _ c.judge_body.ensures _ c.squarings-1.given.1
 
-take-lists-requires : tie.Need-take-lists-requires
+take-lists-requires : tie.Need-take_lists-requires
 take-lists-requires c κs =
     let e = c.before.before.before in
     let s = e.before.before.before.before.before.before in
     let a = s.args in
     lists_room a.bytes.now a.x s.requires a.steps.now a.outputs.now (passed e)
 
-counts-of-requires : tie.Need-counts-of-requires
+counts-of-requires : tie.Need-counts_of-requires
 counts-of-requires c κs =
     let e = c.before.before.before.before.before.before.before.before in
-    let a = e.before.before.before.before.before.before.args in
+    let a = e.args in
     omega (arith, counted e, squarings_few (file_steps a.bytes.now a.x), steps_count a.bytes.now a.x)
 
-returns : tie.Need-returns
+returns : tie.Need-returns-in-Refused
 returns c =
     let j = c.before.before.before in
     let s = j.before.before.before.before in
     let a = s.args in
     body_refused a.bytes.now a.x s.requires a.steps.now a.outputs.now _ _
-    (found_refused _ _ _ j.judge-body.ensures _ _ c.before.number.given.1)
+    (found_refused _ _ _ j.judge_body.ensures _ _ c.number-1.given.1)
 
-returns-2 : tie.Need-returns-2
+returns-2 : tie.Need-returns-in-Fine
 returns-2 c =
     let t = c.before.before.before.before.before in
     let e = t.before.before.before.before in
@@ -53,7 +53,7 @@ returns-2 c =
     let a = s.args in
     let n = sym (steps_count a.bytes.now a.x) in
     body_done a.bytes.now a.x s.requires a.steps.now a.outputs.now (passed e) _ _ _
-    (c.Counts-of.ensures ∙ counts_are (file_steps a.bytes.now a.x) _ _ n (counted e)) t.take-lists.ensures
+    (c.counts_of.ensures ∙ counts_are (file_steps a.bytes.now a.x) _ _ n (counted e)) t.take_lists.ensures
 
 pub read_body_spec : {M : Type 1} → statement M
 read_body_spec =

@@ -9,44 +9,44 @@ use Rattle.receive.proofs.receive.Tie as tie
 verify-requires : tie.Need-verify-requires
 verify-requires c κs = search rules
 
-enum-known-number : tie.Need-enum-known-number
+enum-known-number : tie.Need-enum_known-number
 enum-known-number c = search rules
 
-enum_told : tie.Need-enum-told
+enum_told : tie.Need-enum_told-1
 enum_told c = search rules
 
 run-requires : tie.Need-run-requires
 run-requires c κs = search rules
 
-same_length : tie.Need-same-length
+same_length : tie.Need-shape_of-scratch-in-Refused
 same_length c = search rules
 
-returns : tie.Need-returns
+returns : tie.Need-returns-in-Refused
 returns c =
     let w = c.before.before.before.before.before in
-    let a = w.before.before.before.before.before.before.before.before.before.args in
+    let a = w.args in
     not_passed a.p (pairs a.steps.now) a.outputs.now a.amounts.now a.m a.bases.now a.scratch.now a.values.now
     a.figures.now _
-    (answer_clause w.verify.ensures) _ (only_slice_clause w.verify.ensures) _ _ c.before.number.given.1
+    (answer_clause w.verify.ensures) _ (only_slice_clause w.verify.ensures) _ _ c.number-1.given.1
 
-same-length-2 : tie.Need-same-length-2
+same-length-2 : tie.Need-shape_of-scratch-in-Passed
 same-length-2 c = search rules
 
-same-length-3 : tie.Need-same-length-3
+same-length-3 : tie.Need-shape_of-values
 same-length-3 c = search rules
 
-same-length-4 : tie.Need-same-length-4
+same-length-4 : tie.Need-shape_of-figures
 same-length-4 c = search rules
 
-returns-2 : tie.Need-returns-2
+returns-2 : tie.Need-returns-in-Passed
 returns-2 c =
     let r = c.before.before.before.before in
     let e = r.before.before.before in
     let w = e.before.before.before.before in
-    let a = w.before.before.before.before.before.before.before.before.before.args in
+    let a = w.args in
     then_run a.p (pairs a.steps.now) a.outputs.now a.amounts.now a.m a.bases.now a.scratch.now a.values.now
     a.figures.now _
-    (answer_clause w.verify.ensures) _ (only_slice_clause w.verify.ensures) _ e.enum_told.given.1 _ _ _ (answer_clause r.run.ensures) (first_slice_clause r.run.ensures) (second_slice_clause r.run.ensures)
+    (answer_clause w.verify.ensures) _ (only_slice_clause w.verify.ensures) _ e.enum_told-1.given.1 _ _ _ (answer_clause r.run.ensures) (first_slice_clause r.run.ensures) (second_slice_clause r.run.ensures)
 
 pub receive_spec : {M : Type 1} → statement M
 receive_spec =

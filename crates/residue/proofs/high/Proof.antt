@@ -23,29 +23,29 @@ high_law u v =
 high_fits : (u v : ℕ) → u < 2 ^ 64 → v < 2 ^ 64 → columns u v < 2 ^ 64
 high_fits u v hu hv = subst (λ (n : ℕ). n < 2 ^ 64) (sym (high_law u v)) (shr_lt 64 64 (product_fits 64 hu hv))
 
-mul-middle : tie.Need-overflow-mul-middle
+mul-middle : tie.Need-overflow_mul-middle
 mul-middle c = record { fits = product_fits 32 (shr_lt 32 32 c.ranges.u.fits) (low _) }
 
-mul-middle-2 : tie.Need-overflow-mul-middle-2
+mul-middle-2 : tie.Need-overflow_mul-middle-2
 mul-middle-2 c = record { fits = product_fits 32 (low _) (low _) }
 
-add-middle : tie.Need-overflow-add-middle
+add-middle : tie.Need-overflow_add-middle
 add-middle c = record { fits = sum_fits 32 (shr_lt 32 32 c.ranges.u.fits) (low _) (shr_lt 32 32 (product_fits 32 (low _) (low _))) }
 
-mul_next : tie.Need-overflow-mul-next
+mul_next : tie.Need-overflow_mul-next
 mul_next c = record { fits = product_fits 32 (low _) (shr_lt 32 32 c.ranges.v.fits) }
 
-add-next : tie.Need-overflow-add-next
+add-next : tie.Need-overflow_add-next
 add-next c =
     record { fits = subst (λ (n : ℕ). n < 2 ^ 64) (add_comm _ _) (sum_fits 32 (low _) (shr_lt 32 32 c.ranges.v.fits) (low _)) }
 
-mul-result : tie.Need-overflow-mul-result
+mul-result : tie.Need-overflow_mul-result
 mul-result c = record { fits = product_fits 32 (shr_lt 32 32 c.ranges.u.fits) (shr_lt 32 32 c.ranges.v.fits) }
 
-add-result : tie.Need-overflow-add-result
+add-result : tie.Need-overflow_add-result
 add-result c = record { fits = lt_of_le_of_lt (le-add_right _ _) (high_fits c.args.u c.args.v c.ranges.u.fits c.ranges.v.fits) }
 
-add-result-2 : tie.Need-overflow-add-result-2
+add-result-2 : tie.Need-overflow_add-result-2
 add-result-2 c = record { fits = high_fits c.args.u c.args.v c.ranges.u.fits c.ranges.v.fits }
 
 returns : tie.Need-returns

@@ -9,71 +9,71 @@ use Rattle.row_products.proofs.Joining.{join_room, join_none, clumps_asked, rest
 use Rattle.row_products.proofs.join.Statement.{statement}
 use Rattle.row_products.proofs.join.Tie as tie
 
-abbrev invariant-loop : tie.invariant-loop
+abbrev invariant-loop : tie.invariant-loop-j
 invariant-loop p joint to s₀ end₀ j₀ s end j =
     (j ≤ joint.m) × Making to (slip_of p (joined s₀ joint)) (steps_in s₀ end₀.steps) j end s₀ s
 
-abbrev decreases-loop : tie.decreases-loop
+abbrev decreases-loop : tie.decreases-loop-j
 decreases-loop p joint to s₀ end₀ j₀ s end j = joint.m - j
 
-loop-holds : tie.Need-loop-init invariant-loop decreases-loop
-loop-holds c = (search rules, join_none _ _ _ _ _ c.before.requires)
+loop-holds : tie.Need-loop-j-init invariant-loop decreases-loop
+loop-holds c = (search rules, join_none _ _ _ _ _ c.requires)
 
-row-product-requires : tie.Need-row-product-requires invariant-loop decreases-loop
+row-product-requires : tie.Need-row_product-clumped-requires invariant-loop decreases-loop
 row-product-requires c κs =
     let b = c.before in
     let h = b.before.before in
-    clumps_asked _ _ _ _ _ h.before.before.requires _ b.if1.true _ _ h.loop.invariant.1
+    clumps_asked _ _ _ _ _ h.requires _ b.loop-j-test.true _ _ h.loop-j.invariant.1
 
-times-row-requires : tie.Need-times-row-requires invariant-loop decreases-loop
+times-row-requires : tie.Need-times_row-both-requires invariant-loop decreases-loop
 times-row-requires c κs =
     let first = c.before.before.before in
     let b = first.before.before in
     let h = b.before.before in
-    rest_asked _ _ _ _ _ h.before.before.requires _ b.if1.true _ _ h.loop.invariant.1 _ _ _ first.row-product.ensures
+    rest_asked _ _ _ _ _ h.requires _ b.loop-j-test.true _ _ h.loop-j.invariant.1 _ _ _ first.row_product-clumped.ensures
 
-add-s : tie.Need-overflow-add-s invariant-loop decreases-loop
+add-s : tie.Need-overflow_add-s invariant-loop decreases-loop
 add-s c =
     let b = c.before.before.before.before.before.before.before.before.before in
-    omega (arith, join_room _ _ _ _ _ b.before.before.before.before.requires, b.if1.true)
+    omega (arith, join_room _ _ _ _ _ b.requires, b.loop-j-test.true)
 
-mul-s : tie.Need-overflow-mul-s invariant-loop decreases-loop
+mul-s : tie.Need-offset_bounds-s-to invariant-loop decreases-loop
 mul-s c =
     let b = c.before.before.before.before.before.before.before.before.before in
-    omega (arith, join_room _ _ _ _ _ b.before.before.before.before.requires, b.if1.true)
+    omega (arith, join_room _ _ _ _ _ b.requires, b.loop-j-test.true)
 
-slice-write-s : tie.Need-slice-write-s invariant-loop decreases-loop
+slice-write-s : tie.Need-bounds-s-to invariant-loop decreases-loop
 slice-write-s c =
     let second = c.before.before.before in
     let first = second.before.before.before.before in
     let b = first.before.before in
     let h = b.before.before in
     let s = h.before.before in
-    let long = join_long _ _ _ _ _ s.requires _ b.if1.true _ _ h.loop.invariant.1 _ _ _ first.row-product.ensures _ _ _ second.times-row.ensures in
-    omega (arith, long, join_room _ _ _ _ _ s.requires, b.if1.true)
+    let long = join_long _ _ _ _ _ s.requires _ b.loop-j-test.true _ _ h.loop-j.invariant.1 _ _ _ first.row_product-clumped.ensures _ _ _ second.times_row-both.ensures in
+    omega (arith, long, join_room _ _ _ _ _ s.requires, b.loop-j-test.true)
 
-add-j : tie.Need-overflow-add-j invariant-loop decreases-loop
+add-j : tie.Need-overflow_add-j invariant-loop decreases-loop
 add-j c = search rules
 
-loop-less : tie.Need-loop-smaller invariant-loop decreases-loop
+loop-less : tie.Need-loop-j-smaller invariant-loop decreases-loop
 loop-less c = search rules
 
-loop-again : tie.Need-loop-preserved invariant-loop decreases-loop
+loop-again : tie.Need-loop-j-preserved invariant-loop decreases-loop
 loop-again c =
     let second = c.before.before.before in
     let first = second.before.before.before.before in
     let b = first.before.before in
     let h = b.before.before in
-    let on = join_on _ _ _ _ _ h.before.before.requires _ b.if1.true _ _ h.loop.invariant.1 _ _ _ first.row-product.ensures in
-    (search rules, on _ _ _ second.times-row.ensures)
+    let on = join_on _ _ _ _ _ h.requires _ b.loop-j-test.true _ _ h.loop-j.invariant.1 _ _ _ first.row_product-clumped.ensures in
+    (search rules, on _ _ _ second.times_row-both.ensures)
 
-same_length : tie.Need-same-length invariant-loop decreases-loop
-same_length c = c.before.before.loop.invariant.1.done.size
+same_length : tie.Need-shape_of-s invariant-loop decreases-loop
+same_length c = c.loop-j.invariant.1.done.size
 
 returns : tie.Need-returns invariant-loop decreases-loop
 returns c =
     let h = c.before.before in
-    join_all _ _ _ _ _ h.before.before.requires _ _ _ h.loop.invariant.0 c.if1.false h.loop.invariant.1
+    join_all _ _ _ _ _ h.requires _ _ _ h.loop-j.invariant.0 c.loop-j-test.false h.loop-j.invariant.1
 
 pub join_spec : {M : Type 1} → statement M
 join_spec =

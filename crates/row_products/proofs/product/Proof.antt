@@ -13,79 +13,79 @@ use Rattle.row_products.proofs.Multiplying.{multiplied_on, multiplied_all}
 use Rattle.row_products.proofs.product.Statement.{statement}
 use Rattle.row_products.proofs.product.Tie as tie
 
-abbrev invariant-loop : tie.invariant-loop
+abbrev invariant-loop : tie.invariant-loop-i
 invariant-loop p values from to s₀ r₀ i₀ s r i =
     (from ≤ i) × (i ≤ to)
     × Multiplied p (product p (product_in s₀ r₀) (values_at s₀ values (slice from to s₀))) s₀ s r.progress r.value (values_at s₀ values (slice i to s₀))
 
-abbrev decreases-loop : tie.decreases-loop
+abbrev decreases-loop : tie.decreases-loop-i
 decreases-loop p values from to s₀ r₀ i₀ s r i = to - i
 
 -- the cells are as many as at first, and the factor is among them
-long : (c : tie.At-loop invariant-loop decreases-loop) → length c.loop.s ≡ length c.before.before.args.s.now
+long : (c : tie.At-loop-i invariant-loop decreases-loop) → length c.loop-i.s ≡ length c.args.s.now
 long c =
     let s = c.before.before in
-    multiplied_long _ _ _ s.args.m.value _ _ _ s.requires _ c.loop.invariant.0 _ _ _ c.loop.invariant.2
+    multiplied_long _ _ _ s.args.m.value _ _ _ s.requires _ c.loop-i.invariant.0 _ _ _ c.loop-i.invariant.2
 
-there : (c : tie.In-loop invariant-loop decreases-loop)
-    → let now = c.before.loop in
-    c.before.before.before.args.values + get_or now.s now.i 0 < length now.s
+there : (c : tie.In-loop-i invariant-loop decreases-loop)
+    → let now = c.loop-i in
+    c.args.values + get_or now.s now.i 0 < length now.s
 there c =
     let s = c.before.before.before in
-    let v = c.before.loop.invariant in
-    multiplied_there _ _ _ s.args.m.value _ _ _ s.requires _ v.0 _ _ _ v.2 c.loop-test.true
+    let v = c.loop-i.invariant in
+    multiplied_there _ _ _ s.args.m.value _ _ _ s.requires _ v.0 _ _ _ v.2 c.loop-i-test.true
 
-loop-holds : tie.Need-loop-init invariant-loop decreases-loop
+loop-holds : tie.Need-loop-i-init invariant-loop decreases-loop
 loop-holds c = let s = c.before in (search rules, s.requires.rises, multiplied_none _ _ _ s.args.m.value _ _ _ s.requires)
 
-mul-v : tie.Need-overflow-mul-v invariant-loop decreases-loop
+mul-v : tie.Need-offset_bounds-s-i invariant-loop decreases-loop
 mul-v c = omega (arith, there c)
 
-slice-read-v : tie.Need-slice-read-v invariant-loop decreases-loop
-slice-read-v c = omega (arith, long c.before.before, c.before.before.before.before.requires.inside, c.before.loop-test.true)
+slice-read-v : tie.Need-bounds-s-i invariant-loop decreases-loop
+slice-read-v c = omega (arith, long c.before.before, c.requires.inside, c.loop-i-test.true)
 
-cast-v : tie.Need-overflow-cast-v invariant-loop decreases-loop
-cast-v c = omega (arith, c.slice-known2.given c.before.before.loop.i)
+cast-v : tie.Need-overflow_cast-v invariant-loop decreases-loop
+cast-v c = omega (arith, c.slice_known-in-loop-i-1.given c.loop-i.i)
 
-add-v : tie.Need-overflow-add-v invariant-loop decreases-loop
+add-v : tie.Need-overflow_add-v invariant-loop decreases-loop
 add-v c = omega (arith, there c.before, long c.before.before)
 
-mul-v-2 : tie.Need-overflow-mul-v-2 invariant-loop decreases-loop
+mul-v-2 : tie.Need-offset_bounds-s-values invariant-loop decreases-loop
 mul-v-2 c = omega (arith, there c.before, long c.before.before)
 
-slice-read-v-2 : tie.Need-slice-read-v-2 invariant-loop decreases-loop
+slice-read-v-2 : tie.Need-bounds-s-values invariant-loop decreases-loop
 slice-read-v-2 c = there c.before.before
 
-times-requires : tie.Need-times-requires invariant-loop decreases-loop
+times-requires : tie.Need-times-r-requires invariant-loop decreases-loop
 times-requires c κs =
     let b = c.before.before.before in
     let s = b.before.before.before in
-    let v = b.before.loop.invariant in
-    multiplied_room _ _ _ s.args.m.value _ _ _ s.requires _ v.0 _ _ _ v.2 b.loop-test.true
+    let v = b.loop-i.invariant in
+    multiplied_room _ _ _ s.args.m.value _ _ _ s.requires _ v.0 _ _ _ v.2 b.loop-i-test.true
 
-add-i : tie.Need-overflow-add-i invariant-loop decreases-loop
+add-i : tie.Need-overflow_add-i invariant-loop decreases-loop
 add-i c = search rules
 
-loop-less : tie.Need-loop-smaller invariant-loop decreases-loop
+loop-less : tie.Need-loop-i-smaller invariant-loop decreases-loop
 loop-less c = search rules
 
-loop-again : tie.Need-loop-preserved invariant-loop decreases-loop
+loop-again : tie.Need-loop-i-preserved invariant-loop decreases-loop
 loop-again c =
     let b = c.before.before.before.before.before.before in
     let s = b.before.before.before in
-    let v = b.before.loop.invariant in
-    let on = multiplied_on _ _ _ s.args.m.value _ _ _ s.requires _ v.0 _ _ _ v.2 b.loop-test.true in
-    (search rules, search rules, on _ _ _ c.before.before.times.ensures)
+    let v = b.loop-i.invariant in
+    let on = multiplied_on _ _ _ s.args.m.value _ _ _ s.requires _ v.0 _ _ _ v.2 b.loop-i-test.true in
+    (search rules, search rules, on _ _ _ c.times-r.ensures)
 
-same_length : tie.Need-same-length invariant-loop decreases-loop
+same_length : tie.Need-shape_of-s invariant-loop decreases-loop
 same_length c = long c.before
 
 returns : tie.Need-returns invariant-loop decreases-loop
 returns c =
     let b = c.before in
     let s = b.before.before in
-    let v = b.loop.invariant in
-    multiplied_all _ _ _ s.args.m.value _ _ _ s.requires _ v.0 _ _ _ v.2 c.loop-test.false v.1
+    let v = b.loop-i.invariant in
+    multiplied_all _ _ _ s.args.m.value _ _ _ s.requires _ v.0 _ _ _ v.2 c.loop-i-test.false v.1
 
 pub product_spec : {M : Type 1} → statement M
 product_spec =

@@ -8,60 +8,60 @@ use Rattle.row_products.proofs.Separating.{factors_in, separate_none, separate_a
 use Rattle.row_products.proofs.separately.Statement.{statement}
 use Rattle.row_products.proofs.separately.Tie as tie
 
-abbrev invariant-loop : tie.invariant-loop
+abbrev invariant-loop : tie.invariant-loop-j
 invariant-loop p problem to s₀ end₀ j₀ s end j =
     (j ≤ problem.m) × Making to (slip_of p (factors_in s₀ problem)) (steps_in s₀ end₀.steps) j end s₀ s
 
-abbrev decreases-loop : tie.decreases-loop
+abbrev decreases-loop : tie.decreases-loop-j
 decreases-loop p problem to s₀ end₀ j₀ s end j = problem.m - j
 
-loop-holds : tie.Need-loop-init invariant-loop decreases-loop
-loop-holds c = (search rules, separate_none _ _ _ _ _ c.before.requires)
+loop-holds : tie.Need-loop-j-init invariant-loop decreases-loop
+loop-holds c = (search rules, separate_none _ _ _ _ _ c.requires)
 
-row-product-requires : tie.Need-row-product-requires invariant-loop decreases-loop
+row-product-requires : tie.Need-row_product-r-requires invariant-loop decreases-loop
 row-product-requires c κs =
     let b = c.before in
     let h = b.before.before in
-    separate_asked _ _ _ _ _ h.before.before.requires _ b.if1.true _ _ h.loop.invariant.1
+    separate_asked _ _ _ _ _ h.requires _ b.loop-j-test.true _ _ h.loop-j.invariant.1
 
-add-s : tie.Need-overflow-add-s invariant-loop decreases-loop
+add-s : tie.Need-overflow_add-s invariant-loop decreases-loop
 add-s c =
     let b = c.before.before.before.before.before in
-    omega (arith, b.before.before.before.before.requires.room, b.if1.true)
+    omega (arith, b.requires.room, b.loop-j-test.true)
 
-mul-s : tie.Need-overflow-mul-s invariant-loop decreases-loop
+mul-s : tie.Need-offset_bounds-s-to invariant-loop decreases-loop
 mul-s c =
     let b = c.before.before.before.before.before in
-    omega (arith, b.before.before.before.before.requires.room, b.if1.true)
+    omega (arith, b.requires.room, b.loop-j-test.true)
 
-slice-write-s : tie.Need-slice-write-s invariant-loop decreases-loop
+slice-write-s : tie.Need-bounds-s-to invariant-loop decreases-loop
 slice-write-s c =
     let b = c.before.before.before.before.before in
     let h = b.before.before in
     let s = h.before.before in
-    let long = separate_long _ _ _ _ _ s.requires _ b.if1.true _ _ h.loop.invariant.1 _ _ _ c.before.before.before.row-product.ensures in
-    omega (arith, long, s.requires.room, b.if1.true)
+    let long = separate_long _ _ _ _ _ s.requires _ b.loop-j-test.true _ _ h.loop-j.invariant.1 _ _ _ c.row_product-r.ensures in
+    omega (arith, long, s.requires.room, b.loop-j-test.true)
 
-add-j : tie.Need-overflow-add-j invariant-loop decreases-loop
+add-j : tie.Need-overflow_add-j invariant-loop decreases-loop
 add-j c = search rules
 
-loop-less : tie.Need-loop-smaller invariant-loop decreases-loop
+loop-less : tie.Need-loop-j-smaller invariant-loop decreases-loop
 loop-less c = search rules
 
-loop-again : tie.Need-loop-preserved invariant-loop decreases-loop
+loop-again : tie.Need-loop-j-preserved invariant-loop decreases-loop
 loop-again c =
     let b = c.before.before.before.before.before in
     let h = b.before.before in
-    let on = separate_on _ _ _ _ _ h.before.before.requires _ b.if1.true _ _ h.loop.invariant.1 in
-    (search rules, on _ _ _ c.before.before.before.row-product.ensures)
+    let on = separate_on _ _ _ _ _ h.requires _ b.loop-j-test.true _ _ h.loop-j.invariant.1 in
+    (search rules, on _ _ _ c.row_product-r.ensures)
 
-same_length : tie.Need-same-length invariant-loop decreases-loop
-same_length c = c.before.before.loop.invariant.1.done.size
+same_length : tie.Need-shape_of-s invariant-loop decreases-loop
+same_length c = c.loop-j.invariant.1.done.size
 
 returns : tie.Need-returns invariant-loop decreases-loop
 returns c =
     let h = c.before.before in
-    separate_all _ _ _ _ _ h.before.before.requires _ _ _ h.loop.invariant.0 c.if1.false h.loop.invariant.1
+    separate_all _ _ _ _ _ h.requires _ _ _ h.loop-j.invariant.0 c.loop-j-test.false h.loop-j.invariant.1
 
 pub separately_spec : {M : Type 1} → statement M
 separately_spec =

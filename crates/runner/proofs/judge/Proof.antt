@@ -9,16 +9,16 @@ use Rattle.rest.proofs.Rest.{end_asked}
 use Rattle.runner.proofs.judge.Statement.{statement}
 use Rattle.runner.proofs.judge.Tie as tie
 
-judge-rest-requires : tie.Need-judge-rest-requires
-judge-rest-requires c κs = λ e. end_asked (started _ _ _ _ _ (sym c.judge-start.ensures ∙ e)).shape
+judge-rest-requires : tie.Need-judge_rest-requires
+judge-rest-requires c κs = λ e. end_asked (started _ _ _ _ _ (sym c.judge_start-begun.ensures ∙ e)).shape
 
 -- refused before the figures
-returns : tie.Need-returns
+returns : tie.Need-returns-in-Refused
 returns c =
     let rest = c.before.before.before in
-    let steps = rest.before.before.before.before.before.args.steps.now in
-    let r = found_refused _ _ _ rest.judge-rest.ensures _ _ c.before.number.given.1 in
-    counted_refused _ (squarings_of (pairs steps)) _ _ (run_flat _ steps _ _ _ _ _ _ _ _ rest.before.judge-start.ensures r (stop _ _ _ _ refl))
+    let steps = rest.args.steps.now in
+    let r = found_refused _ _ _ rest.judge_rest.ensures _ _ c.number-1.given.1 in
+    counted_refused _ (squarings_of (pairs steps)) _ _ (run_flat _ steps _ _ _ _ _ _ _ _ rest.judge_start-begun.ensures r (stop _ _ _ _ refl))
 
 pub judge_spec : {M : Type 1} → statement M
 judge_spec =

@@ -9,7 +9,7 @@ use Rattle.residue.specs.Residue.{times_mod}
 use Rattle.runner.proofs.multiply.Statement.{statement}
 use Rattle.runner.proofs.multiply.Tie as tie
 
-abbrev invariant-loop : tie.invariant-loop
+abbrev invariant-loop : tie.invariant-loop-s
 invariant-loop p steps m cells₀ n inverse s₀ cells s =
     (s ≤ n)
     × (length cells ≡ length cells₀)
@@ -17,67 +17,67 @@ invariant-loop p steps m cells₀ n inverse s₀ cells s =
     × (p + n < length cells₀)
     × (cells ≡ made_to (times_mod m) p steps s cells₀)
 
-abbrev decreases-loop : tie.decreases-loop
+abbrev decreases-loop : tie.decreases-loop-s
 decreases-loop p steps m cells₀ n inverse s₀ cells s = n - s
 
-inverse-requires : tie.Need-inverse-requires invariant-loop decreases-loop
+inverse-requires : tie.Need-inverse-inverse-requires invariant-loop decreases-loop
 inverse-requires c κs = search rules
 
-loop-holds : tie.Need-loop-init invariant-loop decreases-loop
+loop-holds : tie.Need-loop-s-init invariant-loop decreases-loop
 loop-holds c = search (rules, filling)
 
-step-at-requires : tie.Need-step-at-requires invariant-loop decreases-loop
+step-at-requires : tie.Need-step_at-x-requires invariant-loop decreases-loop
 step-at-requires c κs = search rules
 
-cast-a : tie.Need-overflow-cast-a invariant-loop decreases-loop
+cast-a : tie.Need-overflow_cast-a invariant-loop decreases-loop
 cast-a c = search rules
 
-cast-b : tie.Need-overflow-cast-b invariant-loop decreases-loop
+cast-b : tie.Need-overflow_cast-b invariant-loop decreases-loop
 cast-b c = search rules
 
-mul-times : tie.Need-overflow-mul-times invariant-loop decreases-loop
+mul-times : tie.Need-offset_bounds-cells-a invariant-loop decreases-loop
 mul-times c = search (rules, within)
 
-slice-read-times : tie.Need-slice-read-times invariant-loop decreases-loop
+slice-read-times : tie.Need-bounds-cells-a invariant-loop decreases-loop
 slice-read-times c =
     let l = c.before.before.before.before.before in
-    let t = c.before.before.before.before.loop-test.true in
-    first_within _ _ _ _ _ c.before.before.before.step-at.ensures t l.before.before.before.before.requires.steps_sound.steps_fine l.loop.invariant.2
+    let t = c.loop-s-test.true in
+    first_within _ _ _ _ _ c.step_at-x.ensures t l.requires.steps_sound.steps_fine l.loop-s.invariant.2
 
-mul-times-2 : tie.Need-overflow-mul-times-2 invariant-loop decreases-loop
+mul-times-2 : tie.Need-offset_bounds-cells-b invariant-loop decreases-loop
 mul-times-2 c = search (rules, within)
 
-slice-read-times-2 : tie.Need-slice-read-times-2 invariant-loop decreases-loop
+slice-read-times-2 : tie.Need-bounds-cells-b invariant-loop decreases-loop
 slice-read-times-2 c =
     let l = c.before.before.before.before.before.before in
-    let t = c.before.before.before.before.before.loop-test.true in
-    second_within _ _ _ _ _ c.before.before.before.before.step-at.ensures t l.before.before.before.before.requires.steps_sound.steps_fine l.loop.invariant.2
+    let t = c.loop-s-test.true in
+    second_within _ _ _ _ _ c.step_at-x.ensures t l.requires.steps_sound.steps_fine l.loop-s.invariant.2
 
 times-requires : tie.Need-times-requires invariant-loop decreases-loop
 times-requires c κs = search rules
 
-add-cells : tie.Need-overflow-add-cells invariant-loop decreases-loop
+add-cells : tie.Need-overflow_add-cells invariant-loop decreases-loop
 add-cells c = search rules
 
-add-cells-2 : tie.Need-overflow-add-cells-2 invariant-loop decreases-loop
+add-cells-2 : tie.Need-overflow_add-cells-in-loop-s invariant-loop decreases-loop
 add-cells-2 c = search rules
 
-mul-cells : tie.Need-overflow-mul-cells invariant-loop decreases-loop
+mul-cells : tie.Need-offset_bounds-cells-p invariant-loop decreases-loop
 mul-cells c = search rules
 
-slice-write-cells : tie.Need-slice-write-cells invariant-loop decreases-loop
+slice-write-cells : tie.Need-bounds-cells-p invariant-loop decreases-loop
 slice-write-cells c = search rules
 
-add-s : tie.Need-overflow-add-s invariant-loop decreases-loop
+add-s : tie.Need-overflow_add-s invariant-loop decreases-loop
 add-s c = search rules
 
-loop-less : tie.Need-loop-smaller invariant-loop decreases-loop
+loop-less : tie.Need-loop-s-smaller invariant-loop decreases-loop
 loop-less c = search rules
 
-loop-again : tie.Need-loop-preserved invariant-loop decreases-loop
+loop-again : tie.Need-loop-s-preserved invariant-loop decreases-loop
 loop-again c = (search rules, simp length-set (search rules), simp length-set (search rules), search rules, search filling)
 
-same_length : tie.Need-same-length invariant-loop decreases-loop
+same_length : tie.Need-shape_of-cells invariant-loop decreases-loop
 same_length c = search rules
 
 returns : tie.Need-returns invariant-loop decreases-loop

@@ -16,19 +16,19 @@ use Rattle.runner.proofs.run.Statement.{statement}
 use Rattle.runner.proofs.run.Tie as tie
 
 -- nothing was found against the run
-allowed : (c : tie.After-squarings)
-    → let s = c.before.before.before.before.before.before.before.before.args in
+allowed : (c : tie.In-Fine-2)
+    → let s = c.args in
     fine ≡ run_rule s.p (pairs s.steps.now) s.outputs.now s.m s.bases.now (length s.values.now) (length s.figures.now)
-allowed c = found_fine _ _ _ c.before.before.judge.ensures _ c.squarings.given.1
+allowed c = found_fine _ _ _ c.judge.ensures _ c.squarings-1.given.1
 
 -- and the squarings are counted
-counted : (c : tie.After-squarings)
-    → c.squarings.given.0.0 ≡ squarings_of (pairs c.before.before.before.before.before.before.before.before.args.steps.now)
-counted c = found_number _ _ _ c.before.before.judge.ensures _ c.squarings.given.1
+counted : (c : tie.In-Fine-2)
+    → c.squarings-1.given.0.0 ≡ squarings_of (pairs c.args.steps.now)
+counted c = found_number _ _ _ c.judge.ensures _ c.squarings-1.given.1
 
 -- what that says of the arguments
-acc : (c : tie.After-squarings)
-    → let s = c.before.before.before.before.before.before.before.before.args in
+acc : (c : tie.In-Fine-2)
+    → let s = c.args in
     Runnable s.p (pairs s.steps.now) s.outputs.now s.m s.bases.now (length s.values.now) (length s.figures.now)
 acc c = runnable _ _ _ _ _ _ _ (sym (allowed c))
 
@@ -53,26 +53,26 @@ show-requires c κs =
       outputs_within = λ i h. omega (arith, a.outputs_within i h, a.values_fit, filled.fill.auto.1.1.1.1.0);
     }
 
-counts-of-requires : tie.Need-counts-of-requires
+counts-of-requires : tie.Need-counts_of-requires
 counts-of-requires c κs =
     let told = c.before.before.before.before.before.before.before.before.before.before in
-    let steps = told.before.before.before.before.before.before.before.before.args.steps.now in
+    let steps = told.args.steps.now in
     omega (arith, counted told, squarings_few (pairs steps), length_pairs steps)
 
-returns : tie.Need-returns
+returns : tie.Need-returns-in-Refused
 unfolding run_answer run_values run_figures
 returns c =
-    let r = found_refused _ _ _ c.before.before.before.judge.ensures _ _ c.before.number.given.1 in
+    let r = found_refused _ _ _ c.judge.ensures _ _ c.number-1.given.1 in
     (answer_refused _ _ _ _ r, (kept _ _ _ _ _ r, kept _ _ _ _ _ r))
 
-returns-2 : tie.Need-returns-2
+returns-2 : tie.Need-returns-in-Fine
 unfolding run_answer run_values run_figures
 returns-2 c =
     let shown = c.before.before.before in
     let filled = shown.before.before.before.before.before in
     let told = filled.before.before.before in
-    let s = told.before.before.before.before.before.before.before.before.args in
-    let counts = c.Counts-of.ensures ∙ counts_are (pairs s.steps.now) _ _ (sym (length_pairs s.steps.now)) (counted told) in (
+    let s = told.args in
+    let counts = c.counts_of.ensures ∙ counts_are (pairs s.steps.now) _ _ (sym (length_pairs s.steps.now)) (counted told) in (
       ap (λ (l : List ℕ). done l) counts ∙ answer_done _ _ (allowed told),
       (
         renewed _ _ _ _ (allowed told) filled.fill.ensures,

@@ -6,14 +6,14 @@ use Rattle.sheet.proofs.Amounts.{product_low}
 use Rattle.sheet.proofs.judge_amounts.Statement.{statement}
 use Rattle.sheet.proofs.judge_amounts.Tie as tie
 
-mul-if1 : tie.Need-overflow-mul-if1
+mul-if1 : tie.Need-overflow_mul-p
 mul-if1 c = omega (arith, product_low _ _ c.requires.p_low c.requires.q_low)
 
-returns : tie.Need-returns
+returns : tie.Need-returns-then-amounts-p
 unfolding amounts_rule
 returns c = search judging depth 8
 
-returns-2 : tie.Need-returns-2
+returns-2 : tie.Need-returns
 unfolding amounts_rule
 returns-2 c = search judging depth 8
 

@@ -7,4 +7,4 @@ use Rattle.spoutbasket.proofs.spoutbasket_ceiling.Tie as tie
 pub spoutbasket_ceiling_spec : {M : Type 1} → statement M
 spoutbasket_ceiling_spec =
     tie.close
-    (tie.spec (λ c κs. search rules) (λ c κs. search rules) (λ c. told_alone c.before.before.ceiling.ensures c.tell-quoted.ensures))
+    (tie.spec (λ c κs. search rules) (λ c κs. search rules) (λ c. told_alone c.ceiling-quoted.ensures c.tell_quoted.ensures))

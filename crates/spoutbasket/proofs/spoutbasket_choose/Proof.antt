@@ -10,4 +10,4 @@ pub spoutbasket_choose_spec : {M : Type 1} → statement M
 spoutbasket_choose_spec =
     tie.close
     (tie.spec (λ c κs. search rules) (λ c κs. search rules) (λ c. search rules) (λ c. search rules) (λ c. search rules)
-    (λ c. told_alone (ap choice_answer c.before.before.before.before.before.before.before.before.decide.ensures) c.tell-chosen.ensures))
+    (λ c. told_alone (ap choice_answer c.decide-chosen.ensures) c.tell_chosen.ensures))

@@ -8,4 +8,4 @@ pub spoutbasket_compile_spec : {M : Type 1} → statement M
 spoutbasket_compile_spec =
     tie.close
     (tie.spec (λ c κs. search rules) (λ c κs. search rules) (λ c. search rules) (λ c. search rules)
-    (λ c. told_on c.before.before.before.before.before.before.compile.ensures c.tell-compiled.ensures))
+    (λ c. told_on c.compile-compiled.ensures c.tell_compiled.ensures))

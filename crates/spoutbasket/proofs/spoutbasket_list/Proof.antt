@@ -7,16 +7,16 @@ use Rattle.answers.proofs.Clauses.{answer_clause, only_slice_clause}
 use Rattle.spoutbasket.proofs.spoutbasket_list.Statement.{statement}
 use Rattle.spoutbasket.proofs.spoutbasket_list.Tie as tie
 
-list-requires : tie.Need-list-requires
+list-requires : tie.Need-list-length-requires
 list-requires c κs = search rules
 
-tell-listed-requires : tie.Need-tell-listed-requires
+tell-listed-requires : tie.Need-tell_listed-requires
 tell-listed-requires c κs = search rules
 
 returns : tie.Need-returns
 returns c =
-    let called = c.before.before.list.ensures in
-    let told = c.tell-listed.ensures in
+    let called = c.list-length.ensures in
+    let told = c.tell_listed.ensures in
     (told.number_is, (told.words_are ∙ ap (λ (n : ℕ). n ∷ 0 ∷ 0 ∷ 0 ∷ 0 ∷ 0 ∷ 0 ∷ 0 ∷ []) (answer_clause called), only_slice_clause called))
 
 pub spoutbasket_list_spec : {M : Type 1} → statement M

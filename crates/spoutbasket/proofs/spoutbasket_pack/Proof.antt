@@ -8,4 +8,4 @@ pub spoutbasket_pack_spec : {M : Type 1} → statement M
 spoutbasket_pack_spec =
     tie.close
     (tie.spec (λ c κs. search rules) (λ c κs. search rules) (λ c. search rules)
-    (λ c. told_on c.before.before.before.before.pack.ensures c.tell-transferred.ensures))
+    (λ c. told_on c.pack-transferred.ensures c.tell_transferred.ensures))

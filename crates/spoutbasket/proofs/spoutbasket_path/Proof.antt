@@ -7,8 +7,8 @@ use Rattle.spoutbasket.proofs.spoutbasket_path.Tie as tie
 
 returns : tie.Need-returns
 returns c =
-    let called = c.before.before.before.before.before.before.before.before.before.before.before.before.before.before.before.before.before.before.sheet-to-figures.ensures in
-    told_on (answer_clause called, first_slice_clause called) c.tell-figured.ensures
+    let called = c.sheet_to_figures-figured.ensures in
+    told_on (answer_clause called, first_slice_clause called) c.tell_figured.ensures
 
 pub spoutbasket_path_spec : {M : Type 1} → statement M
 spoutbasket_path_spec =

@@ -8,4 +8,4 @@ pub spoutbasket_pool_spec : {M : Type 1} → statement M
 spoutbasket_pool_spec =
     tie.close
     (tie.spec (λ c κs. search rules) (λ c κs. search rules) (λ c. search rules) (λ c. search rules)
-    (λ c. told_on c.before.before.before.before.before.before.pool.ensures c.tell-pooled.ensures))
+    (λ c. told_on c.pool-pooled.ensures c.tell_pooled.ensures))

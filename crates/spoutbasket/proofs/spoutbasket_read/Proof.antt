@@ -8,4 +8,4 @@ pub spoutbasket_read_spec : {M : Type 1} → statement M
 spoutbasket_read_spec =
     tie.close
     (tie.spec (λ c κs. search rules) (λ c κs. search rules) (λ c. search rules) (λ c. search rules)
-    (λ c. told_on c.before.before.before.before.before.before.read.ensures c.tell-read.ensures))
+    (λ c. told_on c.read-reading.ensures c.tell_read.ensures))

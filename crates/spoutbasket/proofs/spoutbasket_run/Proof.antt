@@ -8,4 +8,4 @@ pub spoutbasket_run_spec : {M : Type 1} → statement M
 spoutbasket_run_spec =
     tie.close
     (tie.spec (λ c κs. search rules) (λ c κs. search rules) (λ c. search rules) (λ c. search rules)
-    (λ c. told_on c.before.before.before.before.before.before.run.ensures c.tell-ran.ensures))
+    (λ c. told_on c.run-ran.ensures c.tell_ran.ensures))

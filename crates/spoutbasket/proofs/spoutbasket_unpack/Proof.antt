@@ -8,4 +8,4 @@ pub spoutbasket_unpack_spec : {M : Type 1} → statement M
 spoutbasket_unpack_spec =
     tie.close
     (tie.spec (λ c κs. search rules) (λ c κs. search rules) (λ c. search rules)
-    (λ c. told_on c.before.before.before.before.unpack.ensures c.tell-transferred.ensures))
+    (λ c. told_on c.unpack-transferred.ensures c.tell_transferred.ensures))

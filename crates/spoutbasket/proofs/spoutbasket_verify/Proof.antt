@@ -8,4 +8,4 @@ pub spoutbasket_verify_spec : {M : Type 1} → statement M
 spoutbasket_verify_spec =
     tie.close
     (tie.spec (λ c κs. search rules) (λ c κs. search rules) (λ c. search rules)
-    (λ c. told_on c.before.before.before.before.verify.ensures c.tell-verified.ensures))
+    (λ c. told_on c.verify-verified.ensures c.tell_verified.ensures))

@@ -8,4 +8,4 @@ pub spoutbasket_write_spec : {M : Type 1} → statement M
 spoutbasket_write_spec =
     tie.close
     (tie.spec (λ c κs. search rules) (λ c κs. search rules) (λ c. search rules)
-    (λ c. told_on c.before.before.before.before.write.ensures c.tell-written.ensures))
+    (λ c. told_on c.write-written.ensures c.tell_written.ensures))

@@ -6,10 +6,10 @@ use Rattle.straus.proofs.Overlaying.{overlaid_to, overlaying}
 use Rattle.straus.proofs.overlaid.Statement.{statement}
 use Rattle.straus.proofs.overlaid.Tie as tie
 
-abbrev invariant-loop : tie.invariant-loop
+abbrev invariant-loop : tie.invariant-loop-c
 invariant-loop p amounts i all₀ c₀ all c = (c ≤ p) × (all ≡ overlaid_to p amounts i c)
 
-abbrev decreases-loop : tie.decreases-loop
+abbrev decreases-loop : tie.decreases-loop-c
 decreases-loop p amounts i all₀ c₀ all c = p - c
 
 pub overlaid_spec : {M : Type 1} → statement M

@@ -6,52 +6,52 @@ use Rattle.straus_count.proofs.Counting.{signs_to, lower_told, lower_fits, lower
 use Rattle.straus_count.proofs.payslip_quote.Statement.{statement}
 use Rattle.straus_count.proofs.payslip_quote.Tie as tie
 
-abbrev invariant-loop : tie.invariant-loop
+abbrev invariant-loop : tie.invariant-loop-j
 invariant-loop p amounts k i all lower squarings ceiling n₀ j₀ n j = (j ≤ lower) × (n ≡ lower * k + signs_to p amounts k i j)
 
-abbrev decreases-loop : tie.decreases-loop
+abbrev decreases-loop : tie.decreases-loop-j
 decreases-loop p amounts k i all lower squarings ceiling n₀ j₀ n j = lower - j
 
-overlaid-requires : tie.Need-overlaid-requires invariant-loop decreases-loop
+overlaid-requires : tie.Need-overlaid-all-requires invariant-loop decreases-loop
 overlaid-requires c κs = search rules
 
-digit-count-requires : tie.Need-digit-count-requires invariant-loop decreases-loop
+digit-count-requires : tie.Need-digit_count-requires invariant-loop decreases-loop
 digit-count-requires c κs = search rules
 
-lessened-requires : tie.Need-lessened-requires invariant-loop decreases-loop
+lessened-requires : tie.Need-lessened-lower-requires invariant-loop decreases-loop
 lessened-requires c κs = search rules
 
-mul-squarings : tie.Need-overflow-mul-squarings invariant-loop decreases-loop
+mul-squarings : tie.Need-overflow_mul-squarings invariant-loop decreases-loop
 mul-squarings c = Fits-under _ _ 32 (search (squarings_fit, lower_fits)) tt
 
-add-ceiling : tie.Need-overflow-add-ceiling invariant-loop decreases-loop
+add-ceiling : tie.Need-overflow_add-ceiling invariant-loop decreases-loop
 add-ceiling c = Fits-under _ _ 64 (search (most_fits, lower_fits)) tt
 
-loop-holds : tie.Need-loop-init invariant-loop decreases-loop
+loop-holds : tie.Need-loop-j-init invariant-loop decreases-loop
 loop-holds c = search rules
 
 digit-requires : tie.Need-digit-requires invariant-loop decreases-loop
 digit-requires c κs = search (rules, lower_place, lower_fits)
 
-sign-requires : tie.Need-sign-requires invariant-loop decreases-loop
+sign-requires : tie.Need-sign-n-requires invariant-loop decreases-loop
 sign-requires c κs = search rules
 
-add-n : tie.Need-overflow-add-n invariant-loop decreases-loop
+add-n : tie.Need-overflow_add-n invariant-loop decreases-loop
 add-n c = Fits-under _ _ 64 (search (sum_fits, lower_fits)) tt
 
-add-j : tie.Need-overflow-add-j invariant-loop decreases-loop
+add-j : tie.Need-overflow_add-j invariant-loop decreases-loop
 add-j c = search rules
 
-loop-less : tie.Need-loop-smaller invariant-loop decreases-loop
+loop-less : tie.Need-loop-j-smaller invariant-loop decreases-loop
 loop-less c = search rules
 
-loop-again : tie.Need-loop-preserved invariant-loop decreases-loop
+loop-again : tie.Need-loop-j-preserved invariant-loop decreases-loop
 loop-again c =
     let read = c.before in
     let start = read.before.before in
     let over = start.before.before.before in
-    let a = over.before.before.args in
-    (search rules, signs_on a.p a.amounts.now a.k a.i _ _ _ _ _ _ over.overlaid.ensures read.digit.ensures c.sign.ensures start.loop.invariant.1)
+    let a = over.args in
+    (search rules, signs_on a.p a.amounts.now a.k a.i _ _ _ _ _ _ over.overlaid-all.ensures read.digit.ensures c.sign-n.ensures start.loop-j.invariant.1)
 
 returns : tie.Need-returns invariant-loop decreases-loop
 returns c =

@@ -7,10 +7,10 @@ use Rattle.straus_emit.proofs.Vectors.{laying}
 use Rattle.straus_emit.proofs.fill_masks.Statement.{statement}
 use Rattle.straus_emit.proofs.fill_masks.Tie as tie
 
-abbrev invariant-loop : tie.invariant-loop
+abbrev invariant-loop : tie.invariant-loop-c
 invariant-loop p k cells₀ c₀ cells c = FilledTo (mask_at k) cells₀ p c cells
 
-abbrev decreases-loop : tie.decreases-loop
+abbrev decreases-loop : tie.decreases-loop-c
 decreases-loop p k cells₀ c₀ cells c = p - c
 
 pub fill_masks_spec : {M : Type 1} → statement M

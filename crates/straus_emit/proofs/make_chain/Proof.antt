@@ -4,21 +4,21 @@ use Rattle.straus_emit.proofs.Whole.{table_asked, table_room, after_table, chain
 use Rattle.straus_emit.proofs.make_chain.Statement.{statement}
 use Rattle.straus_emit.proofs.make_chain.Tie as tie
 
-make-table-requires : tie.Need-make-table-requires
+make-table-requires : tie.Need-make_table-table-requires
 make-table-requires c κs =
     let s = c.before.before.before.before.before in
     record { asked = table_asked s.requires.asked; room = table_room s.requires.asked s.requires.room }
 
-make-payslips-requires : tie.Need-make-payslips-requires
+make-payslips-requires : tie.Need-make_payslips-requires
 make-payslips-requires c κs =
     let made = c.before.before.before.before in
     let s = made.before.before.before.before.before.before in
-    record { asked = s.requires.asked; room = after_table s.requires.asked s.requires.room made.make-table.ensures }
+    record { asked = s.requires.asked; room = after_table s.requires.asked s.requires.room made.make_table-table.ensures }
 
-same_length : tie.Need-same-length
+same_length : tie.Need-shape_of-steps
 same_length c = search rules
 
-same-length-2 : tie.Need-same-length-2
+same-length-2 : tie.Need-shape_of-outputs
 same-length-2 c = search rules
 
 returns : tie.Need-returns

@@ -5,32 +5,32 @@ use Rattle.straus_emit.proofs.Vectors.{columns_few, digits_asked, payslip_is}
 use Rattle.straus_emit.proofs.make_payslip.Statement.{statement}
 use Rattle.straus_emit.proofs.make_payslip.Tie as tie
 
-slice-aggregate-raise-amounts : tie.Need-slice-aggregate-raise-amounts
+slice-aggregate-raise-amounts : tie.Need-slice_bounds-raise_amounts-end
 slice-aggregate-raise-amounts c = search rules
 
-raise-amounts-requires : tie.Need-raise-amounts-requires
+raise-amounts-requires : tie.Need-raise_amounts-requires
 raise-amounts-requires c κs =
-    let payslip = c.before.before.before.before.requires.asked.payslip in
+    let payslip = c.requires.asked.payslip in
     record { asked = payslip; room = columns_few payslip }
 
-slice-aggregate-fill-masks : tie.Need-slice-aggregate-fill-masks
+slice-aggregate-fill-masks : tie.Need-slice_bounds-fill_masks-end
 slice-aggregate-fill-masks c = search rules
 
-fill-masks-requires : tie.Need-fill-masks-requires
+fill-masks-requires : tie.Need-fill_masks-requires
 fill-masks-requires c κs =
-    let payslip = c.before.before.before.before.before.before.before.requires.asked.payslip in
+    let payslip = c.requires.asked.payslip in
     record { asked = payslip.vectors_low; room = columns_few payslip }
 
-digit-count-requires : tie.Need-digit-count-requires
+digit-count-requires : tie.Need-digit_count-digits-requires
 digit-count-requires c κs = search rules
 
-slice-aggregate-take-digits : tie.Need-slice-aggregate-take-digits
+slice-aggregate-take-digits : tie.Need-slice_bounds-take_digits-end
 slice-aggregate-take-digits c = search rules
 
-slice-aggregate-take-digits-2 : tie.Need-slice-aggregate-take-digits-2
+slice-aggregate-take-digits-2 : tie.Need-slice_bounds-take_digits-end-2
 slice-aggregate-take-digits-2 c = search rules
 
-take-digits-requires : tie.Need-take-digits-requires
+take-digits-requires : tie.Need-take_digits-requires
 take-digits-requires c κs =
     let g = c.before.before.before in
     let f = g.before.before in
@@ -38,14 +38,14 @@ take-digits-requires c κs =
     let s = h.before.before.before.before.before in
     let asked = s.requires.asked in
     let few = columns_few asked.payslip in
-    let raised = h.raise-amounts.ensures in
-    let masked = f.fill-masks.ensures in
+    let raised = h.raise_amounts.ensures in
+    let masked = f.fill_masks.ensures in
     record {
-      asked = digits_asked asked _ _ _ _ raised masked _ g.digit-count.ensures.places_low (search (rules, few)) (search (rules, few));
-      room = rw (payslip_is asked _ _ _ _ raised masked _ g.digit-count.ensures.is _) s.requires.room;
+      asked = digits_asked asked _ _ _ _ raised masked _ g.digit_count-digits.ensures.places_low (search (rules, few)) (search (rules, few));
+      room = rw (payslip_is asked _ _ _ _ raised masked _ g.digit_count-digits.ensures.is _) s.requires.room;
     }
 
-same_length : tie.Need-same-length
+same_length : tie.Need-shape_of-steps
 same_length c = search rules
 
 returns : tie.Need-returns
@@ -56,8 +56,8 @@ returns c =
     let h = f.before.before.before in
     let s = h.before.before.before.before.before in
     let before = steps_in s.args.steps.now s.args.progress.steps in
-    let is = payslip_is s.requires.asked _ _ _ _ h.raise-amounts.ensures f.fill-masks.ensures _ g.digit-count.ensures.is before in
-    rw (← is) t.take-digits.ensures
+    let is = payslip_is s.requires.asked _ _ _ _ h.raise_amounts.ensures f.fill_masks.ensures _ g.digit_count-digits.ensures.is before in
+    rw (← is) t.take_digits.ensures
 
 pub make_payslip_spec : {M : Type 1} → statement M
 make_payslip_spec =

@@ -9,49 +9,49 @@ use Rattle.straus.proofs.Overlaying.{payslip_asked}
 use Rattle.straus_emit.proofs.make_payslips.Statement.{statement}
 use Rattle.straus_emit.proofs.make_payslips.Tie as tie
 
-abbrev invariant-loop : tie.invariant-loop
+abbrev invariant-loop : tie.invariant-loop-i
 invariant-loop p q amounts k inputs steps₀ outputs₀ s₀ i₀ steps outputs s i =
     Paying q (straus_payslip p amounts k) (steps_in steps₀ s₀.steps) steps₀ outputs₀ i steps outputs s
 
-abbrev decreases-loop : tie.decreases-loop
+abbrev decreases-loop : tie.decreases-loop-i
 decreases-loop p q amounts k inputs steps₀ outputs₀ s₀ i₀ steps outputs s i = q - i
 
-loop-holds : tie.Need-loop-init invariant-loop decreases-loop
+loop-holds : tie.Need-loop-i-init invariant-loop decreases-loop
 loop-holds c = search (rules, paying_start)
 
-make-payslip-requires : tie.Need-make-payslip-requires invariant-loop decreases-loop
+make-payslip-requires : tie.Need-make_payslip-r-requires invariant-loop decreases-loop
 make-payslip-requires c κs =
     let at = c.before.before in
     let s = at.before.before.before.before.before in
     let asked = s.requires.asked in
     record {
       asked = record { payslip = payslip_asked asked.chain (search rules); bases_are = asked.bases_are };
-      room = paying_room (straus_payslip _ _ _) (payslip_begins _ _ _) at.loop.invariant s.requires.room (search rules);
+      room = paying_room (straus_payslip _ _ _) (payslip_begins _ _ _) at.loop-i.invariant s.requires.room (search rules);
     }
 
-mul-outputs : tie.Need-overflow-mul-outputs invariant-loop decreases-loop
+mul-outputs : tie.Need-offset_bounds-outputs-i invariant-loop decreases-loop
 mul-outputs c = search rules
 
-slice-write-outputs : tie.Need-slice-write-outputs invariant-loop decreases-loop
+slice-write-outputs : tie.Need-bounds-outputs-i invariant-loop decreases-loop
 slice-write-outputs c = search rules
 
-add-i : tie.Need-overflow-add-i invariant-loop decreases-loop
+add-i : tie.Need-overflow_add-i invariant-loop decreases-loop
 add-i c = search rules
 
-loop-less : tie.Need-loop-smaller invariant-loop decreases-loop
+loop-less : tie.Need-loop-i-smaller invariant-loop decreases-loop
 loop-less c = search rules
 
-loop-again : tie.Need-loop-preserved invariant-loop decreases-loop
+loop-again : tie.Need-loop-i-preserved invariant-loop decreases-loop
 loop-again c =
     let made = c.before.before.before in
     let at = made.before.before.before in
     let s = at.before.before.before.before.before in
-    paying_on (straus_payslip _ _ _) (payslip_begins _ _ _) at.loop.invariant s.requires.room (search rules) made.make-payslip.ensures
+    paying_on (straus_payslip _ _ _) (payslip_begins _ _ _) at.loop-i.invariant s.requires.room (search rules) made.make_payslip-r.ensures
 
-same_length : tie.Need-same-length invariant-loop decreases-loop
+same_length : tie.Need-shape_of-steps invariant-loop decreases-loop
 same_length c = search rules
 
-same-length-2 : tie.Need-same-length-2 invariant-loop decreases-loop
+same-length-2 : tie.Need-shape_of-outputs invariant-loop decreases-loop
 same-length-2 c = search rules
 
 returns : tie.Need-returns invariant-loop decreases-loop

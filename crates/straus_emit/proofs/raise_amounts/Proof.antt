@@ -7,10 +7,10 @@ use Rattle.straus_emit.proofs.Vectors.{laying}
 use Rattle.straus_emit.proofs.raise_amounts.Statement.{statement}
 use Rattle.straus_emit.proofs.raise_amounts.Tie as tie
 
-abbrev invariant-loop : tie.invariant-loop
+abbrev invariant-loop : tie.invariant-loop-c
 invariant-loop p amounts k i cells₀ c₀ cells c = FilledTo (raised_at p amounts k i) cells₀ p c cells
 
-abbrev decreases-loop : tie.decreases-loop
+abbrev decreases-loop : tie.decreases-loop-c
 decreases-loop p amounts k i cells₀ c₀ cells c = p - c
 
 pub raise_amounts_spec : {M : Type 1} → statement M

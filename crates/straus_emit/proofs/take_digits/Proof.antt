@@ -13,90 +13,90 @@ use Rattle.straus_emit.proofs.Emitting.{digit_room, digit_on, digits_end, digit_
 use Rattle.straus_emit.proofs.take_digits.Statement.{statement}
 use Rattle.straus_emit.proofs.take_digits.Tie as tie
 
-abbrev invariant-loop : tie.invariant-loop
+abbrev invariant-loop : tie.invariant-loop-d
 invariant-loop p k inputs cells masks digits steps₀ r₀ d₀ steps r d =
     (d ≤ digits)
     × (length steps ≡ length steps₀)
     × Emitted steps₀ steps r.progress r.value (digits_made p k inputs cells masks digits (steps_in steps₀ r₀.progress.steps) d)
 
-abbrev decreases-loop : tie.decreases-loop
+abbrev decreases-loop : tie.decreases-loop-d
 decreases-loop p k inputs cells masks digits steps₀ r₀ d₀ steps r d = digits - d
 
 -- the digit's vector is an entry of the table
-abbrev place : (e : tie.In-loop invariant-loop decreases-loop) → ℕ
+abbrev place : (e : tie.In-loop-d invariant-loop decreases-loop) → ℕ
 place e = e.before.before.before.before.before.before.args.digits - (e.before.loop.d + 1)
 
-entry_low : (e : tie.In-loop invariant-loop decreases-loop)
+entry_low : (e : tie.In-loop-d invariant-loop decreases-loop)
     → let a = e.before.before.before.before.before.before.args in
     vector_at a.p a.cells.now a.masks.now (a.k * place e) < 2 ^ (a.k * length a.inputs.now)
 entry_low e = e.before.before.before.before.before.before.requires.asked.entries (place e)
 
 -- and its value the one that the product is multiplied by
-value_is : (e : tie.After-entry invariant-loop decreases-loop)
+value_is : (e : tie.After-entry-e invariant-loop decreases-loop)
     → let a = e.before.before.before.before.before.before.before.before.args in
     e.entry.result ≡ entry a.k a.inputs.now (a.p + 1) (vector_at a.p a.cells.now a.masks.now (a.k * place e.before.before))
 value_is e = e.entry.ensures ∙ ap (entry _ _ _) e.before.vector.ensures
 
-loop-holds : tie.Need-loop-init invariant-loop decreases-loop
+loop-holds : tie.Need-loop-d-init invariant-loop decreases-loop
 loop-holds c = (search rules, search rules, search emitted_own)
 
-add-vector : tie.Need-overflow-add-vector invariant-loop decreases-loop
+add-vector : tie.Need-overflow_add-d invariant-loop decreases-loop
 add-vector c = search rules
 
-sub-vector : tie.Need-overflow-sub-vector invariant-loop decreases-loop
+sub-vector : tie.Need-overflow_sub-digits invariant-loop decreases-loop
 sub-vector c = search rules
 
-mul-vector : tie.Need-overflow-mul-vector invariant-loop decreases-loop
+mul-vector : tie.Need-overflow_mul-k invariant-loop decreases-loop
 mul-vector c = Fits-under _ _ 32 (search digit_fits) tt
 
-vector-requires : tie.Need-vector-requires invariant-loop decreases-loop
+vector-requires : tie.Need-vector-t-requires invariant-loop decreases-loop
 vector-requires c κs =
-    let asked = c.before.before.before.before.before.before.requires.asked in
+    let asked = c.requires.asked in
     (search rules, search rules, search digit_fits, omega (arith, entry_low c, asked.numbers))
 
-add-entry : tie.Need-overflow-add-entry invariant-loop decreases-loop
+add-entry : tie.Need-overflow_add-p invariant-loop decreases-loop
 add-entry c = search rules
 
-cast-entry : tie.Need-overflow-cast-entry invariant-loop decreases-loop
+cast-entry : tie.Need-overflow_cast-p invariant-loop decreases-loop
 cast-entry c =
     let s = c.before.before.before.before.before.before.before in
     omega (arith, s.requires.asked.numbers, pow_pos (s.args.k * length s.args.inputs.now))
 
-entry-requires : tie.Need-entry-requires invariant-loop decreases-loop
+entry-requires : tie.Need-entry-e-requires invariant-loop decreases-loop
 entry-requires c κs =
-    let asked = c.before.before.before.before.before.before.before.requires.asked in
+    let asked = c.requires.asked in
     let low = entry_low c.before in
     record {
       k_some = asked.k_some;
       k_low = asked.k_low;
       at_some = search rules;
-      number_low = omega (arith, c.vector.ensures, low, asked.numbers);
-      inside = omega (arith, c.vector.ensures, low);
+      number_low = omega (arith, c.vector-t.ensures, low, asked.numbers);
+      inside = omega (arith, c.vector-t.ensures, low);
     }
 
-take-digit-requires : tie.Need-take-digit-requires invariant-loop decreases-loop
+take-digit-requires : tie.Need-take_digit-r-requires invariant-loop decreases-loop
 take-digit-requires c κs =
     let e = c.before in
     let at = e.before.before.before in
     let s = at.before.before.before.before.before in
-    digit_room s.args.p s.args.k _ s.args.digits s.args.steps.now s.args.progress _ _ _ _ _ e.before.before.loop-test.true (value_is e) at.loop.invariant.2 s.requires.room
+    digit_room s.args.p s.args.k _ s.args.digits s.args.steps.now s.args.progress _ _ _ _ _ e.loop-d-test.true (value_is e) at.loop-d.invariant.2 s.requires.room
 
-add-d : tie.Need-overflow-add-d invariant-loop decreases-loop
+add-d : tie.Need-overflow_add-d-in-loop-d invariant-loop decreases-loop
 add-d c = search rules
 
-loop-less : tie.Need-loop-smaller invariant-loop decreases-loop
+loop-less : tie.Need-loop-d-smaller invariant-loop decreases-loop
 loop-less c = search rules
 
-loop-again : tie.Need-loop-preserved invariant-loop decreases-loop
+loop-again : tie.Need-loop-d-preserved invariant-loop decreases-loop
 loop-again c =
     let made = c.before.before in
     let e = made.before.before in
     let at = e.before.before.before in
-    let a = at.before.before.before.before.before.args in
-    let on = digit_on a.p a.k _ a.digits a.steps.now a.progress _ _ _ _ _ e.before.before.loop-test.true (value_is e) at.loop.invariant.2 _ _ _ made.take-digit.ensures in
+    let a = at.args in
+    let on = digit_on a.p a.k _ a.digits a.steps.now a.progress _ _ _ _ _ e.loop-d-test.true (value_is e) at.loop-d.invariant.2 _ _ _ made.take_digit-r.ensures in
     (search rules, search rules, on)
 
-same_length : tie.Need-same-length invariant-loop decreases-loop
+same_length : tie.Need-shape_of-steps invariant-loop decreases-loop
 same_length c = search rules
 
 returns : tie.Need-returns invariant-loop decreases-loop

@@ -8,13 +8,13 @@ use Rattle.subsets.proofs.table_count.Tie as tie
 power-requires : tie.Need-power-requires
 power-requires c κs = search rules
 
-cast-result : tie.Need-overflow-cast-result
+cast-result : tie.Need-overflow_cast-result
 cast-result c = search rules
 
-sub-result : tie.Need-overflow-sub-result
+sub-result : tie.Need-overflow_sub-result
 sub-result c = omega (arith, table_some _ _ c.power.ensures)
 
-sub-result-2 : tie.Need-overflow-sub-result-2
+sub-result-2 : tie.Need-overflow_sub-result-2
 sub-result-2 c = omega (arith, table_some _ _ c.power.ensures)
 
 returns : tie.Need-returns

@@ -8,32 +8,32 @@ use Rattle.groups.proofs.Counting.{group_inside, size_few, tables_on}
 use Rattle.subsets.proofs.tables_count.Statement.{statement}
 use Rattle.subsets.proofs.tables_count.Tie as tie
 
-abbrev invariant-loop : tie.invariant-loop
+abbrev invariant-loop : tie.invariant-loop-g
 invariant-loop s n₀ g₀ n g =
     (g ≤ s.groups) × (n ≡ tables_count s.c s.inputs g) × (n ≤ 2 ^ most_members * g)
 
-abbrev decreases-loop : tie.decreases-loop
+abbrev decreases-loop : tie.decreases-loop-g
 decreases-loop s n₀ g₀ n g = s.groups - g
 
-loop-holds : tie.Need-loop-init invariant-loop decreases-loop
+loop-holds : tie.Need-loop-g-init invariant-loop decreases-loop
 loop-holds c = search rules
 
-group-size-requires : tie.Need-group-size-requires invariant-loop decreases-loop
+group-size-requires : tie.Need-group_size-requires invariant-loop decreases-loop
 group-size-requires c κs = search group_inside
 
-table-count-requires : tie.Need-table-count-requires invariant-loop decreases-loop
+table-count-requires : tie.Need-table_count-n-requires invariant-loop decreases-loop
 table-count-requires c κs = search size_few
 
-add-n : tie.Need-overflow-add-n invariant-loop decreases-loop
+add-n : tie.Need-overflow_add-n invariant-loop decreases-loop
 add-n c = search rules
 
-add-g : tie.Need-overflow-add-g invariant-loop decreases-loop
+add-g : tie.Need-overflow_add-g invariant-loop decreases-loop
 add-g c = search rules
 
-loop-less : tie.Need-loop-smaller invariant-loop decreases-loop
+loop-less : tie.Need-loop-g-smaller invariant-loop decreases-loop
 loop-less c = search rules
 
-loop-again : tie.Need-loop-preserved invariant-loop decreases-loop
+loop-again : tie.Need-loop-g-preserved invariant-loop decreases-loop
 loop-again c = (search rules, search tables_on, search rules)
 
 returns : tie.Need-returns invariant-loop decreases-loop

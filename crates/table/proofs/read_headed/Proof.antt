@@ -4,42 +4,42 @@ use Rattle.table.proofs.Whole.{head_none, head_many, head_names, head_amounts}
 use Rattle.table.proofs.read_headed.Statement.{statement}
 use Rattle.table.proofs.read_headed.Tie as tie
 
-add-t8 : tie.Need-overflow-add-t8
+add-t8 : tie.Need-overflow_add-result
 add-t8 c = search rules
 
-returns : tie.Need-returns
-returns c = head_none _ _ _ _ _ c.before.if1.true
+returns : tie.Need-returns-then-p-eq0
+returns c = head_none _ _ _ _ _ c.if-p-eq0.true
 
-add-t9 : tie.Need-overflow-add-t9
+add-t9 : tie.Need-overflow_add-result-then-p-gt-MOST_COLUMNS
 add-t9 c = search rules
 
-returns-2 : tie.Need-returns-2
-returns-2 c = head_many _ _ _ _ _ c.before.if2.true
+returns-2 : tie.Need-returns-then-p-gt-MOST_COLUMNS
+returns-2 c = head_many _ _ _ _ _ c.if-p-gt-MOST_COLUMNS.true
 
-add-read-rows : tie.Need-overflow-add-read-rows
+add-read-rows : tie.Need-overflow_add-end
 add-read-rows c = search rules
 
-read-rows-requires : tie.Need-read-rows-requires
+read-rows-requires : tie.Need-read_rows-requires
 read-rows-requires c κs = search rules
 
-same_length : tie.Need-same-length
+same_length : tie.Need-shape_of-amounts-then-head-eq0
 same_length c = search rules
 
-returns-3 : tie.Need-returns-3
+returns-3 : tie.Need-returns-then-head-eq0
 returns-3 c =
     let t = c.before.before.before.before in
-    head_names _ _ _ _ _ t.before.before.before.if1.false t.before.before.if2.false _ _ t.if3.true c.before.before.read-rows.ensures
+    head_names _ _ _ _ _ t.if-p-eq0.false t.if-p-gt-MOST_COLUMNS.false _ _ t.if-head-eq0.true c.read_rows.ensures
 
-read-rows-requires-2 : tie.Need-read-rows-requires-2
+read-rows-requires-2 : tie.Need-read_rows-requires-2
 read-rows-requires-2 c κs = search rules
 
-same-length-2 : tie.Need-same-length-2
+same-length-2 : tie.Need-shape_of-amounts
 same-length-2 c = search rules
 
-returns-4 : tie.Need-returns-4
+returns-4 : tie.Need-returns
 returns-4 c =
     let t = c.before.before.before.before in
-    head_amounts _ _ _ _ _ t.before.before.before.if1.false t.before.before.if2.false _ _ t.if3.false c.before.before.read-rows2.ensures
+    head_amounts _ _ _ _ _ t.if-p-eq0.false t.if-p-gt-MOST_COLUMNS.false _ _ t.if-head-eq0.false c.read_rows-2.ensures
 
 pub read_headed_spec : {M : Type 1} → statement M
 read_headed_spec =

@@ -8,48 +8,48 @@ use Rattle.table.proofs.Whole.{table_cut, table_none, table_headed}
 use Rattle.table.proofs.read_table.Statement.{statement}
 use Rattle.table.proofs.read_table.Tie as tie
 
-is-cut-requires : tie.Need-is-cut-requires
+is-cut-requires : tie.Need-is_cut-requires
 is-cut-requires c κs = search rules
 
-cut-text-requires : tie.Need-cut-text-requires
+cut-text-requires : tie.Need-cut_text-requires
 cut-text-requires c κs = search rules
 
-returns : tie.Need-returns
-returns c = table_cut _ _ c.before.before.is_cut.ensures _ _ _ c.before.if1.true c.cut-text.ensures
+returns : tie.Need-returns-then-is_cut
+returns c = table_cut _ _ c.is_cut.ensures _ _ _ c.if-is_cut.true c.cut_text.ensures
 
-returns-2 : tie.Need-returns-2
-returns-2 c = table_none _ _ c.before.before.is_cut.ensures _ _ c.before.if1.false c.if2.true
+returns-2 : tie.Need-returns-then-text-eq0
+returns-2 c = table_none _ _ c.is_cut.ensures _ _ c.if-is_cut.false c.if-text-eq0.true
 
-line-end-requires : tie.Need-line-end-requires
+line-end-requires : tie.Need-line_end-end-requires
 line-end-requires c κs = search rules
 
-slice-aggregate-first-line : tie.Need-slice-aggregate-first-line
+slice-aggregate-first-line : tie.Need-slice_bounds-first_line-end
 slice-aggregate-first-line c =
-    let w = end_within c.before.before.before.before.before.before.before.args.text.now 0 c.before.line-end.result (omega arith) c.before.line-end.ensures in
+    let w = end_within c.args.text.now 0 c.line_end-end.result (omega arith) c.line_end-end.ensures in
     sym (length-take-le _ _ w.1)
 
-first-line-requires : tie.Need-first-line-requires
+first-line-requires : tie.Need-first_line-head-requires
 first-line-requires c κs = search rules
 
-read-headed-requires : tie.Need-read-headed-requires
+read-headed-requires : tie.Need-read_headed-requires
 read-headed-requires c κs =
-    let text = c.before.before.before.before.before.before.before.before.before.args.text.now in
-    let end = c.before.before.before.line-end.result in
-    let w = end_within text 0 end (omega arith) c.before.before.before.line-end.ensures in
-    let low = head_low _ _ c.before.first-line.ensures in
+    let text = c.args.text.now in
+    let end = c.line_end-end.result in
+    let w = end_within text 0 end (omega arith) c.line_end-end.ensures in
+    let low = head_low _ _ c.first_line-head.ensures in
     let long = length-take-le end text w.1 in
     (w.1, search rules)
 
-same_length : tie.Need-same-length
+same_length : tie.Need-shape_of-amounts
 same_length c = search rules
 
-returns-3 : tie.Need-returns-3
+returns-3 : tie.Need-returns
 returns-3 c =
     let f = c.before.before.before.before in
     let e = f.before.before in
     let t = e.before in
-    table_headed _ _ t.before.before.is_cut.ensures _ _ t.before.if1.false _ _ _ _ t.if2.false e.line-end.ensures f.first-line.ensures
-    c.before.before.read-headed.ensures
+    table_headed _ _ t.is_cut.ensures _ _ t.if-is_cut.false _ _ _ _ t.if-text-eq0.false e.line_end-end.ensures f.first_line-head.ensures
+    c.read_headed.ensures
 
 pub read_table_spec : {M : Type 1} → statement M
 read_table_spec =

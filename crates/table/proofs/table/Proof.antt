@@ -9,8 +9,8 @@ use Rattle.table.proofs.table.Tie as tie
 pub table_spec : {M : Type 1} → statement M
 table_spec =
     tie.close
-    (tie.spec (λ c κs. search rules) (λ c. start_within _ _ c.mark-length.ensures) (λ c. start_within _ _ c.mark-length.ensures)
+    (tie.spec (λ c κs. search rules) (λ c. start_within _ _ c.mark_length-start.ensures) (λ c. start_within _ _ c.mark_length-start.ensures)
     (λ c. search rules) (λ c κs. search rules) (λ c κs. search rules) (λ c. search rules)
     (λ c.
     let k = c.before.before.before.before in
-    body_told table_in _ _ _ _ _ _ _ _ k.before.before.before.mark-length.ensures k.read_table.ensures c.tell-text.ensures))
+    body_told table_in _ _ _ _ _ _ _ _ k.mark_length-start.ensures k.read_table-read.ensures c.tell_text.ensures))

@@ -4,40 +4,40 @@ use Rattle.tables.proofs.Tabling.{entering}
 use Rattle.tables.proofs.counted_entry.Statement.{statement}
 use Rattle.tables.proofs.counted_entry.Tie as tie
 
-sub-unit : tie.Need-overflow-sub-unit
+sub-unit : tie.Need-overflow_sub-unit
 sub-unit c = search entering
 
-mul-unit : tie.Need-overflow-mul-unit
+mul-unit : tie.Need-offset_bounds-inputs-d
 mul-unit c = search (rules, entering)
 
-shared-slice-read-unit : tie.Need-shared-slice-read-unit
+shared-slice-read-unit : tie.Need-bounds-inputs-d
 shared-slice-read-unit c = search entering
 
-add-made : tie.Need-overflow-add-made
+add-made : tie.Need-overflow_add-made
 add-made c = search rules
 
-sub-made : tie.Need-overflow-sub-made
+sub-made : tie.Need-overflow_sub-made
 sub-made c = search entering
 
-sub-made-2 : tie.Need-overflow-sub-made-2
+sub-made-2 : tie.Need-overflow_sub-made-2
 sub-made-2 c = search (rules, entering)
 
-cast-made : tie.Need-overflow-cast-made
+cast-made : tie.Need-overflow_cast-made-3
 cast-made c = search rules
 
-sub-power : tie.Need-overflow-sub-power
+sub-power : tie.Need-overflow_sub-d
 sub-power c = search entering
 
-mul_power : tie.Need-overflow-mul-power
+mul_power : tie.Need-overflow_mul-k
 mul_power c = Fits-under _ _ 32 (search entering) tt
 
 power-requires : tie.Need-power-requires
 power-requires c κs = search entering
 
-returns : tie.Need-returns
+returns : tie.Need-returns-then-t-power
 returns c = search entering
 
-returns-2 : tie.Need-returns-2
+returns-2 : tie.Need-returns-else-t-power
 returns-2 c = search entering
 
 pub counted_entry_spec : {M : Type 1} → statement M

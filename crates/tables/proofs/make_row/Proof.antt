@@ -10,7 +10,7 @@ use Rattle.tables.proofs.Rows.{InRow, in_row, row_rises, next_fits, place_fits, 
 use Rattle.tables.proofs.make_row.Statement.{statement}
 use Rattle.tables.proofs.make_row.Tie as tie
 
-abbrev invariant-loop : tie.invariant-loop
+abbrev invariant-loop : tie.invariant-loop-t
 invariant-loop k inputs at d steps₀ end s₀ t₀ steps s t =
     (t₀ ≤ t)
     × (t ≤ end)
@@ -19,53 +19,53 @@ invariant-loop k inputs at d steps₀ end s₀ t₀ steps s t =
     × SoFar steps s
     × Longer k inputs at steps₀ s₀ t₀ steps s t
 
-abbrev decreases-loop : tie.decreases-loop
+abbrev decreases-loop : tie.decreases-loop-t
 decreases-loop k inputs at d steps₀ end s₀ t₀ steps s t = end - t
 
-add-power : tie.Need-overflow-add-power invariant-loop decreases-loop
+add-power : tie.Need-overflow_add-d invariant-loop decreases-loop
 add-power c = search rules
 
-mul_power : tie.Need-overflow-mul-power invariant-loop decreases-loop
+mul_power : tie.Need-overflow_mul-k invariant-loop decreases-loop
 mul_power c = Fits-under _ _ 32 (search next_fits) tt
 
-power-requires : tie.Need-power-requires invariant-loop decreases-loop
+power-requires : tie.Need-power-end-requires invariant-loop decreases-loop
 power-requires c κs = search next_fits
 
-mul-power-2 : tie.Need-overflow-mul-power-2 invariant-loop decreases-loop
+mul-power-2 : tie.Need-overflow_mul-k-2 invariant-loop decreases-loop
 mul-power-2 c = Fits-under _ _ 32 (search place_fits) tt
 
-power-requires-2 : tie.Need-power-requires-2 invariant-loop decreases-loop
+power-requires-2 : tie.Need-power-t-requires invariant-loop decreases-loop
 power-requires-2 c κs = search place_fits
 
-add-t : tie.Need-overflow-add-t invariant-loop decreases-loop
+add-t : tie.Need-overflow_add-t invariant-loop decreases-loop
 add-t c = search (rules, unit_fits)
 
-loop-holds : tie.Need-loop-init invariant-loop decreases-loop
+loop-holds : tie.Need-loop-t-init invariant-loop decreases-loop
 loop-holds c = (search rules, search row_rises, search rules, search rules, search rules, search rowing)
 
 -- an entry of the row
-row : (c : tie.In-loop invariant-loop decreases-loop)
-    → let a = c.before.before.before.before.before.before.args in
-    InRow a.k (length a.inputs.now) (a.d + 1) c.before.loop.t
+row : (c : tie.In-loop-t invariant-loop decreases-loop)
+    → let a = c.args in
+    InRow a.k (length a.inputs.now) (a.d + 1) c.loop-t.t
 row c =
     let second = c.before.before in
-    let asked = second.before.before.before.before.requires.asked in
-    in_row _ _ _ _ asked.k_some second.power2.ensures second.before.power.ensures _ _ asked.inside c.before.loop.invariant.0 c.loop-test.true
+    let asked = second.requires.asked in
+    in_row _ _ _ _ asked.k_some second.power-t.ensures second.power-end.ensures _ _ asked.inside c.loop-t.invariant.0 c.loop-t-test.true
 
 -- and room for its step
-room : (c : tie.In-loop invariant-loop decreases-loop) → 2 * (c.before.loop.s.steps + 1) ≤ length c.before.loop.steps
+room : (c : tie.In-loop-t invariant-loop decreases-loop) → 2 * (c.loop-t.s.steps + 1) ≤ length c.loop-t.steps
 room c =
     let at = c.before in
     let second = at.before in
     let s = second.before.before.before.before in
-    omega (arith, s.requires.room.enough, at.loop.invariant.0, at.loop.invariant.2, at.loop.invariant.3, second.power2.ensures, second.before.power.ensures, c.loop-test.true)
+    omega (arith, s.requires.room.enough, at.loop-t.invariant.0, at.loop-t.invariant.2, at.loop-t.invariant.3, second.power-t.ensures, second.power-end.ensures, c.loop-t-test.true)
 
-add-put-entry : tie.Need-overflow-add-put-entry invariant-loop decreases-loop
+add-put-entry : tie.Need-overflow_add-d-in-loop-t invariant-loop decreases-loop
 add-put-entry c = search rules
 
-put-entry-requires : tie.Need-put-entry-requires invariant-loop decreases-loop
+put-entry-requires : tie.Need-put_entry-s-requires invariant-loop decreases-loop
 put-entry-requires c κs =
-    let asked = c.before.before.before.before.before.before.before.requires.asked in
+    let asked = c.requires.asked in
     let r = row c.before in
     record {
       asked =
@@ -85,29 +85,29 @@ put-entry-requires c κs =
                 };
             other = r.other;
           };
-      room = record { so_far = c.before.before.loop.invariant.4; enough = room c.before };
+      room = record { so_far = c.loop-t.invariant.4; enough = room c.before };
     }
 
-add-t-2 : tie.Need-overflow-add-t-2 invariant-loop decreases-loop
+add-t-2 : tie.Need-overflow_add-t-in-loop-t invariant-loop decreases-loop
 add-t-2 c = search rules
 
-loop-less : tie.Need-loop-smaller invariant-loop decreases-loop
+loop-less : tie.Need-loop-t-smaller invariant-loop decreases-loop
 loop-less c = search rules
 
-loop-again : tie.Need-loop-preserved invariant-loop decreases-loop
+loop-again : tie.Need-loop-t-preserved invariant-loop decreases-loop
 loop-again c =
     let put = c.before.before in
-    (search rules, search rules, search rules, search rules, more_so_far (room put.before.before) put.put-entry.ensures, search rowing)
+    (search rules, search rules, search rules, search rules, more_so_far (room put.before.before) put.put_entry-s.ensures, search rowing)
 
-same_length : tie.Need-same-length invariant-loop decreases-loop
+same_length : tie.Need-shape_of-steps invariant-loop decreases-loop
 same_length c = search rules
 
 returns : tie.Need-returns invariant-loop decreases-loop
 returns c =
     let at = c.before in
     let second = at.before in
-    longer_end _ _ _ _ _ _ _ _ _ _ _ _ (ap (λ (n : ℕ). n + 1) second.power2.ensures) at.loop.invariant.1 c.loop-test.false
-    second.before.power.ensures at.loop.invariant.5
+    longer_end _ _ _ _ _ _ _ _ _ _ _ _ (ap (λ (n : ℕ). n + 1) second.power-t.ensures) at.loop-t.invariant.1 c.loop-t-test.false
+    second.power-end.ensures at.loop-t.invariant.5
 
 pub make_row_spec : {M : Type 1} → statement M
 make_row_spec =

@@ -12,40 +12,40 @@ use Rattle.tables.proofs.Rows.{tabling}
 use Rattle.tables.proofs.make_table.Statement.{statement}
 use Rattle.tables.proofs.make_table.Tie as tie
 
-abbrev invariant-loop : tie.invariant-loop
+abbrev invariant-loop : tie.invariant-loop-d
 invariant-loop p k inputs steps₀ at s₀ d₀ steps s d =
     (d ≤ length inputs)
     × (length steps ≡ length steps₀)
     × StepsStored steps₀ steps s (steps_in steps₀ s₀.steps ++ table k inputs at (2 ^ (k * d)))
 
-abbrev decreases-loop : tie.decreases-loop
+abbrev decreases-loop : tie.decreases-loop-d
 decreases-loop p k inputs steps₀ at s₀ d₀ steps s d = length inputs - d
 
-add_at : tie.Need-overflow-add-at invariant-loop decreases-loop
+add_at : tie.Need-overflow_add-at invariant-loop decreases-loop
 add_at c = search rules
 
-add-at-2 : tie.Need-overflow-add-at-2 invariant-loop decreases-loop
+add-at-2 : tie.Need-overflow_add-at-2 invariant-loop decreases-loop
 add-at-2 c = search rules
 
-cast-at : tie.Need-overflow-cast-at invariant-loop decreases-loop
-cast-at c = let a = c.before.before.before.args in omega (arith, pow_pos (a.k * length a.inputs.now))
+cast-at : tie.Need-overflow_cast-at invariant-loop decreases-loop
+cast-at c = let a = c.args in omega (arith, pow_pos (a.k * length a.inputs.now))
 
-loop-holds : tie.Need-loop-init invariant-loop decreases-loop
+loop-holds : tie.Need-loop-d-init invariant-loop decreases-loop
 loop-holds c = (search rules, search rules, search tabling)
 
-make-row-requires : tie.Need-make-row-requires invariant-loop decreases-loop
+make-row-requires : tie.Need-make_row-s-requires invariant-loop decreases-loop
 make-row-requires c κs = record { asked = search rules; room = search tabling }
 
-add-d : tie.Need-overflow-add-d invariant-loop decreases-loop
+add-d : tie.Need-overflow_add-d invariant-loop decreases-loop
 add-d c = search rules
 
-loop-less : tie.Need-loop-smaller invariant-loop decreases-loop
+loop-less : tie.Need-loop-d-smaller invariant-loop decreases-loop
 loop-less c = search rules
 
-loop-again : tie.Need-loop-preserved invariant-loop decreases-loop
+loop-again : tie.Need-loop-d-preserved invariant-loop decreases-loop
 loop-again c = (search rules, search rules, search tabling)
 
-same_length : tie.Need-same-length invariant-loop decreases-loop
+same_length : tie.Need-shape_of-steps invariant-loop decreases-loop
 same_length c = search rules
 
 returns : tie.Need-returns invariant-loop decreases-loop

@@ -7,10 +7,10 @@ use Rattle.tell.specs.Told.{number_of, words_of}
 use Rattle.tell_files.proofs.tell_read.Statement.{statement}
 use Rattle.tell_files.proofs.tell_read.Tie as tie
 
-returns-2 : tie.Need-returns-2
+returns-2 : tie.Need-returns-in-Chain
 returns-2 c =
-    let told = c.tell-words.ensures in
-    let is = c.before.before.before.reading2.given.1 in
+    let told = c.tell_words.ensures in
+    let is = c.reading-in-Chain-1.given.1 in
     record {
       number_is = told.number_is ∙ sym (ap (λ (x : Reading). number_of (read_of x)) is);
       words_are = told.words_are ∙ sym (ap (λ (x : Reading). words_of (read_of x)) is);

@@ -6,20 +6,20 @@ use Rattle.places.proofs.Cases.{case}
 use Rattle.tell_text.proofs.tell_text.Statement.{statement}
 use Rattle.tell_text.proofs.tell_text.Tie as tie
 
-enum-known-read : tie.Need-enum-known-read
+enum-known-read : tie.Need-enum_known-read
 enum-known-read c = search rules
 
-enum-known-read-2 : tie.Need-enum-known-read-2
+enum-known-read-2 : tie.Need-enum_known-read-in-Refused-1
 enum-known-read-2 c = search rules
 
-returns : tie.Need-returns
+returns : tie.Need-returns-in-Values
 returns c =
-    let is = c.before.before.read.given.1 in
+    let is = c.read-1.given.1 in
     record { number_is = case number_told _ _ _ is refl; words_are = case words_told _ _ _ is refl }
 
-returns-2 : tie.Need-returns-2
+returns-2 : tie.Need-returns-in-Refused
 returns-2 c =
-    let is = c.before.before.read2.given.1 in
+    let is = c.read-in-Refused-1.given.1 in
     record { number_is = case number_told _ _ _ is refl; words_are = case words_told _ _ _ is refl }
 
 pub tell_text_spec : {M : Type 1} → statement M

@@ -6,50 +6,50 @@ use Rattle.places.proofs.Cases.{case}
 use Rattle.text.proofs.effect_of.Statement.{statement}
 use Rattle.text.proofs.effect_of.Tie as tie
 
-enum_told : tie.Need-enum-told
+enum_told : tie.Need-enum_told-1
 enum_told c = search rules
 
 part-requires : tie.Need-part-requires
 part-requires c κs = search rules
 
-enum-told-2 : tie.Need-enum-told-2
+enum-told-2 : tie.Need-enum_told-in-Padding
 enum-told-2 c = search rules
 
 pad-requires : tie.Need-pad-requires
 pad-requires c κs = search rules
 
-enum-told-3 : tie.Need-enum-told-3
+enum-told-3 : tie.Need-enum_told-in-Separator
 enum-told-3 c = search rules
 
 close-requires : tie.Need-close-requires
 close-requires c κs = search rules
 
-enum-known-kind : tie.Need-enum-known-kind
+enum-known-kind : tie.Need-enum_known-kind
 enum-known-kind c = search rules
 
 lengthen-requires : tie.Need-lengthen-requires
 lengthen-requires c κs = search rules
 
-enum-known-kind-2 : tie.Need-enum-known-kind-2
+enum-known-kind-2 : tie.Need-enum_known-kind-in-Other-1
 enum-known-kind-2 c = search rules
 
-cast-t9 : tie.Need-overflow-cast-t9
+cast-t9 : tie.Need-overflow_cast-result
 cast-t9 c = search rules
 
-returns : tie.Need-returns
-returns c = case (effect_of _ _ _) _ _ _ c.before.enum_told.given.1 c.part.ensures
+returns : tie.Need-returns-in-Blank
+returns c = case (effect_of _ _ _) _ _ _ c.enum_told-1.given.1 c.part.ensures
 
-returns-2 : tie.Need-returns-2
-returns-2 c = case (effect_of _ _ _) _ _ _ c.before.enum-told2.given.1 c.pad.ensures
+returns-2 : tie.Need-returns-in-Padding
+returns-2 c = case (effect_of _ _ _) _ _ _ c.enum_told-in-Padding-1.given.1 c.pad.ensures
 
-returns-3 : tie.Need-returns-3
-returns-3 c = case (effect_of _ _ _) _ _ _ c.before.enum-told3.given.1 c.close.ensures
+returns-3 : tie.Need-returns-in-Separator
+returns-3 c = case (effect_of _ _ _) _ _ _ c.enum_told-in-Separator-1.given.1 c.close.ensures
 
-returns-4 : tie.Need-returns-4
-returns-4 c = case (effect_of _ _ _) _ _ _ c.before.before.kind.given.1 c.lengthen.ensures
+returns-4 : tie.Need-returns-in-Digit
+returns-4 c = case (effect_of _ _ _) _ _ _ c.kind-1.given.1 c.lengthen.ensures
 
-returns-5 : tie.Need-returns-5
-returns-5 c = case (effect_of _ _ _) _ _ _ c.before.kind2.given.1 refl
+returns-5 : tie.Need-returns-in-Other
+returns-5 c = case (effect_of _ _ _) _ _ _ c.kind-in-Other-1.given.1 refl
 
 pub effect_of_spec : {M : Type 1} → statement M
 effect_of_spec =

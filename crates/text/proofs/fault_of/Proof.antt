@@ -12,45 +12,45 @@ use Rattle.text.proofs.fault_of.Tie as tie
 none : {a b d e : Bool} → a ≡ false → b ≡ false → d ≡ false → e ≡ false → (a or b or d or e) ≡ false
 none a b d e = or_none _ _ a (or_none _ _ b (or_none _ _ d e))
 
-returns : tie.Need-returns
+returns : tie.Need-returns-then-b-eq39
 unfolding fault_of
-returns c = choose_yes _ _ _ _ (or_left _ _ (eq_yes _ _ c.if1.true)) refl
+returns c = choose_yes _ _ _ _ (or_left _ _ (eq_yes _ _ c.if-b-eq39.true)) refl
 
-returns-2 : tie.Need-returns-2
+returns-2 : tie.Need-returns-then-b-eq44
 unfolding fault_of
-returns-2 c = choose_yes _ _ _ _ (or_right _ _ (or_left _ _ (eq_yes _ _ c.if2.true))) refl
+returns-2 c = choose_yes _ _ _ _ (or_right _ _ (or_left _ _ (eq_yes _ _ c.if-b-eq44.true))) refl
 
-returns-3 : tie.Need-returns-3
+returns-3 : tie.Need-returns-then-b-eq46
 unfolding fault_of
-returns-3 c = choose_yes _ _ _ _ (or_right _ _ (or_right _ _ (or_left _ _ (eq_yes _ _ c.if3.true)))) refl
+returns-3 c = choose_yes _ _ _ _ (or_right _ _ (or_right _ _ (or_left _ _ (eq_yes _ _ c.if-b-eq46.true)))) refl
 
-returns-4 : tie.Need-returns-4
+returns-4 : tie.Need-returns-then-b-eq95
 unfolding fault_of
-returns-4 c = choose_yes _ _ _ _ (or_right _ _ (or_right _ _ (or_right _ _ (eq_yes _ _ c.if4.true)))) refl
+returns-4 c = choose_yes _ _ _ _ (or_right _ _ (or_right _ _ (or_right _ _ (eq_yes _ _ c.if-b-eq95.true)))) refl
 
-returns-5 : tie.Need-returns-5
+returns-5 : tie.Need-returns-then-b-eq43
 unfolding fault_of
 returns-5 c =
     let g = c.before in
-    let no = none (eq_no _ _ g.before.before.before.if1.false) (eq_no _ _ g.before.before.if2.false) (eq_no _ _ g.before.if3.false)
-    (eq_no _ _ g.if4.false) in
-    choose_no _ _ _ _ no (choose_yes _ _ _ _ (or_left _ _ (eq_yes _ _ c.if5.true)) refl)
+    let no = none (eq_no _ _ g.if-b-eq39.false) (eq_no _ _ g.if-b-eq44.false) (eq_no _ _ g.if-b-eq46.false)
+    (eq_no _ _ g.if-b-eq95.false) in
+    choose_no _ _ _ _ no (choose_yes _ _ _ _ (or_left _ _ (eq_yes _ _ c.if-b-eq43.true)) refl)
 
-returns-6 : tie.Need-returns-6
+returns-6 : tie.Need-returns-then-b-eq45
 unfolding fault_of
 returns-6 c =
     let g = c.before.before in
-    let no = none (eq_no _ _ g.before.before.before.if1.false) (eq_no _ _ g.before.before.if2.false) (eq_no _ _ g.before.if3.false)
-    (eq_no _ _ g.if4.false) in
-    choose_no _ _ _ _ no (choose_yes _ _ _ _ (or_right _ _ (eq_yes _ _ c.if6.true)) refl)
+    let no = none (eq_no _ _ g.if-b-eq39.false) (eq_no _ _ g.if-b-eq44.false) (eq_no _ _ g.if-b-eq46.false)
+    (eq_no _ _ g.if-b-eq95.false) in
+    choose_no _ _ _ _ no (choose_yes _ _ _ _ (or_right _ _ (eq_yes _ _ c.if-b-eq45.true)) refl)
 
-returns-7 : tie.Need-returns-7
+returns-7 : tie.Need-returns
 unfolding fault_of
 returns-7 c =
     let g = c.before.before in
-    let no = none (eq_no _ _ g.before.before.before.if1.false) (eq_no _ _ g.before.before.if2.false) (eq_no _ _ g.before.if3.false)
-    (eq_no _ _ g.if4.false) in
-    choose_no _ _ _ _ no (choose_no _ _ _ _ (or_none _ _ (eq_no _ _ c.before.if5.false) (eq_no _ _ c.if6.false)) refl)
+    let no = none (eq_no _ _ g.if-b-eq39.false) (eq_no _ _ g.if-b-eq44.false) (eq_no _ _ g.if-b-eq46.false)
+    (eq_no _ _ g.if-b-eq95.false) in
+    choose_no _ _ _ _ no (choose_no _ _ _ _ (or_none _ _ (eq_no _ _ c.if-b-eq43.false) (eq_no _ _ c.if-b-eq45.false)) refl)
 
 pub fault_of_spec : {M : Type 1} → statement M
 fault_of_spec =

@@ -8,83 +8,83 @@ use Rattle.text.proofs.Reading.{Reads, reads_start, reads_end, reads_room, reads
 use Rattle.text.proofs.parse.Statement.{statement}
 use Rattle.text.proofs.parse.Tie as tie
 
-abbrev invariant-loop : tie.invariant-loop
+abbrev invariant-loop : tie.invariant-loop-i
 invariant-loop by text from room numbers₀ made₀ making₀ i₀ numbers made making i = (i ≤ length text + 1) × Reads by text from room numbers₀ made making i numbers
 
-abbrev decreases-loop : tie.decreases-loop
+abbrev decreases-loop : tie.decreases-loop-i
 decreases-loop by text from room numbers₀ made₀ making₀ i₀ numbers made making i = length text + 1 - i
 
-loop-holds : tie.Need-loop-init invariant-loop decreases-loop
+loop-holds : tie.Need-loop-i-init invariant-loop decreases-loop
 loop-holds c = (search rules, reads_start _ _ _ _ _)
 
-kind-at-requires : tie.Need-kind-at-requires invariant-loop decreases-loop
+kind-at-requires : tie.Need-kind_at-kind-requires invariant-loop decreases-loop
 kind-at-requires c κs = search rules
 
-effect-of-requires : tie.Need-effect-of-requires invariant-loop decreases-loop
+effect-of-requires : tie.Need-effect_of-requires invariant-loop decreases-loop
 effect-of-requires c κs = search rules
 
-enum-known-next : tie.Need-enum-known-next invariant-loop decreases-loop
+enum-known-next : tie.Need-enum_known-next invariant-loop decreases-loop
 enum-known-next c = search rules
 
-enum-known-x : tie.Need-enum-known-x invariant-loop decreases-loop
+enum-known-x : tie.Need-enum_known-x invariant-loop decreases-loop
 enum-known-x c = search rules
 
-slice-write-numbers : tie.Need-slice-write-numbers invariant-loop decreases-loop
+slice-write-numbers : tie.Need-bounds-numbers-from invariant-loop decreases-loop
 slice-write-numbers c =
     let y = c.before.before.before in
-    let l = y.before.before.before.loop in
+    let l = y.loop-i in
     let low =
-    reads_room _ _ _ _ _ _ _ _ _ l.invariant.1 y.before.before.loop-test.true _ _ y.before.kind_at.ensures y.effect_of.ensures _ c.before.x.given.1 in
-    omega (arith, l.invariant.1.long, y.before.before.before.before.before.before.requires, low)
+    reads_room _ _ _ _ _ _ _ _ _ l.invariant.1 y.loop-i-test.true _ _ y.kind_at-kind.ensures y.effect_of.ensures _ c.x-1.given.1 in
+    omega (arith, l.invariant.1.long, y.requires, low)
 
-add-numbers : tie.Need-overflow-add-numbers invariant-loop decreases-loop
+add-numbers : tie.Need-overflow_add-numbers invariant-loop decreases-loop
 add-numbers c = let h = slice-write-numbers c in search rules
 
-mul-numbers : tie.Need-overflow-mul-numbers invariant-loop decreases-loop
+mul-numbers : tie.Need-offset_bounds-numbers-from invariant-loop decreases-loop
 mul-numbers c = let h = slice-write-numbers c in search rules
 
-add-made : tie.Need-overflow-add-made invariant-loop decreases-loop
+add-made : tie.Need-overflow_add-made invariant-loop decreases-loop
 add-made c = omega (arith, slice-write-numbers c)
 
-enum-known-fault : tie.Need-enum-known-fault invariant-loop decreases-loop
+enum-known-fault : tie.Need-enum_known-fault invariant-loop decreases-loop
 enum-known-fault c = search rules
 
-add-t21 : tie.Need-overflow-add-t21 invariant-loop decreases-loop
+add-t21 : tie.Need-overflow_add-result invariant-loop decreases-loop
 add-t21 c = search rules
 
-same_length : tie.Need-same-length invariant-loop decreases-loop
-same_length c = c.before.before.before.before.before.before.loop.invariant.1.long
+same_length : tie.Need-shape_of-numbers-in-Faulty invariant-loop decreases-loop
+same_length c = c.loop-i.invariant.1.long
 
-returns : tie.Need-returns invariant-loop decreases-loop
+returns : tie.Need-returns-in-Faulty invariant-loop decreases-loop
 returns c =
     let y = c.before.before.before in
-    let l = y.before.before.before.loop in
-    reads_stop _ _ _ _ _ _ _ _ _ l.invariant.1 y.before.before.loop-test.true _ _ y.before.kind_at.ensures y.effect_of.ensures _ _ _ c.before.fault.given.1
+    let l = y.loop-i in
+    reads_stop _ _ _ _ _ _ _ _ _ l.invariant.1 y.loop-i-test.true _ _ y.kind_at-kind.ensures y.effect_of.ensures _ _ _ c.fault-1.given.1
 
-add-i : tie.Need-overflow-add-i invariant-loop decreases-loop
+add-i : tie.Need-overflow_add-i invariant-loop decreases-loop
 add-i c = search rules
 
-loop-less : tie.Need-loop-smaller invariant-loop decreases-loop
+loop-less : tie.Need-loop-i-smaller invariant-loop decreases-loop
 loop-less c = search rules
 
-loop-again : tie.Need-loop-preserved invariant-loop decreases-loop
+loop-again : tie.Need-loop-i-preserved invariant-loop decreases-loop
 loop-again c =
     let y = c.before in
-    let l = y.before.before.before.loop in
-    let at = y.before.before.loop-test.true in
-    let room = y.before.before.before.before.before.before.requires in (
+    let l = y.loop-i in
+    let at = y.loop-i-test.true in
+    let room = y.requires in (
       search rules,
       ⊎_elim
-          (λ w. on_becomes _ _ _ _ _ _ _ _ _ l.invariant.1 at _ _ y.before.kind_at.ensures y.effect_of.ensures _ _ _ _ w.1.given.1 w.3 w.4 w.5)
-          (λ w. on_ends _ _ _ _ _ _ _ _ _ l.invariant.1 at _ _ y.before.kind_at.ensures y.effect_of.ensures _ _ _ _ w.1.given.1 room w.3 w.4 w.5)
-          c.match.branch,
+          (λ w. on_becomes _ _ _ _ _ _ _ _ _ l.invariant.1 at _ _ y.kind_at-kind.ensures y.effect_of.ensures _ _ _ _ w.1.given.1 w.3 w.4 w.5)
+          (λ w. on_ends _ _ _ _ _ _ _ _ _ l.invariant.1 at _ _ y.kind_at-kind.ensures y.effect_of.ensures _ _ _ _ w.1.given.1 room w.3 w.4 w.5)
+          c.match-effect_of.branch,
     )
 
-same-length-2 : tie.Need-same-length-2 invariant-loop decreases-loop
-same-length-2 c = c.before.loop.invariant.1.long
+same-length-2 : tie.Need-shape_of-numbers invariant-loop decreases-loop
+same-length-2 c = c.loop-i.invariant.1.long
 
-returns-2 : tie.Need-returns-2 invariant-loop decreases-loop
-returns-2 c = reads_end _ _ _ _ _ _ _ _ _ c.before.loop.invariant.1 c.loop-test.false
+returns-2 : tie.Need-returns invariant-loop decreases-loop
+returns-2 c = reads_end _ _ _ _ _ _ _ _ _ c.loop-i.invariant.1 c.loop-i-test.false
 
 pub parse_spec : {M : Type 1} → statement M
 parse_spec =

@@ -5,10 +5,10 @@ use Rattle.unpacking.proofs.Judging.{FieldsLeft, fields_start, fields_on, fields
 use Rattle.unpacking.proofs.judge_fields.Statement.{statement}
 use Rattle.unpacking.proofs.judge_fields.Tie as tie
 
-abbrev invariant-loop : tie.invariant-loop
+abbrev invariant-loop : tie.invariant-loop-i
 invariant-loop bytes m i₀ i = FieldsLeft bytes m i
 
-abbrev decreases-loop : tie.decreases-loop
+abbrev decreases-loop : tie.decreases-loop-i
 decreases-loop bytes m i₀ i = m - i
 
 pub judge_fields_spec : {M : Type 1} → statement M

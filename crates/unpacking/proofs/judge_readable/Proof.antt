@@ -11,17 +11,17 @@ use Rattle.unpacking.proofs.judge_readable.Statement.{statement}
 use Rattle.unpacking.proofs.judge_readable.Tie as tie
 
 -- a sheet has few fields
-few : (e : tie.After-enum-told)
+few : (e : tie.In-Fine)
     → let s = e.before.before.before.before.args in
     s.p * s.q ≤ most_columns * most_payslips
 few e =
     let sizes = e.before.before.judge-sizes.ensures in
     product_low _ _ (columns_low _ _ _ sizes e.enum_told.given.1) (payslips_low _ _ _ sizes e.enum_told.given.1)
 
-mul-m : tie.Need-overflow-mul-m
+mul-m : tie.Need-overflow_mul-m
 mul-m c = record { fits = omega (arith, few c) }
 
-mul-if1 : tie.Need-overflow-mul-if1
+mul-if1 : tie.Need-overflow_mul-m-in-Fine
 mul-if1 c = record { fits = omega (arith, few c) }
 
 pub judge_readable_spec : {M : Type 1} → statement M

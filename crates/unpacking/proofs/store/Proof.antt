@@ -10,24 +10,24 @@ use Rattle.packed.proofs.Fields.{length_amounts, amount_is}
 use Rattle.unpacking.proofs.store.Statement.{statement}
 use Rattle.unpacking.proofs.store.Tie as tie
 
-abbrev invariant-loop : tie.invariant-loop
+abbrev invariant-loop : tie.invariant-loop-i
 invariant-loop bytes m amounts₀ i₀ amounts i = LaidTo (map amount_of (fields_in m bytes)) 0 amounts₀ i amounts
 
-abbrev decreases-loop : tie.decreases-loop
+abbrev decreases-loop : tie.decreases-loop-i
 decreases-loop bytes m amounts₀ i₀ amounts i = m - i
 
-loop-again : tie.Need-loop-preserved invariant-loop decreases-loop
+loop-again : tie.Need-loop-i-preserved invariant-loop decreases-loop
 loop-again c =
     let turn = c.before in
     let start = turn.before.before.before.before in
     let long = length_amounts start.args.m start.args.bytes.now in
-    front_more _ _ _ _ _ (omega (arith, long, turn.loop-test.true)) (omega (arith, long, start.requires.room))
-    (c.amount-at.ensures ∙ sym (amount_is _ _ _ turn.loop-test.true)) turn.before.loop.invariant
+    front_more _ _ _ _ _ (omega (arith, long, turn.loop-i-test.true)) (omega (arith, long, start.requires.room))
+    (c.amount_at.ensures ∙ sym (amount_is _ _ _ turn.loop-i-test.true)) turn.loop-i.invariant
 
 returns : tie.Need-returns invariant-loop decreases-loop
 returns c =
     let start = c.before.before.before.before in
-    front_all _ _ _ _ (omega (arith, length_amounts start.args.m start.args.bytes.now, c.loop-test.false)) c.before.loop.invariant
+    front_all _ _ _ _ (omega (arith, length_amounts start.args.m start.args.bytes.now, c.loop-i-test.false)) c.loop-i.invariant
 
 pub store_spec : {M : Type 1} → statement M
 store_spec =

@@ -10,38 +10,38 @@ use Rattle.packed.proofs.Given.{Readable, readable}
 use Rattle.unpacking.proofs.unpack.Statement.{statement}
 use Rattle.unpacking.proofs.unpack.Tie as tie
 
-found_fine : (e : tie.After-enum-told)
+found_fine : (e : tie.In-Fine)
     → let s = e.before.before.before.before.before.args in
     fine ≡ readable_rule s.p s.q s.bytes.now
 found_fine e = told_fine _ _ e.before.before.judge-readable.ensures e.enum_told.given.1
 
-can_read : (e : tie.After-enum-told)
+can_read : (e : tie.In-Fine)
     → let s = e.before.before.before.before.before.args in
     Readable s.p s.q s.bytes.now
 can_read e = readable _ _ _ (sym (found_fine e))
 
-mul-m : tie.Need-overflow-mul-m
+mul-m : tie.Need-overflow_mul-m
 mul-m c = record { fits = omega (arith, (can_read c).few) }
 
-returns : tie.Need-returns
+returns : tie.Need-returns-then-amounts-m
 unfolding unpack_rule unpack_answer unpack_amounts
-returns c = refused_leaves _ _ _ _ 5 0 (too_short _ _ _ (found_fine c.before) c.if1.true)
+returns c = refused_leaves _ _ _ _ 5 0 (too_short _ _ _ (found_fine c.before) c.if-amounts-m.true)
 
 store-requires : tie.Need-store-requires
-store-requires c κs = record { there = omega (arith, (can_read c.before.before).long); room = c.before.if1.false }
+store-requires c κs = record { there = omega (arith, (can_read c.before.before).long); room = c.if-amounts-m.false }
 
-returns-2 : tie.Need-returns-2
+returns-2 : tie.Need-returns-in-Refused
 unfolding unpack_rule unpack_answer unpack_amounts
 returns-2 c =
     refused_leaves _ _ _ _ _ _
-    (given_refused _ _ _ _ _ (told_refused_lem _ _ _ _ c.before.before.before.judge-readable.ensures c.before.number.given.1))
+    (given_refused _ _ _ _ _ (told_refused_lem _ _ _ _ c.judge_readable.ensures c.number-1.given.1))
 
-returns-3 : tie.Need-returns-3
+returns-3 : tie.Need-returns-else-amounts-m
 unfolding unpack_rule unpack_answer unpack_amounts
 returns-3 c =
     let stored = c.before.before in
     let room = stored.before.before in
-    done_leaves _ _ _ _ _ (long_enough _ _ _ (found_fine room.before) room.if1.false) stored.store.ensures
+    done_leaves _ _ _ _ _ (long_enough _ _ _ (found_fine room.before) room.if-amounts-m.false) stored.store.ensures
 
 pub unpack_spec : {M : Type 1} → statement M
 unpack_spec =

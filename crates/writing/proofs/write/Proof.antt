@@ -4,19 +4,19 @@ use borrow.Author.Rules.{rules}
 use Rattle.writing.proofs.write.Statement.{statement}
 use Rattle.writing.proofs.write.Tie as tie
 
-first-edition-requires : tie.Need-first-edition-requires
+first-edition-requires : tie.Need-first_edition-requires
 first-edition-requires c κs = search rules
 
-write-as-requires : tie.Need-write-as-requires
-write-as-requires c κs = rw c.before.first-edition.ensures edition1_sound
+write-as-requires : tie.Need-write_as-requires
+write-as-requires c κs = rw c.first_edition.ensures edition1_sound
 
-same_length : tie.Need-same-length
+same_length : tie.Need-shape_of-bytes
 same_length c = search rules
 
 returns : tie.Need-returns
 returns c =
     let w = c.before.before in
-    let e = w.before.before.first-edition.ensures in
+    let e = w.first_edition.ensures in
     let r = rw e at w.write_as.ensures in
     (r.answered, r.left)
 

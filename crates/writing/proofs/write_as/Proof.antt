@@ -13,50 +13,50 @@ use borrow.Author.Rules.{rules}
 use Rattle.writing.proofs.write_as.Statement.{statement}
 use Rattle.writing.proofs.write_as.Tie as tie
 
-judge-shape-requires : tie.Need-judge-shape-requires
+judge-shape-requires : tie.Need-judge_shape-requires
 judge-shape-requires c κs = search rules
 
-enum-known-number : tie.Need-enum-known-number
+enum-known-number : tie.Need-enum_known-number
 enum-known-number c = search rules
 
-returns : tie.Need-returns
+returns : tie.Need-returns-in-Refused
 returns c =
     let j = c.before.before.before in
-    let a = j.before.before.before.before.args in
-    shape_refused a.layout a.p a.steps.now a.outputs.now a.bytes.now _ j.judge-shape.ensures _ _ c.before.number.given.1
+    let a = j.args in
+    shape_refused a.layout a.p a.steps.now a.outputs.now a.bytes.now _ j.judge_shape.ensures _ _ c.number-1.given.1
 
-enum_told : tie.Need-enum-told
+enum_told : tie.Need-enum_told-1
 enum_told c = search rules
 
 -- the sizes are those that the layout holds
-held : (c : tie.After-enum-told) → let a = c.before.before.before.before.before.before.args in
+held : (c : tie.In-Fine) → let a = c.args in
     Sized a.layout a.p (length a.outputs.now) (length a.steps.now / 2)
 held c =
     let j = c.before.before in
-    let a = j.before.before.before.before.args in
-    sized a.layout a.p a.steps.now a.outputs.now a.bytes.now _ j.judge-shape.ensures c.enum_told.given.1
+    let a = j.args in
+    sized a.layout a.p a.steps.now a.outputs.now a.bytes.now _ j.judge_shape.ensures c.enum_told-1.given.1
 
-extent-of-requires : tie.Need-extent-of-requires
-extent-of-requires c κs = record { sound = c.before.before.before.before.before.before.requires; sized = held c }
+extent-of-requires : tie.Need-extent_of-s-requires
+extent-of-requires c κs = record { sound = c.requires; sized = held c }
 
-judge-rest-requires : tie.Need-judge-rest-requires
+judge-rest-requires : tie.Need-judge_rest-requires
 judge-rest-requires c κs =
     let start = c.before.before.before.before.before.before.before in
     let sizes = held c.before in
     omega (arith, sizes.p_low, sizes.n_low, start.requires.narrow)
 
-enum-known-number-2 : tie.Need-enum-known-number-2
+enum-known-number-2 : tie.Need-enum_known-number-in-Refused-judge_rest
 enum-known-number-2 c = search rules
 
-enum-told-2 : tie.Need-enum-told-2
+enum-told-2 : tie.Need-enum_told-in-Fine-judge_rest
 enum-told-2 c = search rules
 
 -- the bytes counted
-counts : (c : tie.After-extent-of) → let a = c.before.before.before.before.before.before.before.args in
-    c.extent-of.result.bytes ≡ byte_count a.layout a.p (length a.outputs.now) (length a.steps.now / 2)
-counts c = ap (λ (x : Extent). x.bytes) c.extent-of.ensures
+counts : (c : tie.After-extent_of-s) → let a = c.args in
+    c.extent_of-s.result.bytes ≡ byte_count a.layout a.p (length a.outputs.now) (length a.steps.now / 2)
+counts c = ap (λ (x : Extent). x.bytes) c.extent_of-s.ensures
 
-put-chain-requires : tie.Need-put-chain-requires
+put-chain-requires : tie.Need-put_chain-requires
 put-chain-requires c κs =
     let f = c.before in
     let i = f.before.before in
@@ -65,23 +65,23 @@ put-chain-requires c κs =
     let j = e.before.before in
     let s = j.before.before.before.before in
     let a = s.args in
-    to_write a.layout a.p a.steps.now a.outputs.now a.bytes.now _ j.judge-shape.ensures e.enum_told.given.1 _ (counts x) _
-    i.judge-rest.ensures s.requires _ x.extent-of.ensures f.enum-told2.given.1
+    to_write a.layout a.p a.steps.now a.outputs.now a.bytes.now _ j.judge_shape.ensures e.enum_told-1.given.1 _ (counts x) _
+    i.judge_rest.ensures s.requires _ x.extent_of-s.ensures f.enum_told-in-Fine-judge_rest-1.given.1
 
-returns-2 : tie.Need-returns-2
+returns-2 : tie.Need-returns-in-Refused-judge_rest
 returns-2 c =
     let i = c.before.before.before in
     let x = i.before in
     let e = x.before in
     let j = e.before.before in
-    let a = j.before.before.before.before.args in
-    rest_refused a.layout a.p a.steps.now a.outputs.now a.bytes.now _ j.judge-shape.ensures e.enum_told.given.1 _ (counts x) _
-    i.judge-rest.ensures _ _ c.before.number2.given.1
+    let a = j.args in
+    rest_refused a.layout a.p a.steps.now a.outputs.now a.bytes.now _ j.judge_shape.ensures e.enum_told-1.given.1 _ (counts x) _
+    i.judge_rest.ensures _ _ c.number-in-Refused-judge_rest-1.given.1
 
-same_length : tie.Need-same-length
+same_length : tie.Need-shape_of-bytes
 same_length c = search rules
 
-returns-3 : tie.Need-returns-3
+returns-3 : tie.Need-returns-in-Fine-judge_rest
 returns-3 c =
     let u = c.before.before in
     let f = u.before.before in
@@ -89,11 +89,11 @@ returns-3 c =
     let x = i.before in
     let e = x.before in
     let j = e.before.before in
-    let a = j.before.before.before.before.args in
-    all_written a.layout a.p a.steps.now a.outputs.now a.bytes.now _ j.judge-shape.ensures e.enum_told.given.1 _ (counts x) _
-    i.judge-rest.ensures f.enum-told2.given.1 _
-    (u.put-chain.ensures ∙ ap (λ (y : Extent). over (file_of a.layout y.p (pairs a.steps.now) a.outputs.now) a.bytes.now)
-    x.extent-of.ensures)
+    let a = j.args in
+    all_written a.layout a.p a.steps.now a.outputs.now a.bytes.now _ j.judge_shape.ensures e.enum_told-1.given.1 _ (counts x) _
+    i.judge_rest.ensures f.enum_told-in-Fine-judge_rest-1.given.1 _
+    (u.put_chain.ensures ∙ ap (λ (y : Extent). over (file_of a.layout y.p (pairs a.steps.now) a.outputs.now) a.bytes.now)
+    x.extent_of-s.ensures)
 
 pub write_as_spec : {M : Type 1} → statement M
 write_as_spec =

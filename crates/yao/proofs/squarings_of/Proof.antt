@@ -5,16 +5,16 @@ use Rattle.yao.proofs.Measuring.{squarings_none, squarings_few}
 use Rattle.yao.proofs.squarings_of.Statement.{statement}
 use Rattle.yao.proofs.squarings_of.Tie as tie
 
-returns : tie.Need-returns
+returns : tie.Need-returns-then-digits-eq0
 returns c = record { is = search squarings_none; low = search rules }
 
-sub-result : tie.Need-overflow-sub-result
+sub-result : tie.Need-overflow_sub-result
 sub-result c = search rules
 
-mul-result : tie.Need-overflow-mul-result
-mul-result c = Fits-under _ _ 32 (omega (arith, squarings_few c.before.args.k c.before.args.digits (search rules))) tt
+mul-result : tie.Need-overflow_mul-result
+mul-result c = Fits-under _ _ 32 (omega (arith, squarings_few c.args.k c.args.digits (search rules))) tt
 
-returns-2 : tie.Need-returns-2
+returns-2 : tie.Need-returns
 returns-2 c = record { is = search rules; low = search squarings_few }
 
 pub squarings_of_spec : {M : Type 1} → statement M

@@ -5,22 +5,22 @@ use Rattle.yao_count.proofs.Counting.{ceiling_fits, ceiling_few, ceiling_some, c
 use Rattle.yao_count.proofs.amount_ceiling.Statement.{statement}
 use Rattle.yao_count.proofs.amount_ceiling.Tie as tie
 
-returns : tie.Need-returns
+returns : tie.Need-returns-then-x-eq0
 returns c = record { is = search ceiling_none; low = search rules }
 
 power-requires : tie.Need-power-requires
 power-requires c κs = search rules
 
-cast-lessened : tie.Need-overflow-cast-lessened
+cast-lessened : tie.Need-overflow_cast-power
 cast-lessened c = search rules
 
-add-lessened : tie.Need-overflow-add-lessened
+add-lessened : tie.Need-overflow_add-digits
 add-lessened c = Fits-under _ _ amount_most (search ceiling_fits) tt
 
 lessened-requires : tie.Need-lessened-requires
 lessened-requires c κs = search rules
 
-returns-2 : tie.Need-returns-2
+returns-2 : tie.Need-returns
 returns-2 c = record { is = search ceiling_some; low = search ceiling_few }
 
 pub amount_ceiling_spec : {M : Type 1} → statement M

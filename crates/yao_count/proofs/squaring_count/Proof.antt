@@ -10,37 +10,37 @@ use Rattle.yao.proofs.Measuring.{column_few}
 use Rattle.yao_count.proofs.squaring_count.Statement.{statement}
 use Rattle.yao_count.proofs.squaring_count.Tie as tie
 
-abbrev invariant-loop : tie.invariant-loop
+abbrev invariant-loop : tie.invariant-loop-c
 invariant-loop p k columns n₀ c₀ n c = (c ≤ p) × (n ≡ sum_to c (squarings_in k columns)) × (n ≤ squarings_most * c)
 
-abbrev decreases-loop : tie.decreases-loop
+abbrev decreases-loop : tie.decreases-loop-c
 decreases-loop p k columns n₀ c₀ n c = p - c
 
-loop-holds : tie.Need-loop-init invariant-loop decreases-loop
+loop-holds : tie.Need-loop-c-init invariant-loop decreases-loop
 loop-holds c = search rules
 
-mul-squarings-of : tie.Need-overflow-mul-squarings-of invariant-loop decreases-loop
+mul-squarings-of : tie.Need-offset_bounds-columns-c invariant-loop decreases-loop
 mul-squarings-of c = search rules
 
-shared-slice-read-squarings-of : tie.Need-shared-slice-read-squarings-of invariant-loop decreases-loop
+shared-slice-read-squarings-of : tie.Need-bounds-columns-c invariant-loop decreases-loop
 shared-slice-read-squarings-of c = search rules
 
-cast-squarings-of : tie.Need-overflow-cast-squarings-of invariant-loop decreases-loop
-cast-squarings-of c = omega (arith, c.shared-slice-known2.given c.before.before.loop.c)
+cast-squarings-of : tie.Need-overflow_cast-columns invariant-loop decreases-loop
+cast-squarings-of c = omega (arith, c.shared_slice_known-in-loop-c-1.given c.loop-c.c)
 
-squarings-of-requires : tie.Need-squarings-of-requires invariant-loop decreases-loop
+squarings-of-requires : tie.Need-squarings_of-n-requires invariant-loop decreases-loop
 squarings-of-requires c κs = search column_few
 
-add-n : tie.Need-overflow-add-n invariant-loop decreases-loop
+add-n : tie.Need-overflow_add-n invariant-loop decreases-loop
 add-n c = search rules
 
-add-c : tie.Need-overflow-add-c invariant-loop decreases-loop
+add-c : tie.Need-overflow_add-c invariant-loop decreases-loop
 add-c c = search rules
 
-loop-less : tie.Need-loop-smaller invariant-loop decreases-loop
+loop-less : tie.Need-loop-c-smaller invariant-loop decreases-loop
 loop-less c = search rules
 
-loop-again : tie.Need-loop-preserved invariant-loop decreases-loop
+loop-again : tie.Need-loop-c-preserved invariant-loop decreases-loop
 loop-again c = (search rules, search sum_on, search rules)
 
 returns : tie.Need-returns invariant-loop decreases-loop

@@ -8,14 +8,14 @@ use Rattle.yao.proofs.Measuring.{column_few}
 use Rattle.yao_emit.proofs.all_squarings.Statement.{statement}
 use Rattle.yao_emit.proofs.all_squarings.Tie as tie
 
-abbrev invariant-loop : tie.invariant-loop
+abbrev invariant-loop : tie.invariant-loop-c
 invariant-loop p k columns counts₀ c₀ counts c = FilledTo (squarings_in k columns) counts₀ p c counts
 
-abbrev decreases-loop : tie.decreases-loop
+abbrev decreases-loop : tie.decreases-loop-c
 decreases-loop p k columns counts₀ c₀ counts c = p - c
 
-cast-squarings-of : tie.Need-overflow-cast-squarings-of invariant-loop decreases-loop
-cast-squarings-of c = omega (arith, c.shared-slice-known2.given c.before.before.loop.c)
+cast-squarings-of : tie.Need-overflow_cast-columns invariant-loop decreases-loop
+cast-squarings-of c = omega (arith, c.shared_slice_known-in-loop-c-1.given c.loop-c.c)
 
 pub all_squarings_spec : {M : Type 1} → statement M
 all_squarings_spec =

@@ -7,38 +7,38 @@ use Rattle.yao_emit.proofs.emit.Statement.{statement}
 use Rattle.yao_emit.proofs.emit.Tie as tie
 
 -- the columns are measured
-measured : (c : tie.After-measure-digits) → let s = c.before.before.before.before.before.before.args in
-    Measured s.p s.q s.amounts.now s.k c.measure-digits.new.1.1.1.0
+measured : (c : tie.After-measure_digits) → let s = c.args in
+    Measured s.p s.q s.amounts.now s.k c.measure_digits.new.1.1.1.0
 measured c =
     let known = c.before.before.before.before in
-    let asked = known.before.before.requires.asked in
-    columns_measured _ _ _ _ _ _ _ (search rules) (λ j. (known.shared-slice-known2.given j).fits) asked.largest (search rules) c.measure-digits.ensures
+    let asked = known.requires.asked in
+    columns_measured _ _ _ _ _ _ _ (search rules) (λ j. (known.shared_slice_known-2-1.given j).fits) asked.largest (search rules) c.measure_digits.ensures
 
-slice-aggregate-measure-digits : tie.Need-slice-aggregate-measure-digits
+slice-aggregate-measure-digits : tie.Need-slice_bounds-measure_digits-end
 slice-aggregate-measure-digits c = search rules
 
-measure-digits-requires : tie.Need-measure-digits-requires
+measure-digits-requires : tie.Need-measure_digits-requires
 measure-digits-requires c κs = search rules
 
-slice-aggregate-all-squarings : tie.Need-slice-aggregate-all-squarings
+slice-aggregate-all-squarings : tie.Need-slice_bounds-all_squarings-end
 slice-aggregate-all-squarings c = search rules
 
-slice-aggregate-all-squarings-2 : tie.Need-slice-aggregate-all-squarings-2
+slice-aggregate-all-squarings-2 : tie.Need-slice_bounds-all_squarings-end-2
 slice-aggregate-all-squarings-2 c = search rules
 
-all-squarings-requires : tie.Need-all-squarings-requires
+all-squarings-requires : tie.Need-all_squarings-requires
 all-squarings-requires c κs = record { asked = (measured c.before.before.before).narrow; room = search rules }
 
-slice-aggregate-make-chain : tie.Need-slice-aggregate-make-chain
+slice-aggregate-make-chain : tie.Need-slice_bounds-make_chain-end
 slice-aggregate-make-chain c = search rules
 
-array-share-prefix-counts : tie.Need-array-share-prefix-counts
+array-share-prefix-counts : tie.Need-slice_bounds-counts-end
 array-share-prefix-counts c = search rules
 
-slice-aggregate-make-chain-2 : tie.Need-slice-aggregate-make-chain-2
-slice-aggregate-make-chain-2 c = filled-length _ _ _ _ c.before.before.before.all-squarings.ensures
+slice-aggregate-make-chain-2 : tie.Need-slice_bounds-make_chain-end-2
+slice-aggregate-make-chain-2 c = filled-length _ _ _ _ c.all_squarings.ensures
 
-make-chain-requires : tie.Need-make-chain-requires
+make-chain-requires : tie.Need-make_chain-requires
 make-chain-requires c κs =
     let squared = c.before.before.before.before.before in
     let told = squared.before.before.before.before in
@@ -47,15 +47,15 @@ make-chain-requires c κs =
       asked =
           record {
             chain = record { ranges = s.requires.asked.ranges; measured = measured told };
-            counts_are = filled_front _ _ s.args.p _ squared.all-squarings.ensures;
+            counts_are = filled_front _ _ s.args.p _ squared.all_squarings.ensures;
           };
       room = s.requires.room;
     }
 
-same_length : tie.Need-same-length
+same_length : tie.Need-shape_of-steps
 same_length c = search rules
 
-same-length-2 : tie.Need-same-length-2
+same-length-2 : tie.Need-shape_of-outputs
 same-length-2 c = search rules
 
 returns : tie.Need-returns

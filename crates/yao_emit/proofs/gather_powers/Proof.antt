@@ -10,40 +10,40 @@ use Rattle.yao_emit.proofs.Emitting.{power_place, digit_reach, powers_on, gather
 use Rattle.yao_emit.proofs.gather_powers.Statement.{statement}
 use Rattle.yao_emit.proofs.gather_powers.Tie as tie
 
-abbrev invariant-loop : tie.invariant-loop
+abbrev invariant-loop : tie.invariant-loop-i
 invariant-loop column d steps₀ r₀ i₀ steps r i =
     (i ≤ column.digits)
     × (length steps ≡ length steps₀)
     × Emitted steps₀ steps r.progress r.value (gather_in column d i (made (steps_in steps₀ r₀.progress.steps) r₀.value))
 
-abbrev decreases-loop : tie.decreases-loop
+abbrev decreases-loop : tie.decreases-loop-i
 decreases-loop column d steps₀ r₀ i₀ steps r i = column.digits - i
 
-loop-holds : tie.Need-loop-init invariant-loop decreases-loop
+loop-holds : tie.Need-loop-i-init invariant-loop decreases-loop
 loop-holds c = search (rules, gathering)
 
-mul-power-at : tie.Need-overflow-mul-power-at invariant-loop decreases-loop
+mul-power-at : tie.Need-overflow_mul-column invariant-loop decreases-loop
 mul-power-at c =
     let at = c.before.before.before in
     let s = at.before.before in
-    Fits-under _ _ 32 (digit_reach s.args.column at.loop.i s.requires.asked (search rules)) tt
+    Fits-under _ _ 32 (digit_reach s.args.column at.loop-i.i s.requires.asked (search rules)) tt
 
-power-at-requires : tie.Need-power-at-requires invariant-loop decreases-loop
+power-at-requires : tie.Need-power_at-power-requires invariant-loop decreases-loop
 power-at-requires c κs = search (rules, power_place)
 
 digit-requires : tie.Need-digit-requires invariant-loop decreases-loop
 digit-requires c κs = search (rules, digit_reach)
 
-gather-one-requires : tie.Need-gather-one-requires invariant-loop decreases-loop
+gather-one-requires : tie.Need-gather_one-r-requires invariant-loop decreases-loop
 gather-one-requires c κs = search gathering
 
-add-i : tie.Need-overflow-add-i invariant-loop decreases-loop
+add-i : tie.Need-overflow_add-i invariant-loop decreases-loop
 add-i c = search rules
 
-loop-less : tie.Need-loop-smaller invariant-loop decreases-loop
+loop-less : tie.Need-loop-i-smaller invariant-loop decreases-loop
 loop-less c = search rules
 
-loop-again : tie.Need-loop-preserved invariant-loop decreases-loop
+loop-again : tie.Need-loop-i-preserved invariant-loop decreases-loop
 loop-again c =
     let gathered = c.before.before in
     let taken = gathered.before.before in
@@ -52,10 +52,10 @@ loop-again c =
     let s = at.before.before in (
       search rules,
       search rules,
-      powers_on s.args.column _ _ _ _ _ _ _ at.loop.invariant.2 _ _ taken.digit.ensures powered.power_at.ensures _ _ _ gathered.gather-one.ensures,
+      powers_on s.args.column _ _ _ _ _ _ _ at.loop-i.invariant.2 _ _ taken.digit.ensures powered.power_at-power.ensures _ _ _ gathered.gather_one-r.ensures,
     )
 
-same_length : tie.Need-same-length invariant-loop decreases-loop
+same_length : tie.Need-shape_of-steps invariant-loop decreases-loop
 same_length c = search rules
 
 returns : tie.Need-returns invariant-loop decreases-loop

@@ -4,7 +4,7 @@ use Rattle.yao_emit.proofs.Paying.{sweep_room, join_room, join_on}
 use Rattle.yao_emit.proofs.join_column.Statement.{statement}
 use Rattle.yao_emit.proofs.join_column.Tie as tie
 
-sweep-column-requires : tie.Need-sweep-column-requires
+sweep-column-requires : tie.Need-sweep_column-s-requires
 sweep-column-requires c κs =
     let start = c.before.before.before in
     let s = start.args in
@@ -15,9 +15,9 @@ times-requires c κs =
     let swept = c.before.before.before.before in
     let start = swept.before.before.before.before in
     let s = start.args in
-    join_room s.column s.steps.now s.m.progress s.m.value start.requires.room _ _ _ _ swept.sweep-column.ensures
+    join_room s.column s.steps.now s.m.progress s.m.value start.requires.room _ _ _ _ swept.sweep_column-s.ensures
 
-same_length : tie.Need-same-length
+same_length : tie.Need-shape_of-steps
 same_length c = search rules
 
 returns : tie.Need-returns
@@ -26,7 +26,7 @@ returns c =
     let swept = timed.before.before.before.before.before in
     let start = swept.before.before.before.before in
     let s = start.args in
-    join_on s.column s.steps.now s.m.progress s.m.value start.requires.room _ _ _ _ swept.sweep-column.ensures _ _ _ timed.times.ensures
+    join_on s.column s.steps.now s.m.progress s.m.value start.requires.room _ _ _ _ swept.sweep_column-s.ensures _ _ _ timed.times.ensures
 
 pub join_column_spec : {M : Type 1} → statement M
 join_column_spec = tie.close (tie.spec sweep-column-requires times-requires same_length returns)

@@ -4,21 +4,21 @@ use Rattle.yao_emit.proofs.Whole.{counts_few, squarings_room, after_squarings, c
 use Rattle.yao_emit.proofs.make_chain.Statement.{statement}
 use Rattle.yao_emit.proofs.make_chain.Tie as tie
 
-square-columns-requires : tie.Need-square-columns-requires
+square-columns-requires : tie.Need-square_columns-squared-requires
 square-columns-requires c κs =
     let s = c.before.before.before.before.before.before in
     record { asked = counts_few s.requires.asked; room = squarings_room s.requires.asked s.requires.room }
 
-make-payslips-requires : tie.Need-make-payslips-requires
+make-payslips-requires : tie.Need-make_payslips-requires
 make-payslips-requires c κs =
     let squared = c.before.before.before.before in
     let s = squared.before.before.before.before.before.before.before in
-    record { asked = s.requires.asked.chain; room = after_squarings s.requires.asked s.requires.room squared.square-columns.ensures }
+    record { asked = s.requires.asked.chain; room = after_squarings s.requires.asked s.requires.room squared.square_columns-squared.ensures }
 
-same_length : tie.Need-same-length
+same_length : tie.Need-shape_of-steps
 same_length c = search rules
 
-same-length-2 : tie.Need-same-length-2
+same-length-2 : tie.Need-shape_of-outputs
 same-length-2 c = search rules
 
 returns : tie.Need-returns

@@ -15,7 +15,7 @@ use Rattle.yao_emit.proofs.Paying.{first_on, reaches, column_room, column_on, co
 use Rattle.yao_emit.proofs.make_payslip.Statement.{statement}
 use Rattle.yao_emit.proofs.make_payslip.Tie as tie
 
-abbrev invariant-loop : tie.invariant-loop
+abbrev invariant-loop : tie.invariant-loop-c
 invariant-loop p q amounts k columns i steps₀ r₀ first₀ c₀ steps r first c =
     (c ≤ p)
     × (first ≡ p + sum_to c (yao_squarings p q amounts k))
@@ -23,76 +23,76 @@ invariant-loop p q amounts k columns i steps₀ r₀ first₀ c₀ steps r first
     × (length steps ≡ length steps₀)
     × Emitted steps₀ steps r.progress r.value (yao_payslip p q amounts k i (steps_in steps₀ r₀.progress.steps) c)
 
-abbrev decreases-loop : tie.decreases-loop
+abbrev decreases-loop : tie.decreases-loop-c
 decreases-loop p q amounts k columns i steps₀ r₀ first₀ c₀ steps r first c = p - c
 
-loop-holds : tie.Need-loop-init invariant-loop decreases-loop
+loop-holds : tie.Need-loop-c-init invariant-loop decreases-loop
 loop-holds c = (search rules, search rules, search rules, search rules, search emitted_own)
 
-mul-digits : tie.Need-overflow-mul-digits invariant-loop decreases-loop
+mul-digits : tie.Need-offset_bounds-columns-c invariant-loop decreases-loop
 mul-digits c = search rules
 
-shared-slice-read-digits : tie.Need-shared-slice-read-digits invariant-loop decreases-loop
+shared-slice-read-digits : tie.Need-bounds-columns-c invariant-loop decreases-loop
 shared-slice-read-digits c = search rules
 
-cast-digits : tie.Need-overflow-cast-digits invariant-loop decreases-loop
-cast-digits c = omega (arith, c.shared-slice-known3.given c.before.before.loop.c)
+cast-digits : tie.Need-overflow_cast-digits invariant-loop decreases-loop
+cast-digits c = omega (arith, c.shared_slice_known-in-loop-c-1.given c.loop-c.c)
 
 amount-requires : tie.Need-amount-requires invariant-loop decreases-loop
 amount-requires c κs = search amount_there
 
-join-column-requires : tie.Need-join-column-requires invariant-loop decreases-loop
+join-column-requires : tie.Need-join_column-r-requires invariant-loop decreases-loop
 join-column-requires c κs =
     let amounted = c.before in
     let at = amounted.before.before.before in
     let start = at.before.before.before.before in
     let s = start.args in
     let chain = start.requires.asked.chain in
-    let is = column_is s.p s.q s.amounts.now s.k s.columns.now chain.decreases at.loop.c (search rules) in
+    let is = column_is s.p s.q s.amounts.now s.k s.columns.now chain.decreases at.loop-c.c (search rules) in
     record {
-      asked = reaches _ chain.ranges (column_few _ _ _ _ chain.decreases.narrow (search rules)) (search rules) at.loop.invariant.2;
+      asked = reaches _ chain.ranges (column_few _ _ _ _ chain.decreases.narrow (search rules)) (search rules) at.loop-c.invariant.2;
       room =
-          column_room s.p s.q s.amounts.now s.k s.i (steps_in s.steps.now s.progress.steps) s.steps.now _ _ _ at.loop.c at.loop.first _
-          amounted.amount.result at.loop.invariant.4 at.loop.invariant.1 is amounted.amount.ensures _ start.requires.room (search rules);
+          column_room s.p s.q s.amounts.now s.k s.i (steps_in s.steps.now s.progress.steps) s.steps.now _ _ _ at.loop-c.c at.loop-c.first _
+          amounted.amount.result at.loop-c.invariant.4 at.loop-c.invariant.1 is amounted.amount.ensures _ start.requires.room (search rules);
     }
 
-squarings-of-requires : tie.Need-squarings-of-requires invariant-loop decreases-loop
+squarings-of-requires : tie.Need-squarings_of-first-requires invariant-loop decreases-loop
 squarings-of-requires c κs = search column_few
 
-add-first : tie.Need-overflow-add-first invariant-loop decreases-loop
+add-first : tie.Need-overflow_add-first invariant-loop decreases-loop
 add-first c = search rules
 
-add-c : tie.Need-overflow-add-c invariant-loop decreases-loop
+add-c : tie.Need-overflow_add-c invariant-loop decreases-loop
 add-c c = search rules
 
-loop-less : tie.Need-loop-smaller invariant-loop decreases-loop
+loop-less : tie.Need-loop-c-smaller invariant-loop decreases-loop
 loop-less c = search rules
 
-loop-again : tie.Need-loop-preserved invariant-loop decreases-loop
+loop-again : tie.Need-loop-c-preserved invariant-loop decreases-loop
 loop-again c =
     let joined = c.before.before.before in
     let amounted = joined.before.before in
     let at = amounted.before.before.before in
     let start = at.before.before.before.before in
     let s = start.args in
-    let is = column_is s.p s.q s.amounts.now s.k s.columns.now start.requires.asked.chain.measured at.loop.c (search rules) in (
+    let is = column_is s.p s.q s.amounts.now s.k s.columns.now start.requires.asked.chain.measured at.loop-c.c (search rules) in (
       search rules,
       search first_on,
       search rules,
       search rules,
-      column_on s.p s.q s.amounts.now s.k s.i (steps_in s.steps.now s.progress.steps) s.steps.now _ _ _ at.loop.c at.loop.first _
-          amounted.amount.result at.loop.invariant.4 at.loop.invariant.1 is amounted.amount.ensures _ _ _ joined.join-column.ensures,
+      column_on s.p s.q s.amounts.now s.k s.i (steps_in s.steps.now s.progress.steps) s.steps.now _ _ _ at.loop-c.c at.loop-c.first _
+          amounted.amount.result at.loop-c.invariant.4 at.loop-c.invariant.1 is amounted.amount.ensures _ _ _ joined.join_column-r.ensures,
     )
 
-same_length : tie.Need-same-length invariant-loop decreases-loop
+same_length : tie.Need-shape_of-steps invariant-loop decreases-loop
 same_length c = search rules
 
 returns : tie.Need-returns invariant-loop decreases-loop
 returns c =
     let at = c.before in
-    let s = at.before.before.before.before.args in
-    columns_end s.p s.q s.amounts.now s.k s.i (steps_in s.steps.now s.progress.steps) s.steps.now _ _ _ at.loop.c
-    at.loop.invariant.0 (search rules) at.loop.invariant.4
+    let s = at.args in
+    columns_end s.p s.q s.amounts.now s.k s.i (steps_in s.steps.now s.progress.steps) s.steps.now _ _ _ at.loop-c.c
+    at.loop-c.invariant.0 (search rules) at.loop-c.invariant.4
 
 pub make_payslip_spec : {M : Type 1} → statement M
 make_payslip_spec =

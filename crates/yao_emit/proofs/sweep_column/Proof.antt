@@ -11,90 +11,90 @@ use Rattle.yao_emit.proofs.Emitting.{sweep_start, b_room, a_room, a_on, sweep_en
 use Rattle.yao_emit.proofs.sweep_column.Statement.{statement}
 use Rattle.yao_emit.proofs.sweep_column.Tie as tie
 
-abbrev invariant-loop : tie.invariant-loop
+abbrev invariant-loop : tie.invariant-loop-i
 invariant-loop column steps₀ top s₀ i₀ steps s i =
     (i + 1 ≤ top)
     × (length steps ≡ length steps₀)
     × SweepEmitted steps₀ steps s.progress s.a s.b (sweep_in column (steps_in steps₀ s₀.progress.steps) i)
 
-abbrev decreases-loop : tie.decreases-loop
+abbrev decreases-loop : tie.decreases-loop-i
 decreases-loop column steps₀ top s₀ i₀ steps s i = top - i
 
-power-requires : tie.Need-power-requires invariant-loop decreases-loop
+power-requires : tie.Need-power-top-requires invariant-loop decreases-loop
 power-requires c κs = search rules
 
-loop-holds : tie.Need-loop-init invariant-loop decreases-loop
+loop-holds : tie.Need-loop-i-init invariant-loop decreases-loop
 loop-holds c =
-    let s = c.before.before.args in (
-      omega (arith, c.power.ensures, pow_pos s.column.k),
+    let s = c.args in (
+      omega (arith, c.power-top.ensures, pow_pos s.column.k),
       search rules,
-      sweep_start s.column.p s.column _ _ _ c.before.before.requires.room,
+      sweep_start s.column.p s.column _ _ _ c.requires.room,
     )
 
-add-loop : tie.Need-overflow-add-loop invariant-loop decreases-loop
+add-loop : tie.Need-overflow_add-i invariant-loop decreases-loop
 add-loop c = search rules
 
-add-gather-powers : tie.Need-overflow-add-gather-powers invariant-loop decreases-loop
+add-gather-powers : tie.Need-overflow_add-i-in-loop-i invariant-loop decreases-loop
 add-gather-powers c = search rules
 
-sub-gather-powers : tie.Need-overflow-sub-gather-powers invariant-loop decreases-loop
+sub-gather-powers : tie.Need-overflow_sub-top invariant-loop decreases-loop
 sub-gather-powers c = search rules
 
-gather-powers-requires : tie.Need-gather-powers-requires invariant-loop decreases-loop
+gather-powers-requires : tie.Need-gather_powers-b-requires invariant-loop decreases-loop
 gather-powers-requires c κs =
     let start = c.before.before.before in
-    let told = start.before.power in
-    let s = start.before.before.before.args in
-    let i = start.loop.i in
+    let told = start.power-top in
+    let s = start.args in
+    let i = start.loop-i.i in
     record {
-      asked = start.before.before.before.requires.asked;
+      asked = start.requires.asked;
       room =
           b_room s.column (steps_in s.steps.now s.progress.steps) s.steps.now _ _ _ _ i
-          start.loop.invariant.2 (told.result - (i + 1)) (ap (λ (t : ℕ). t - (i + 1)) told.ensures) (2 ^ s.column.k - 1) _ start.before.before.before.requires.room
+          start.loop-i.invariant.2 (told.result - (i + 1)) (ap (λ (t : ℕ). t - (i + 1)) told.ensures) (2 ^ s.column.k - 1) _ start.requires.room
           (omega (arith, told.ensures));
     }
 
-times-requires : tie.Need-times-requires invariant-loop decreases-loop
+times-requires : tie.Need-times-a-requires invariant-loop decreases-loop
 times-requires c κs =
     let gathered = c.before.before.before.before in
     let start = gathered.before.before.before.before in
-    let told = start.before.power in
-    let s = start.before.before.before.args in
-    let i = start.loop.i in
+    let told = start.power-top in
+    let s = start.args in
+    let i = start.loop-i.i in
     a_room s.column (steps_in s.steps.now s.progress.steps) s.steps.now _ _ _ _ i
-    start.loop.invariant.2 (told.result - (i + 1)) (ap (λ (t : ℕ). t - (i + 1)) told.ensures) _ _ _ gathered.gather-powers.ensures (2 ^ s.column.k - 1) _
-    start.before.before.before.requires.room (omega (arith, told.ensures))
+    start.loop-i.invariant.2 (told.result - (i + 1)) (ap (λ (t : ℕ). t - (i + 1)) told.ensures) _ _ _ gathered.gather_powers-b.ensures (2 ^ s.column.k - 1) _
+    start.requires.room (omega (arith, told.ensures))
 
-add-i : tie.Need-overflow-add-i invariant-loop decreases-loop
+add-i : tie.Need-overflow_add-i-in-loop-i-2 invariant-loop decreases-loop
 add-i c = search rules
 
-loop-less : tie.Need-loop-smaller invariant-loop decreases-loop
+loop-less : tie.Need-loop-i-smaller invariant-loop decreases-loop
 loop-less c = search rules
 
-loop-again : tie.Need-loop-preserved invariant-loop decreases-loop
+loop-again : tie.Need-loop-i-preserved invariant-loop decreases-loop
 loop-again c =
     let timed = c.before.before.before in
     let gathered = timed.before.before.before.before.before in
     let start = gathered.before.before.before.before in
-    let told = start.before.power in
-    let s = start.before.before.before.args in
-    let i = start.loop.i in (
+    let told = start.power-top in
+    let s = start.args in
+    let i = start.loop-i.i in (
       search rules,
       search rules,
       a_on s.column (steps_in s.steps.now s.progress.steps) s.steps.now _ _ _ _ i
-          start.loop.invariant.2 (told.result - (i + 1)) (ap (λ (t : ℕ). t - (i + 1)) told.ensures) _ _ _ gathered.gather-powers.ensures _ _ _
-          timed.times.ensures,
+          start.loop-i.invariant.2 (told.result - (i + 1)) (ap (λ (t : ℕ). t - (i + 1)) told.ensures) _ _ _ gathered.gather_powers-b.ensures _ _ _
+          timed.times-a.ensures,
     )
 
-same_length : tie.Need-same-length invariant-loop decreases-loop
+same_length : tie.Need-shape_of-steps invariant-loop decreases-loop
 same_length c = search rules
 
 returns : tie.Need-returns invariant-loop decreases-loop
 returns c =
     let start = c.before in
-    let s = start.before.before.before.args in
-    sweep_end s.column (steps_in s.steps.now s.progress.steps) _ _ _ _ _ start.loop.i _
-    start.before.power.ensures start.loop.invariant.0 c.loop-test.false start.loop.invariant.2
+    let s = start.args in
+    sweep_end s.column (steps_in s.steps.now s.progress.steps) _ _ _ _ _ start.loop-i.i _
+    start.power-top.ensures start.loop-i.invariant.0 c.loop-i-test.false start.loop-i.invariant.2
 
 pub sweep_column_spec : {M : Type 1} → statement M
 sweep_column_spec =

@@ -4,29 +4,29 @@ use borrow.Author.Rules.{rules}
 use Rattle.bits.proofs.Cursor.take.Statement.{statement}
 use Rattle.bits.proofs.Cursor.take.Tie as tie
 
-gather-requires : tie.Need-gather-requires
+gather-requires : tie.Need-gather-all-requires
 gather-requires c κs = search rules
 
-add_right : tie.Need-overflow-add-right
+add_right : tie.Need-overflow_add-right
 add_right c = search rules
 
-sub-right : tie.Need-overflow-sub-right
+sub-right : tie.Need-overflow_sub-right
 sub-right c = search rules
 
-shr-value : tie.Need-overflow-shr-value
+shr-value : tie.Need-overflow_shr-value
 shr-value c = search rules
 
-shl-value : tie.Need-overflow-shl-value
+shl-value : tie.Need-overflow_shl-value
 shl-value c = search rules
 
-rem_value : tie.Need-nonzero-rem-value
-rem_value c = one_shl_pos _ c.before.before.requires.narrow
+rem_value : tie.Need-nonzero_rem-value
+rem_value c = one_shl_pos _ c.requires.narrow
 
-add-t9 : tie.Need-overflow-add-t9
+add-t9 : tie.Need-overflow_add-result
 add-t9 c = search rules
 
 returns : tie.Need-returns
-returns c = taken _ _ _ _ c.before.before.requires c.gather.ensures
+returns c = taken _ _ _ _ c.requires c.gather-all.ensures
 
 pub take_spec : {M : Type 1} → statement M
 take_spec =

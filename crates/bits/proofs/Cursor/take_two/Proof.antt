@@ -10,8 +10,8 @@ take_two_spec =
     tie.close
     (tie.spec (λ c κs. search rules) (λ c. search rules) (λ c. search rules) (λ c. search rules) (λ c. search rules) (λ c κs. search rules)
     (λ c. search rules) (λ c. search rules) (λ c. search rules) (λ c. search rules)
-    (λ c. one_shl_pos _ (omega (arith, c.before.before.before.requires.room.narrow)))
+    (λ c. one_shl_pos _ (omega (arith, c.requires.room.narrow)))
     (λ c. search rules)
-    (λ c. one_shl_pos _ (omega (arith, c.before.before.before.requires.room.narrow)))
+    (λ c. one_shl_pos _ (omega (arith, c.requires.room.narrow)))
     (λ c. search rules) (λ c. search rules)
-    (λ c. two_taken _ _ _ _ _ c.before.before.before.requires c.before.covering.ensures c.eight.ensures))
+    (λ c. two_taken _ _ _ _ _ c.requires c.covering-i.ensures c.eight.ensures))

@@ -31,7 +31,7 @@ take-up-requires : tie.Need-take_up-found-requires invariant-loop decreases-loop
 take-up-requires c κs =
     let b = c.before.before.before in
     let l = b.loop-c in
-    let start = b.before.before.before.before.before.before.before.before in
+    let start = b.before.before.before.before.before.before.before in
     record {
       column = b.loop-c-test.true;
       amounts_fit = start.requires.amounts_fit;
@@ -55,7 +55,7 @@ loop-again : tie.Need-loop-c-preserved invariant-loop decreases-loop
 loop-again c =
     let b = c.before.before.before.before in
     let l = b.loop-c in
-    let start = b.before.before.before.before.before.before.before.before in
+    let start = b.before.before.before.before.before.before.before in
     let top = ap (λ (n : ℕ). start.args.p + n + 1) (sym (length_pairs start.args.steps.now)) in (
       search rules,
       b.column-place.auto.1.1.1.0 ∙ l.invariant.1,

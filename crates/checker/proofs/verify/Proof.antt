@@ -19,11 +19,11 @@ use Rattle.checker.proofs.verify.Tie as tie
 first : (c : tie.In-Fine-2)
     → let a = c.args in
     fine ≡ fitting_rule a.p (pairs a.steps.now) a.outputs.now a.amounts.now (length a.scratch.now)
-first c = found_fine _ _ _ c.judge.ensures _ c.squarings-1.given.1
+first c = found_fine _ _ _ c.judge.ensures _ c.in-Fine.is
 
 -- and the squarings are counted
-counted : (c : tie.In-Fine-2) → c.squarings-1.given.0.0 ≡ squarings_of (pairs c.args.steps.now)
-counted c = found_number _ _ _ c.judge.ensures _ c.squarings-1.given.1
+counted : (c : tie.In-Fine-2) → c.in-Fine.squarings ≡ squarings_of (pairs c.args.steps.now)
+counted c = found_number _ _ _ c.judge.ensures _ c.in-Fine.is
 
 -- what that says of the arguments
 fits : (c : tie.In-Fine-2)
@@ -38,13 +38,13 @@ room c = let a = c.args in omega (arith, (fits c).room, length_pairs a.steps.now
 
 hold-requires : tie.Need-hold-found-requires
 hold-requires c κs =
-    let f = fits c.before.before in
+    let f = fits c.before in
     let k = legal_parts _ _ _ f.legal in
     let parts = chain_parts _ _ _ k.chain in
     record {
       chain_sound =
           record {
-            steps_sound = record { p_low = k.sizes.p_low; steps_fine = parts.0; room = room c.before.before };
+            steps_sound = record { p_low = k.sizes.p_low; steps_fine = parts.0; room = room c.before };
             outputs_fine = parts.1;
           };
       amounts_fit = f.amounts_fit;
@@ -52,23 +52,23 @@ hold-requires c κs =
 
 counts-of-requires : tie.Need-counts_of-requires
 counts-of-requires c κs =
-    let k = c.before.before.before.before.before in
+    let k = c.before.before.before.before in
     let steps = k.args.steps.now in
     omega (arith, counted k, squarings_few (pairs steps), length_pairs steps)
 
 add-finish : tie.Need-overflow_add-p
-add-finish c = omega (arith, room c.before.before.before.before.before.before)
+add-finish c = omega (arith, room c.before.before.before.before.before)
 
 add-finish-2 : tie.Need-overflow_add-p-in-Fine
-add-finish-2 c = omega (arith, room c.before.before.before.before.before.before)
+add-finish-2 c = omega (arith, room c.before.before.before.before.before)
 
 finish-requires : tie.Need-finish-requires
 finish-requires c κs =
-    omega (arith, room c.before.before.before.before.before.before.before, c.hold-found.auto.1.1.1.1.0)
+    omega (arith, room c.before.before.before.before.before.before, c.hold-found.auto.scratch)
 
 returns : tie.Need-returns-in-Refused
 returns c =
-    let e = found_refused _ _ _ c.judge.ensures _ _ c.number-1.given.1 in
+    let e = found_refused _ _ _ c.judge.ensures _ _ c.in-Refused.is in
     let old = c.args.scratch.now in
     (early_answer _ _ _ _ old _ _ e, early_scratch _ _ _ _ old _ _ e)
 
@@ -76,7 +76,7 @@ returns-2 : tie.Need-returns-in-Fine
 returns-2 c =
     let k = c.before.before in
     let h = k.before.before.before.before.before in
-    let m = h.before.before.before in
+    let m = h.before.before in
     let a = m.args in
     let e = first m in
     let n = sym (length_pairs a.steps.now) in

@@ -26,12 +26,12 @@ enum-told-3 c = search rules
 returns : tie.Need-returns-then-m-n
 returns c =
     let h = c.if-m-n.true in
-    first_fewer _ _ _ _ c.x-1.given.1 c.y-1.given.1 (omega arith)
+    first_fewer _ _ _ _ c.in-Passed.is c.in-Passed-y.is (omega arith)
 
 returns-2 : tie.Need-returns-else-m-n
 returns-2 c =
     let h = c.if-m-n.false in
-    second_fewer _ _ _ _ c.x-1.given.1 c.y-1.given.1 (omega arith)
+    second_fewer _ _ _ _ c.in-Passed.is c.in-Passed-y.is (omega arith)
 
 returns-3 : tie.Need-returns-in-Refused-y
 returns-3 c = search first_only

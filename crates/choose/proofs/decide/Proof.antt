@@ -24,7 +24,7 @@ enum_told c = search rules
 first : (c : tie.In-Fine)
     → let a = c.args in
     fine ≡ choose_rule a.p a.q a.amounts.now (length a.steps.now / 2) (length a.outputs.now) (length a.numbers.now)
-first c = told_fine _ _ c.judge_lent.ensures c.enum_told-1.given.1
+first c = told_fine _ _ c.judge_lent.ensures c.in-Fine.is
 
 judge-file-requires : tie.Need-judge_file-x-requires
 judge-file-requires c κs = enough _ _ _ _ _ _ (first c.before.before.before)
@@ -32,7 +32,7 @@ judge-file-requires c κs = enough _ _ _ _ _ _ (first c.before.before.before)
 judge-file-requires-2 : tie.Need-judge_file-y-requires
 judge-file-requires-2 c κs =
     let j = c.before.before.before.before.before.before.before.before.before in
-    let k = j.judge_file-x.auto.1.1.1.1 in
+    let k = j.judge_file-x.auto.steps in
     let e = enough _ _ _ _ _ _ (first j.before.before.before.before) in
     record {
       pairs_enough = omega (arith, e.pairs_enough, k.0);
@@ -44,7 +44,7 @@ better-requires : tie.Need-better-requires
 better-requires c κs = search rules
 
 returns : tie.Need-returns-in-Refused
-returns c = choice_refused _ _ _ _ _ _ _ _ _ _ (told_refused_lem _ _ _ _ c.judge_lent.ensures c.number-1.given.1)
+returns c = choice_refused _ _ _ _ _ _ _ _ _ _ (told_refused_lem _ _ _ _ c.judge_lent.ensures c.in-Refused.is)
 
 same_length : tie.Need-shape_of-steps
 same_length c = search rules

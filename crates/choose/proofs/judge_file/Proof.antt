@@ -21,17 +21,17 @@ enum-known-columns c = search rules
 
 -- what the file that was read tells
 read_file : (c : tie.In-Chain-2)
-    → let r = c.before.before.before.before.before.before in
+    → let r = c.before.before.before.before.before in
     let s = r.before.before.before.before.before.before.before.before in
     let g = c.columns-1.given.0 in
-    Good edition1 s.args.bytes.now r.read.new.1.0 r.read.new.1.1.0 g.0 g.1.0 g.1.1.0.steps
+    Good edition1 s.args.bytes.now r.read.new.steps r.read.new.outputs g.0 g.1.0 g.1.1.0.steps
 read_file c =
-    let r = c.before.before.before.before.before.before in
+    let r = c.before.before.before.before.before in
     let s = r.before.before.before.before.before.before.before.before in
     let a = s.args in
     let e = r.read.ensures in
     read_good edition1 a.bytes.now a.steps.now a.outputs.now s.requires.pairs_enough s.requires.outputs_enough _ (answer_clause e) _ _ _
-    c.columns-1.given.1 _ _ (first_slice_clause e) (second_slice_clause e)
+    c.in-Chain.is _ _ (first_slice_clause e) (second_slice_clause e)
 
 same_length : tie.Need-shape_of-steps-then-columns-p
 same_length c = search rules
@@ -41,7 +41,7 @@ same-length-2 c = search rules
 
 returns : tie.Need-returns-then-columns-p
 returns c =
-    let t = read_file c.before.before in
+    let t = read_file c.before in
     refusal_says _ _ _ _ _ _ (other_columns _ _ _ _ _ _ _ _ _ t c.if-columns-p.true)
 
 same-length-3 : tie.Need-shape_of-steps-then-payslips-q
@@ -52,27 +52,27 @@ same-length-4 c = search rules
 
 returns-2 : tie.Need-returns-then-payslips-q
 returns-2 c =
-    let t = read_file c.before.before.before in
+    let t = read_file c.before.before in
     refusal_says _ _ _ _ _ _ (other_payslips _ _ _ _ _ _ _ _ _ t c.if-payslips-q.true)
 
 mul-verify : tie.Need-overflow_mul-counts
-mul-verify c = omega (arith, (read_file c.before.before.before.before).taken.few)
+mul-verify c = omega (arith, (read_file c.before.before.before).taken.few)
 
 slice-reshare-prefix-verify : tie.Need-slice_bounds-verify-end
-slice-reshare-prefix-verify c = (read_file c.before.before.before.before).taken.steps_room
+slice-reshare-prefix-verify c = (read_file c.before.before.before).taken.steps_room
 
 slice-aggregate-verify : tie.Need-slice_bounds-verify-end-in-Chain
-slice-aggregate-verify c = sym (length-take-le _ _ (read_file c.before.before.before.before.before).taken.steps_room)
+slice-aggregate-verify c = sym (length-take-le _ _ (read_file c.before.before.before).taken.steps_room)
 
 slice-reshare-prefix-verify-2 : tie.Need-slice_bounds-verify-end-in-Chain-2
 slice-reshare-prefix-verify-2 c =
     let e = c.if-payslips-q.false in
-    omega (arith, (read_file c.before.before.before.before.before).taken.outputs_room)
+    omega (arith, (read_file c.before.before.before).taken.outputs_room)
 
 slice-aggregate-verify-2 : tie.Need-slice_bounds-verify-end-in-Chain-3
 slice-aggregate-verify-2 c =
     let e = c.if-payslips-q.false in
-    sym (length-take-le _ _ (omega (arith, (read_file c.before.before.before.before.before.before).taken.outputs_room)))
+    sym (length-take-le _ _ (omega (arith, (read_file c.before.before.before.before).taken.outputs_room)))
 
 verify-requires : tie.Need-verify-requires
 verify-requires c κs = search rules
@@ -91,14 +91,14 @@ same-length-6 c = search rules
 
 returns-3 : tie.Need-returns-in-Refused
 returns-3 c =
-    let n = c.before in
-    let r = n.before.before.before.before.before.before in
+    let n = c in
+    let r = n.before.before.before.before.before in
     let s = r.before.before.before.before.before.before.before.before in
     let a = s.args in
     refusal_says _ _ _ _ _ _
     (unread _ _ _ _ _ _
     (read_refused edition1 a.bytes.now a.steps.now a.outputs.now s.requires.pairs_enough s.requires.outputs_enough _ (answer_clause r.read.ensures) _ _
-    n.number-1.given.1))
+    n.in-Refused.is))
 
 same-length-7 : tie.Need-shape_of-steps-in-Refused-verify
 same-length-7 c = search rules
@@ -111,13 +111,13 @@ same-length-9 c = search rules
 
 returns-4 : tie.Need-returns-in-Refused-verify
 returns-4 c =
-    let v = c.before.before.before.before.before in
+    let v = c.before.before.before in
     let e = v.before.before.before.before.before in
-    let k = e.before.before.before in
-    let s = k.before.before.before.before.before.before.before.before.before.before.before.before.before.before in
+    let k = e.before in
+    let s = k.before.before.before.before.before.before.before.before.before.before.before.before in
     refusal_says _ _ _ _ _ _
     (not_held _ _ _ _ _ _ _ _ _ (read_file k) e.if-columns-p.false e.if-payslips-q.false _ s.requires.numbers_enough _ (answer_clause v.verify.ensures) _ _
-    c.number-in-Refused-verify-1.given.1)
+    c.in-Refused-verify.is)
 
 same-length-10 : tie.Need-shape_of-steps-in-Passed
 same-length-10 c = search rules
@@ -130,14 +130,14 @@ same-length-12 c = search rules
 
 returns-5 : tie.Need-returns-in-Passed
 returns-5 c =
-    let v = c.before.before.before.before in
+    let v = c.before.before.before in
     let e = v.before.before.before.before.before in
-    let k = e.before.before.before in
-    let s = k.before.before.before.before.before.before.before.before.before.before.before.before.before.before in
+    let k = e.before in
+    let s = k.before.before.before.before.before.before.before.before.before.before.before.before in
     record {
       verdict =
           all_held _ _ _ _ _ _ _ _ _ (read_file k) e.if-columns-p.false e.if-payslips-q.false _ s.requires.numbers_enough _ (answer_clause v.verify.ensures) _
-          c.enum_told-1.given.1;
+          c.in-Passed.is;
       count = λ f. (read_file k).taken.long;
     }
 

@@ -25,7 +25,7 @@ fit : (c : tie.After-cut_row-ends invariant-loop decreases-loop)
     let args = turn.args in
     let j = turn.loop-j.j in
     let e = c.cut_row-ends.result in
-    let new = c.cut_row-ends.new.0 in
+    let new = c.cut_row-ends.new.s in
     (e.keys < 2 ^ 32) × (e.rest < 2 ^ 32) × (args.keys + j + 1 < length new) × (args.rest + j + 1 < length new)
 fit c =
     let turn = c.before.before.before.before in

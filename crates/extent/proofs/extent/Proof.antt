@@ -20,7 +20,7 @@ judged c = rw c.first_edition-layout.ensures at c.judge_shape.ensures
 
 passed : (c : tie.In-Fine) → let a = c.args in
     fine ≡ shape_rule edition1.limit a.p a.q a.n
-passed c = told_fine _ _ (judged c.before.before) c.enum_told-1.given.1
+passed c = told_fine _ _ (judged c.before) c.in-Fine.is
 
 sized : (c : tie.In-Fine) → let a = c.args in Sized edition1 a.p a.q a.n
 sized c = shape_sized edition1 _ _ _ (sym (passed c))
@@ -35,7 +35,7 @@ found c = rw c.first_edition-layout.ensures at c.extent_of-s.ensures
 
 returns : tie.Need-returns-in-Refused
 unfolding extent_answer
-returns c = answer_refused _ _ _ _ (told_refused_lem _ _ _ _ (judged c.before.before.before) c.number-1.given.1)
+returns c = answer_refused _ _ _ _ (told_refused_lem _ _ _ _ (judged c.before) c.in-Refused.is)
 
 returns-2 : tie.Need-returns-in-Fine
 unfolding extent_answer

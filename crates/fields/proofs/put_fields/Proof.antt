@@ -78,8 +78,8 @@ loop-again c =
     let l = v.before.before in
     let s = l.before.before.before.before in
     let i = l.loop-j.invariant in (
-      p.put-c.auto.1.0 ∙ i.0,
-      two_on _ _ _ _ _ _ _ _ s.requires.there i.1 _ _ l.loop-j-test.true v.wide.ensures u.wide-in-loop-j.ensures _ _ p.put-c.ensures p.put-c.auto.1.0,
+      p.put-c.auto.buf ∙ i.0,
+      two_on _ _ _ _ _ _ _ _ s.requires.there i.1 _ _ l.loop-j-test.true v.wide.ensures u.wide-in-loop-j.ensures _ _ p.put-c.ensures p.put-c.auto.buf,
     )
 
 mul-wide-3 : tie.Need-offset_bounds-list-j-then-j-count invariant-loop decreases-loop
@@ -101,7 +101,7 @@ put-requires-2 c κs =
 same_length : tie.Need-shape_of-buf-then-j-count invariant-loop decreases-loop
 same_length c =
     let p = c.before.before in
-    p.put-c-then-j-count.auto.1.0 ∙ p.loop-j.invariant.0
+    p.put-c-then-j-count.auto.buf ∙ p.loop-j.invariant.0
 
 returns : tie.Need-returns-then-j-count invariant-loop decreases-loop
 returns c =
@@ -109,7 +109,7 @@ returns c =
     let t = p.before.before.before.before in
     let l = t.before.before in
     let s = l.before.before.before in
-    let last = one_on _ _ _ _ _ _ _ _ s.requires.there l.loop-j.invariant.1 _ t.if-j-count.true p.wide-then-j-count.ensures _ _ p.put-c-then-j-count.ensures p.put-c-then-j-count.auto.1.0 in
+    let last = one_on _ _ _ _ _ _ _ _ s.requires.there l.loop-j.invariant.1 _ t.if-j-count.true p.wide-then-j-count.ensures _ _ p.put-c-then-j-count.ensures p.put-c-then-j-count.auto.buf in
     put_end _ _ _ _ _ _ _ _ last (omega (arith, t.loop-j-test.false))
 
 same-length-2 : tie.Need-shape_of-buf-else-j-count invariant-loop decreases-loop

@@ -20,13 +20,13 @@ slice-reshare-prefix-make-tables c = search rules
 slice-aggregate-make-tables : tie.Need-slice_bounds-make_tables-end-2
 slice-aggregate-make-tables c =
     let numbered = c.before.before.before.before.before.before.before in
-    let s = numbered.before.before.before.before.before in
+    let s = numbered.before.before.before.before in
     listed_long s.requires numbered.number_inputs.ensures
 
 make-tables-requires : tie.Need-make_tables-requires
 make-tables-requires c κs =
     let numbered = c.before.before.before.before.before.before.before.before in
-    let s = numbered.before.before.before.before.before in
+    let s = numbered.before.before.before.before in
     tables_room s.requires numbered.number_inputs.ensures c.make_squarings-first.ensures
 
 same_length : tie.Need-shape_of-members
@@ -38,7 +38,7 @@ same-length-2 c = search rules
 returns : tie.Need-returns
 returns c =
     let numbered = c.before.before.before.before.before.before.before.before.before.before.before in
-    let s = numbered.before.before.before.before.before in
+    let s = numbered.before.before.before.before in
     let squared = c.make_squarings-first.ensures in
     groups_made s.requires numbered.number_inputs.ensures squared c.make_tables.ensures
 

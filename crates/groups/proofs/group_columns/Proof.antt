@@ -7,7 +7,7 @@ use Rattle.groups.proofs.group_columns.Statement.{statement}
 use Rattle.groups.proofs.group_columns.Tie as tie
 
 -- the measured columns are narrow, for the largest amounts are of 32 bits
-narrow : (c : tie.After-measure_digits) → Narrow (take c.args.p c.measure_digits.new.1.1.1.0)
+narrow : (c : tie.After-measure_digits) → Narrow (take c.args.p c.measure_digits.new.cells)
 narrow c =
     let s = c.before.before.before.before in
     measured_narrow s.args.p s.args.largest.now _ _ c.measure_digits.ensures s.requires.columns (λ j. (c.shared_slice_known-1.given j).fits)
@@ -21,7 +21,7 @@ slice-reshare-prefix-column-sum c = search rules
 slice-aggregate-column-sum : tie.Need-slice_bounds-column_sum-end-2
 slice-aggregate-column-sum c =
     let told = c.before.before.before in
-    let s = told.before.before.before.before in
+    let s = told.before.before.before in
     measured_long s.args.p s.args.largest.now _ _ told.measure_digits.ensures
 
 column-sum-requires : tie.Need-column_sum-w-requires
@@ -38,7 +38,7 @@ slice-reshare-prefix-column-sum-2 c = search rules
 slice-aggregate-column-sum-2 : tie.Need-slice_bounds-column_sum-end-4
 slice-aggregate-column-sum-2 c =
     let told = c.before.before.before.before.before.before in
-    let s = told.before.before.before.before in
+    let s = told.before.before in
     measured_long s.args.p s.args.largest.now _ _ told.measure_digits.ensures
 
 column-sum-requires-2 : tie.Need-column_sum-squarings-requires
@@ -52,7 +52,7 @@ same_length c = search rules
 returns : tie.Need-returns
 returns c =
     let told = c.before.before.before.before.before.before.before in
-    let s = told.before.before.before.before in
+    let s = told.before.before in
     let w = c.column_sum-w.ensures in
     let groups = c.group_count-groups.ensures in
     columns_grouped _ s.args.largest.now _ _ s.requires told.measure_digits.ensures w groups c.column_sum-squarings.ensures

@@ -66,7 +66,7 @@ slice-write-s : tie.Need-bounds-s-to invariant-loop decreases-loop
 slice-write-s c =
     let turn = c.before.before.before.before.before in
     let asked = turn.requires.0 in
-    omega (arith, asked.room, c.lay_clump-e.auto.0, turn.loop-j.invariant.apart.size, turn.loop-j-test.true)
+    omega (arith, asked.room, c.lay_clump-e.auto.s, turn.loop-j.invariant.apart.size, turn.loop-j-test.true)
 
 loop-again : tie.Need-loop-j-preserved invariant-loop decreases-loop
 loop-again c =

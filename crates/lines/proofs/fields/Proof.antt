@@ -27,7 +27,7 @@ returns-2 : tie.Need-returns-in-Words
 returns-2 c = search rules
 
 returns-3 : tie.Need-returns-in-Fields
-returns-3 c = fields_by _ _ _ _ c.by-1.given.1 c.separators.ensures
+returns-3 c = fields_by _ _ _ _ c.in-Fields.is c.separators.ensures
 
 pub fields_spec : {M : Type 1} → statement M
 fields_spec =

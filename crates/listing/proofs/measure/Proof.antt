@@ -37,7 +37,7 @@ gather-requires : tie.Need-gather-requires invariant-loop decreases-loop
 gather-requires c κs =
     let b = c.before.before.before.before in
     let l = b.before.before.before in
-    let s = l.before.before.before.before.before in
+    let s = l.before.before.before.before in
     record {
       column_low = omega (arith, b.loop-c-test.true, s.requires.chain_sound.steps_sound.p_low);
       figures_able =
@@ -69,10 +69,10 @@ loop-again c =
     let g = c.before.before.before in
     let b = g.before.before.before.before.before in
     let l = b.before.before.before in
-    let s = l.before.before.before.before.before in (
+    let s = l.before.before.before.before in (
       search rules,
       b.column-place.auto.1.1.1.0 ∙ l.loop-c.invariant.1,
-      g.gather.auto.1.1.1.0 ∙ l.loop-c.invariant.2,
+      g.gather.auto.table ∙ l.loop-c.invariant.2,
       earliest_next l.loop-c.c (large_in s.args.p (pairs s.args.steps.now)) _ _ _ c.earlier-large.ensures l.loop-c.invariant.3 b.column-place.ensures.place,
       filled_on s.args.p l.loop-c.c (pairs s.args.steps.now) s.args.outputs.now _ _ _ _ _ _ _ s.requires.chain_sound.outputs_fine
           s.requires.outputs_few (omega (arith, b.loop-c-test.true, s.requires.chain_sound.steps_sound.p_low)) (l.loop-c.invariant.2 ∙ s.requires.table_whole)

@@ -27,36 +27,36 @@ enum-known-p c = search rules
 
 -- what the file that was read tells
 read_file : (c : tie.In-Chain-2)
-    → let r = c.before.before.before.before.before.before in
-    Good edition1 r.args.bytes.now r.read.new.1.0 r.read.new.1.1.0
-    c.p-1.given.0.0 c.p-1.given.0.1.0 c.p-1.given.0.1.1.0.steps
+    → let r = c.before.before.before.before.before in
+    Good edition1 r.args.bytes.now r.read.new.steps r.read.new.outputs
+    c.in-Chain.p c.in-Chain.q c.in-Chain.counts.steps
 read_file c =
-    let r = c.before.before.before.before.before.before in
+    let r = c.before.before.before.before.before in
     let s = r.before.before.before.before.before.before.before.before.before in
     let a = s.args in
     let e = r.read.ensures in
     read_good edition1 a.bytes.now a.steps.now a.outputs.now (omega (arith, s.requires.steps_whole)) (omega (arith, s.requires.outputs_whole)) _ (answer_clause e) _ _ _
-    c.p-1.given.1 _ _ (first_slice_clause e) (second_slice_clause e)
+    c.in-Chain.is _ _ (first_slice_clause e) (second_slice_clause e)
 
 mul-measure : tie.Need-overflow_mul-counts
-mul-measure c = omega (arith, (read_file c.before.before).taken.few)
+mul-measure c = omega (arith, (read_file c.before).taken.few)
 
 slice-reshare-prefix-measure : tie.Need-slice_bounds-measure-end
-slice-reshare-prefix-measure c = (read_file c.before.before).taken.steps_room
+slice-reshare-prefix-measure c = (read_file c.before).taken.steps_room
 
 slice-aggregate-measure : tie.Need-slice_bounds-measure-end-in-Chain
-slice-aggregate-measure c = sym (length-take-le _ _ (read_file c.before.before.before).taken.steps_room)
+slice-aggregate-measure c = sym (length-take-le _ _ (read_file c.before).taken.steps_room)
 
 slice-reshare-prefix-measure-2 : tie.Need-slice_bounds-measure-end-in-Chain-2
-slice-reshare-prefix-measure-2 c = (read_file c.before.before.before).taken.outputs_room
+slice-reshare-prefix-measure-2 c = (read_file c.before).taken.outputs_room
 
 slice-aggregate-measure-2 : tie.Need-slice_bounds-measure-end-in-Chain-3
-slice-aggregate-measure-2 c = sym (length-take-le _ _ (read_file c.before.before.before.before).taken.outputs_room)
+slice-aggregate-measure-2 c = sym (length-take-le _ _ (read_file c.before.before).taken.outputs_room)
 
 measure-requires : tie.Need-measure-requires
 measure-requires c κs =
-    let k = c.before.before.before.before.before.before in
-    let s = k.before.before.before.before.before.before.before.before.before.before.before.before.before.before.before in
+    let k = c.before.before.before.before in
+    let s = k.before.before.before.before.before.before.before.before.before.before.before.before.before in
     let t = read_file k in
     record {
       chain_sound =
@@ -87,14 +87,14 @@ same-length-2 c = search rules
 
 returns-2 : tie.Need-returns-in-Refused
 returns-2 c =
-    let n = c.before in
-    let r = n.before.before.before.before.before.before in
+    let n = c in
+    let r = n.before.before.before.before.before in
     let s = r.before.before.before.before.before.before.before.before.before in
     let a = s.args in
     listing_refused _ _ _ _
     (unread _ r.if-bytes-gt-MOST_BYTES.false _ _
     (read_refused edition1 a.bytes.now a.steps.now a.outputs.now (omega (arith, s.requires.steps_whole)) (omega (arith, s.requires.outputs_whole)) _
-    (answer_clause r.read.ensures) _ _ n.number-1.given.1))
+    (answer_clause r.read.ensures) _ _ n.in-Refused.is))
 
 same-length-3 : tie.Need-shape_of-steps-in-Refused-measure
 same-length-3 c = search rules
@@ -110,11 +110,11 @@ same-length-6 c = search rules
 
 returns-3 : tie.Need-returns-in-Refused-measure
 returns-3 c =
-    let m = c.before.before.before.before.before.before.before in
-    let k = m.before.before.before.before.before.before.before in
+    let m = c.before.before.before.before.before in
+    let k = m.before.before.before.before.before in
     let r = k.before.before.before.before.before.before in
     listing_refused _ _ _ _
-    (measured _ _ _ _ _ _ (read_file k) r.if-bytes-gt-MOST_BYTES.false _ (told_refused_lem _ _ _ _ m.measure.ensures.told_is c.number-in-Refused-measure-1.given.1))
+    (measured _ _ _ _ _ _ (read_file k) r.if-bytes-gt-MOST_BYTES.false _ (told_refused_lem _ _ _ _ m.measure.ensures.told_is c.in-Refused-measure.is))
 
 same-length-7 : tie.Need-shape_of-steps-in-Fine
 same-length-7 c = search rules
@@ -130,10 +130,10 @@ same-length-10 c = search rules
 
 returns-4 : tie.Need-returns-in-Fine
 returns-4 c =
-    let m = c.before.before.before.before.before.before in
-    let k = m.before.before.before.before.before.before.before in
+    let m = c.before.before.before.before.before in
+    let k = m.before.before.before.before.before in
     let r = k.before.before.before.before.before.before in
-    let passed = c.enum_told-1.given.1 in
+    let passed = c.in-Fine.is in
     let a = r.args in
     let told = read_counts edition1 a.bytes.now a.steps.now a.outputs.now _ (answer_clause r.read.ensures) _ _ _ k.p-1.given.1 in
     listing_done _ _ _ _ _ _ (read_file k) r.if-bytes-gt-MOST_BYTES.false _ _ told (told_fine _ _ m.measure.ensures.told_is passed)

@@ -64,7 +64,7 @@ loop-again c =
     let l = k.before.before in
     let s = l.before.before.before in (
       search rules,
-      b.put_field-end.auto.1.1.0 ∙ l.loop-c.invariant.1,
+      b.put_field-end.auto.text ∙ l.loop-c.invariant.1,
       omega (arith, decimal_short 9 _ (amount_low k), b.put_field-end.ensures.place, l.loop-c.invariant.2),
       put_amount _ _ (amount_in s.args.table.now s.args.i) _ _ _ _ _ (omega (arith, s.requires.room)) l.loop-c.invariant.3 b.put_field-end.ensures,
     )

@@ -17,7 +17,7 @@ put-decimal-requires : tie.Need-put_decimal-requires
 put-decimal-requires c κs = simp length-set (omega (arith, c.requires))
 
 same_length : tie.Need-shape_of-text
-same_length c = c.put_decimal.auto.1.1.0 ∙ simp length-set
+same_length c = c.put_decimal.auto.text ∙ simp length-set
 
 returns : tie.Need-returns
 returns c = put_blank _ _ _ _ _ (omega (arith, c.requires)) c.put_decimal.ensures

@@ -38,18 +38,18 @@ slice-write-text c =
     let k = c.before.before in
     let j = k.before.before.before.before in
     let s = j.before.before.before.before in
-    omega (arith, line_end_lem c, j.put_decimal-first.auto.1.1.0, k.put_amounts-end.auto.1.1.1.1.0, s.requires.room)
+    omega (arith, line_end_lem c, j.put_decimal-first.auto.text, k.put_amounts-end.auto.text, s.requires.room)
 
 add-result : tie.Need-overflow_add-result
 add-result c =
     let s = c.before.before.before.before.before.before.before.before.before.before in
-    omega (arith, line_end_lem c, s.requires.room, s.well-formed.1.1.1.1.0.0)
+    omega (arith, line_end_lem c, s.requires.room, s.well_formed.1.1.1.1.0.0)
 
 same_length : tie.Need-shape_of-text
 same_length c =
     let k = c.before.before in
     let j = k.before.before.before.before in
-    simp length-set (k.put_amounts-end.auto.1.1.1.1.0 ∙ j.put_decimal-first.auto.1.1.0)
+    simp length-set (k.put_amounts-end.auto.text ∙ j.put_decimal-first.auto.text)
 
 returns : tie.Need-returns
 returns c =

@@ -37,7 +37,7 @@ loop-again c =
     let l = b.before.before.before in
     let s = l.before.before.before in (
       search rules,
-      b.put_payslip-end.auto.1.1.1.1.0 ∙ l.loop-i.invariant.1,
+      b.put_payslip-end.auto.text ∙ l.loop-i.invariant.1,
       omega (arith, b.put_payslip-end.ensures.short, l.loop-i.invariant.2),
       put_next _ _ _ (amount_in s.args.table.now) _ _ _ _ _ (omega (arith, s.requires.room)) l.loop-i.invariant.3 b.put_payslip-end.ensures.put,
     )

@@ -19,7 +19,7 @@ put-decimal-requires : tie.Need-put_decimal-end-requires
 put-decimal-requires c κs =
     let k = c.before.before.before in
     let s = k.before.before.before.before in
-    omega (arith, decimal_short 9 s.args.number (omega (arith, s.ranges.number.fits)), k.put_word-first.ensures.place, k.put_word-first.auto.1.1.0, s.requires)
+    omega (arith, decimal_short 9 s.args.number (omega (arith, s.ranges.number.fits)), k.put_word-first.ensures.place, k.put_word-first.auto.text, s.requires)
 
 -- where the newline goes
 line_end_lem : (c : tie.After-slice_known-3-1) → c.put_decimal-end.result ≤ 18
@@ -34,7 +34,7 @@ slice-write-text c =
     let k = c.before.before in
     let j = k.before.before.before.before in
     let s = j.before.before.before.before in
-    omega (arith, line_end_lem c, j.put_word-first.auto.1.1.0, k.put_decimal-end.auto.1.1.0, s.requires)
+    omega (arith, line_end_lem c, j.put_word-first.auto.text, k.put_decimal-end.auto.text, s.requires)
 
 add-result : tie.Need-overflow_add-result
 add-result c = omega (arith, line_end_lem c)
@@ -43,14 +43,14 @@ same_length : tie.Need-shape_of-text
 same_length c =
     let k = c.before.before in
     let j = k.before.before.before.before in
-    simp length-set (k.put_decimal-end.auto.1.1.0 ∙ j.put_word-first.auto.1.1.0)
+    simp length-set (k.put_decimal-end.auto.text ∙ j.put_word-first.auto.text)
 
 returns : tie.Need-returns
 returns c =
     let k = c.before.before in
     let j = k.before.before.before.before in
     let s = j.before.before.before.before in
-    put_refusal _ _ _ _ _ _ j.put_word-first.ensures k.put_decimal-end.ensures (omega (arith, line_end_lem c, j.put_word-first.auto.1.1.0, s.requires))
+    put_refusal _ _ _ _ _ _ j.put_word-first.ensures k.put_decimal-end.ensures (omega (arith, line_end_lem c, j.put_word-first.auto.text, s.requires))
 
 pub put_refused_spec : {M : Type 1} → statement M
 put_refused_spec =

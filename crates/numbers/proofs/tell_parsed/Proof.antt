@@ -16,10 +16,10 @@ refuse-requires : tie.Need-refuse-requires
 refuse-requires c κs = search rules
 
 returns : tie.Need-returns-in-Numbers
-returns c = case (told_numbers _) _ _ _ c.parsed-1.given.1 refl
+returns c = case (told_numbers _) _ _ _ c.in-Numbers.is refl
 
 returns-2 : tie.Need-returns-in-Fault
-returns-2 c = case (told_numbers _) _ _ _ c.parsed-in-Fault-1.given.1 c.refuse.ensures
+returns-2 c = case (told_numbers _) _ _ _ c.in-Fault.is c.refuse.ensures
 
 pub tell_parsed_spec : {M : Type 1} → statement M
 tell_parsed_spec =

@@ -11,12 +11,12 @@ use Rattle.packing.proofs.pack.Statement.{statement}
 use Rattle.packing.proofs.pack.Tie as tie
 
 found_fine : (e : tie.In-Fine)
-    → let s = e.before.before.before.before.before.args in
+    → let s = e.args in
     fine ≡ writable_rule s.p s.q s.amounts.now
-found_fine e = told_fine _ _ e.before.before.judge-writable.ensures e.enum_told.given.1
+found_fine e = told_fine _ _ e.judge_writable.ensures e.in-Fine.is
 
 can_write : (e : tie.In-Fine)
-    → let s = e.before.before.before.before.before.args in
+    → let s = e.args in
     Writable s.p s.q s.amounts.now
 can_write e = writable _ _ _ (sym (found_fine e))
 
@@ -34,7 +34,7 @@ returns-2 : tie.Need-returns-in-Refused
 unfolding pack_rule pack_answer pack_bytes
 returns-2 c =
     refused_leaves _ _ _ _ _ _
-    (given_refused _ _ _ _ _ (told_refused_lem _ _ _ _ c.judge_writable.ensures c.number-1.given.1))
+    (given_refused _ _ _ _ _ (told_refused_lem _ _ _ _ c.judge_writable.ensures c.in-Refused.is))
 
 returns-3 : tie.Need-returns-else-bytes-amounts
 unfolding pack_rule pack_answer pack_bytes

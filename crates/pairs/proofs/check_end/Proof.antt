@@ -12,9 +12,9 @@ use Rattle.pairs.proofs.check_end.Tie as tie
 
 -- nothing was found before, and so the squarings are among the n steps, and there is room for all values
 fits : (e : tie.In-Fine)
-    → let a = e.before.before.before.before.args in
+    → let a = e.args in
     (squarings_in a.task ≤ a.n) × (a.p + a.n < length a.scratch.now)
-fits e = e.before.before.before.before.requires (sym (told_fine _ _ e.before.before.found.ensures e.enum_told.given.1))
+fits e = e.requires (sym (told_fine _ _ e.found.ensures e.in-Fine.is))
 
 pub check_end_spec : {M : Type 1} → statement M
 check_end_spec =

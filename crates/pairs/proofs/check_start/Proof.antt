@@ -7,7 +7,7 @@ use Rattle.pairs.proofs.check_start.Statement.{statement}
 use Rattle.pairs.proofs.check_start.Tie as tie
 
 judge-end-requires : tie.Need-judge_end-requires
-judge-end-requires c κs = c.requires (sym (told_fine _ _ c.found.ensures c.enum_told-1.given.1))
+judge-end-requires c κs = c.requires (sym (told_fine _ _ c.found.ensures c.in-Fine.is))
 
 pub check_start_spec : {M : Type 1} → statement M
 check_start_spec =

@@ -15,10 +15,10 @@ enum_told : tie.Need-enum_told-1
 enum_told c = search rules
 
 returns : tie.Need-returns-in-Refused
-returns c = place_refused _ _ _ (told_refused_lem _ _ _ _ c.found.ensures c.number-1.given.1)
+returns c = place_refused _ _ _ (told_refused_lem _ _ _ _ c.found.ensures c.in-Refused.is)
 
 returns-2 : tie.Need-returns-in-Fine
-returns-2 c = place_fine _ (told_fine _ _ c.found.ensures c.enum_told-1.given.1)
+returns-2 c = place_fine _ (told_fine _ _ c.found.ensures c.in-Fine.is)
 
 pub place_of_spec : {M : Type 1} → statement M
 place_of_spec = tie.close (tie.spec found-requires enum-known-number enum_told returns returns-2)

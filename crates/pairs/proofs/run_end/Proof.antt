@@ -11,9 +11,9 @@ use Rattle.pairs.proofs.run_end.Tie as tie
 
 -- nothing was found before, and so the run can end
 able : (e : tie.In-Fine)
-    → let a = e.before.before.before.before.before.before.args in
+    → let a = e.args in
     RunEndAble a.n (squarings_in a.task) a.outputs.now (length a.values.now) (length a.figures.now)
-able e = e.before.before.before.before.before.before.requires (sym (told_fine _ _ e.before.before.found.ensures e.enum_told.given.1))
+able e = e.requires (sym (told_fine _ _ e.found.ensures e.in-Fine.is))
 
 pub run_end_spec : {M : Type 1} → statement M
 run_end_spec =
@@ -22,9 +22,9 @@ run_end_spec =
     (λ c κs. search rules)
     (λ c. search rules)
     (λ c. search rules)
-    (λ c κs. (able c.before.before).shown)
+    (λ c κs. (able c.before).shown)
     (λ c κs. search rules)
-    (λ c κs. omega (arith, (able c.before.before.before.before.before.before).squarings_few, c.squarings.ensures))
+    (λ c κs. omega (arith, (able c.before.before.before.before.before).squarings_few, c.squarings.ensures))
     (λ c. search (judging, ending) depth 8)
     (λ c. search rules)
     (λ c. search rules)

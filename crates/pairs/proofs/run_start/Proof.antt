@@ -11,14 +11,14 @@ use Rattle.pairs.proofs.run_start.Statement.{statement}
 use Rattle.pairs.proofs.run_start.Tie as tie
 
 -- nothing was found before
-found_none : (e : tie.In-Fine) → fine ≡ found_by e.before.before.before.before.before.before.args.task
-found_none e = told_fine _ _ e.before.before.found.ensures e.enum_told.given.1
+found_none : (e : tie.In-Fine) → fine ≡ found_by e.args.task
+found_none e = told_fine _ _ e.found.ensures e.in-Fine.is
 
 -- and so the run's arguments are as they should be
 able : (e : tie.In-Fine)
-    → let a = e.before.before.before.before.before.before.args in
+    → let a = e.args in
     RunAble a.p a.n a.m a.bases.now
-able e = e.before.before.before.before.before.before.requires (sym (found_none e))
+able e = e.requires (sym (found_none e))
 
 found-requires : tie.Need-found-requires
 found-requires c κs = search rules
@@ -43,9 +43,9 @@ enum-told-2 c = search rules
 
 start-requires : tie.Need-start-requires
 start-requires c κs =
-    let f = c.before.before.before in
+    let f = c.before.before in
     let a = able f.before.before in
-    let fine-both = then_fine _ _ (sym (told_fine _ _ f.judge_figures.ensures c.enum_told-in-Fine-judge_figures-1.given.1)) in
+    let fine-both = then_fine _ _ (sym (told_fine _ _ f.judge_figures.ensures c.in-Fine-judge_figures.is)) in
     let fits = (ended _ _ _ _ (sym f.judge_end-judged.ensures ∙ fine-both.0)).cells_fit in
     (a.modulus, omega (arith, a.bases_are_p))
 
@@ -53,17 +53,17 @@ squarings-requires : tie.Need-squarings-requires
 squarings-requires c κs = search rules
 
 inverse-requires : tie.Need-inverse-requires
-inverse-requires c κs = (able c.before.before.before.before.before.before.before.before.before).modulus
+inverse-requires c κs = (able c.before.before.before.before.before.before.before.before).modulus
 
 returns : tie.Need-returns-in-Refused
 returns c = search (judging, starting) depth 8
 
 returns-2 : tie.Need-returns-in-Refused-judge_figures
 returns-2 c =
-    let f = c.before.before.before in
+    let f = c.before in
     let n = found_none f.before.before in
     let told = told_after _ _ _ _ f.judge_end-judged.ensures f.judge_figures.ensures in
-    start_refused _ _ _ _ _ _ _ _ (pass _ _ _ n (told_refused_lem _ _ _ _ told c.number-in-Refused-judge_figures-1.given.1))
+    start_refused _ _ _ _ _ _ _ _ (pass _ _ _ n (told_refused_lem _ _ _ _ told c.in-Refused-judge_figures.is))
 
 same_length : tie.Need-shape_of-values
 same_length c = search rules
@@ -71,10 +71,10 @@ same_length c = search rules
 returns-3 : tie.Need-returns-in-Fine-judge_figures
 returns-3 c =
     let e = c.before.before.before.before.before.before in
-    let f = e.before.before in
+    let f = e.before in
     let n = found_none f.before.before in
     let told = told_after _ _ _ _ f.judge_end-judged.ensures f.judge_figures.ensures in
-    start_fine _ _ _ _ _ _ _ _ _ (pass _ _ _ n (told_fine _ _ told e.enum_told-in-Fine-judge_figures-1.given.1)) (search rules) (search rules) (search rules)
+    start_fine _ _ _ _ _ _ _ _ _ (pass _ _ _ n (told_fine _ _ told e.in-Fine-judge_figures.is)) (search rules) (search rules) (search rules)
 
 pub run_start_spec : {M : Type 1} → statement M
 run_start_spec =

@@ -15,7 +15,7 @@ enum_told : tie.Need-enum_told-1
 enum_told c = search rules
 
 returns : tie.Need-returns-in-Refused
-returns c = no_turns _ _ _ _ (told_refused_lem _ _ _ _ c.found.ensures c.number-1.given.1)
+returns c = no_turns _ _ _ _ (told_refused_lem _ _ _ _ c.found.ensures c.in-Refused.is)
 
 returns-2 : tie.Need-returns-in-Fine
 returns-2 c = search (judging, turning)

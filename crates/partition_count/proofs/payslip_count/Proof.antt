@@ -21,7 +21,7 @@ slice-aggregate-joins c =
 joins-requires : tie.Need-joins-requires
 joins-requires c κs =
     let numbered = c.before.before.before in
-    let s = numbered.before.before.before.before.before in
+    let s = numbered.before.before.before.before in
     omega (arith, numbers_long s.args.s s.args.amounts.now s.args.i _ _ numbered.number_parts.ensures, s.requires.grouped.cuts.groups_few)
 
 same_length : tie.Need-shape_of-cells

@@ -16,13 +16,13 @@ slice-reshare-prefix-make-payslips c = search rules
 slice-aggregate-make-payslips : tie.Need-slice_bounds-make_payslips-end-2
 slice-aggregate-make-payslips c =
     let grouped = c.before.before.before.before.before in
-    let s = grouped.before.before.before.before.before.before.before.before.before in
+    let s = grouped.before.before.before.before.before.before.before.before in
     sheet_long_lem s.requires.grouped grouped.make_groups-tables.ensures
 
 make-payslips-requires : tie.Need-make_payslips-requires
 make-payslips-requires c κs =
     let grouped = c.before.before.before.before.before.before.before.before in
-    let s = grouped.before.before.before.before.before.before.before.before.before in
+    let s = grouped.before.before.before.before.before.before.before.before in
     let are = sheet_inputs s.requires.grouped grouped.make_groups-tables.ensures in
     record {
       asked = record { grouped = s.requires.grouped; members_are = are; room = s.requires.cells_room };
@@ -44,7 +44,7 @@ same-length-4 c = search rules
 returns : tie.Need-returns
 returns c =
     let grouped = c.before.before.before.before.before.before.before.before.before.before.before.before.before.before.before in
-    let s = grouped.before.before.before.before.before.before.before.before.before in
+    let s = grouped.before.before.before.before.before.before.before.before in
     chain_whole s.requires.grouped s.requires.fits grouped.make_groups-tables.ensures c.make_payslips.ensures
 
 pub make_chain_spec : {M : Type 1} → statement M

@@ -25,7 +25,7 @@ slice-aggregate-make-parts c =
 make-parts-requires : tie.Need-make_parts-requires
 make-parts-requires c κs =
     let numbered = c.before.before.before.before in
-    let s = numbered.before.before.before.before.before.before.before in
+    let s = numbered.before.before.before.before.before.before in
     let a = s.args in
     let numbers : List ℕ = take a.s.groups numbered.number_parts.new.1.1.1.1.0 in
     let at = numbers_at a.s a.amounts.now a.i _ _ numbered.number_parts.ensures in
@@ -44,7 +44,7 @@ returns : tie.Need-returns
 returns c =
     let made = c.before.before in
     let numbered = c.before.before.before.before.before.before.before in
-    let s = numbered.before.before.before.before.before.before.before in
+    let s = numbered.before.before.before.before.before.before in
     let a = s.args in
     let numbers : List ℕ = take a.s.groups numbered.number_parts.new.1.1.1.1.0 in
     let at = numbers_at a.s a.amounts.now a.i _ _ numbered.number_parts.ensures in

@@ -59,27 +59,27 @@ accepted_at c =
     let r = compiling c in
     let s = start r in
     compile_passes s.args.p s.args.q s.args.amounts.now s.args.method s.args.k s.args.steps.now
-    s.args.outputs.now _ (answer_clause r.compile.ensures) _ c.compiled-1.given.1
+    s.args.outputs.now _ (answer_clause r.compile.ensures) _ c.in-Chain.is
 
 counted_at : (c : tie.In-Chain-2) → let s = start (compiling c) in
-    c.compiled-1.given.0.0.steps ≡ count s.args.p s.args.q s.args.amounts.now s.args.method s.args.k
+    c.in-Chain.compiled.steps ≡ count s.args.p s.args.q s.args.amounts.now s.args.method s.args.k
 counted_at c =
     let r = compiling c in
     let s = start r in
     compile_counts s.args.p s.args.q s.args.amounts.now s.args.method s.args.k s.args.steps.now
-    s.args.outputs.now _ (answer_clause r.compile.ensures) _ c.compiled-1.given.1 (low r)
+    s.args.outputs.now _ (answer_clause r.compile.ensures) _ c.in-Chain.is (low r)
 
 -- the chain that compile filled
 filled_at : (c : tie.In-Chain-2)
     → let r = compiling c in
     let s = start r in
     Filled s.args.p s.args.q s.args.amounts.now s.args.method s.args.k
-    r.compile.last.1.1.1.1.1.0 r.compile.last.1.1.1.1.1.1.0 c.compiled-1.given.0.0.steps
+    r.compile.last.1.1.1.1.1.0 r.compile.last.1.1.1.1.1.1.0 c.in-Chain.compiled.steps
 filled_at c =
     let r = compiling c in
     let s = start r in
     filled s.args.p s.args.q s.args.amounts.now s.args.method s.args.k s.args.steps.now
-    s.args.outputs.now _ (answer_clause r.compile.ensures) _ c.compiled-1.given.1 (low r) _ _ (first_slice_clause r.compile.ensures) (second_slice_clause r.compile.ensures)
+    s.args.outputs.now _ (answer_clause r.compile.ensures) _ c.in-Chain.is (low r) _ _ (first_slice_clause r.compile.ensures) (second_slice_clause r.compile.ensures)
 
 -- the chain that read filled
 taken_at : (c : tie.In-Chain-dispatch-2)
@@ -98,7 +98,7 @@ taken_at c =
     s.args.bases.now _ _ (first_slice_clause r.compile.ensures) (second_slice_clause r.compile.ensures)
     (accepted_at n)
     _ _ f.steps_front f.outputs_front _ _ _ _ d.dispatch.ensures
-    _ _ _ c.columns-1.given.1
+    _ _ _ c.in-Chain-dispatch.is
 
 compile-requires : tie.Need-compile-requires
 compile-requires c κs = search rules
@@ -110,19 +110,19 @@ enum-known-compiled : tie.Need-enum_known-compiled
 enum-known-compiled c = search rules
 
 mul-dispatch : tie.Need-overflow_mul-compiled
-mul-dispatch c = omega (arith, (filled_at c.before.before).few)
+mul-dispatch c = omega (arith, (filled_at c.before).few)
 
 slice-reshare-prefix-dispatch : tie.Need-slice_bounds-dispatch-end
-slice-reshare-prefix-dispatch c = (filled_at c.before.before).steps_room
+slice-reshare-prefix-dispatch c = (filled_at c.before).steps_room
 
 slice-aggregate-dispatch : tie.Need-slice_bounds-dispatch-end-in-Chain
-slice-aggregate-dispatch c = sym (length-take-le _ _ (filled_at c.before.before.before).steps_room)
+slice-aggregate-dispatch c = sym (length-take-le _ _ (filled_at c.before).steps_room)
 
 slice-reshare-prefix-dispatch-2 : tie.Need-slice_bounds-dispatch-end-in-Chain-2
-slice-reshare-prefix-dispatch-2 c = (filled_at c.before.before.before).outputs_room
+slice-reshare-prefix-dispatch-2 c = (filled_at c.before).outputs_room
 
 slice-aggregate-dispatch-2 : tie.Need-slice_bounds-dispatch-end-in-Chain-3
-slice-aggregate-dispatch-2 c = sym (length-take-le _ _ (filled_at c.before.before.before.before).outputs_room)
+slice-aggregate-dispatch-2 c = sym (length-take-le _ _ (filled_at c.before.before).outputs_room)
 
 dispatch-requires : tie.Need-dispatch-requires
 dispatch-requires c κs = search rules
@@ -134,19 +134,19 @@ enum-known-columns : tie.Need-enum_known-columns
 enum-known-columns c = search rules
 
 mul-receive : tie.Need-overflow_mul-read
-mul-receive c = omega (arith, (taken_at c.before.before).few)
+mul-receive c = omega (arith, (taken_at c.before).few)
 
 slice-reshare-prefix-receive : tie.Need-slice_bounds-receive-end
-slice-reshare-prefix-receive c = (taken_at c.before.before).steps_room
+slice-reshare-prefix-receive c = (taken_at c.before).steps_room
 
 slice-aggregate-receive : tie.Need-slice_bounds-receive-end-in-Chain-dispatch
-slice-aggregate-receive c = sym (length-take-le _ _ (taken_at c.before.before.before).steps_room)
+slice-aggregate-receive c = sym (length-take-le _ _ (taken_at c.before).steps_room)
 
 slice-reshare-prefix-receive-2 : tie.Need-slice_bounds-receive-end-in-Chain-dispatch-2
-slice-reshare-prefix-receive-2 c = (taken_at c.before.before.before).outputs_room
+slice-reshare-prefix-receive-2 c = (taken_at c.before).outputs_room
 
 slice-aggregate-receive-2 : tie.Need-slice_bounds-receive-end-in-Chain-dispatch-3
-slice-aggregate-receive-2 c = sym (length-take-le _ _ (taken_at c.before.before.before.before).outputs_room)
+slice-aggregate-receive-2 c = sym (length-take-le _ _ (taken_at c.before.before).outputs_room)
 
 receive-requires : tie.Need-receive-requires
 receive-requires c κs = search rules
@@ -165,12 +165,12 @@ same-length-2 c = search rules
 
 returns : tie.Need-returns-in-Refused
 returns c =
-    let r = c.before.before.before.before.before.before.before in
+    let r = c.before.before.before.before.before in
     let s = start r in
     not_compiled s.args.p s.args.q s.args.amounts.now s.args.method s.args.k (low r) (slices s) s.args.m
     s.args.bases.now _ _ (first_slice_clause r.compile.ensures) (second_slice_clause r.compile.ensures) _ _
     (compile_stops s.args.p s.args.q s.args.amounts.now s.args.method s.args.k s.args.steps.now
-    s.args.outputs.now _ (answer_clause r.compile.ensures) _ _ c.number-1.given.1)
+    s.args.outputs.now _ (answer_clause r.compile.ensures) _ _ c.in-Refused.is)
 
 same-length-3 : tie.Need-shape_of-steps-in-Refused-dispatch
 same-length-3 c = search rules
@@ -189,7 +189,7 @@ same-length-7 c = search rules
 
 returns-2 : tie.Need-returns-in-Refused-dispatch
 returns-2 c =
-    let d = c.before.before.before.before.before.before.before.before.before in
+    let d = c.before.before.before.before.before.before.before in
     let n = compiled-before d in
     let r = compiling n in
     let s = start r in
@@ -198,35 +198,35 @@ returns-2 c =
     s.args.bases.now _ _ (first_slice_clause r.compile.ensures) (second_slice_clause r.compile.ensures)
     (accepted_at n)
     _ _ f.steps_front f.outputs_front _ _ _ _ d.dispatch.ensures
-    _ _ c.number-in-Refused-dispatch-1.given.1
+    _ _ c.in-Refused-dispatch.is
 
 same-length-8 : tie.Need-shape_of-steps-in-Refused-receive
-same-length-8 c = (compiled_by c.before.before.before.before.before.before.before.before.before).compile.auto.1.1.1.1.1.0
+same-length-8 c = (compiled_by c.before.before.before.before.before.before.before).compile.auto.1.1.1.1.1.0
 
 same-length-9 : tie.Need-shape_of-outputs-in-Refused-receive
-same-length-9 c = (compiled_by c.before.before.before.before.before.before.before.before.before).compile.auto.1.1.1.1.1.1.0
+same-length-9 c = (compiled_by c.before.before.before.before.before.before.before).compile.auto.1.1.1.1.1.1.0
 
 same-length-10 : tie.Need-shape_of-bytes-in-Refused-receive
-same-length-10 c = (dispatched-by c.before.before.before.before.before.before.before.before.before).dispatch.auto.1.1.1.0
+same-length-10 c = (dispatched-by c.before.before.before.before.before.before.before).dispatch.auto.1.1.1.0
 
 same-length-11 : tie.Need-shape_of-received-in-Refused-receive
-same-length-11 c = (dispatched-by c.before.before.before.before.before.before.before.before.before).dispatch.auto.1.1.1.1.0
+same-length-11 c = (dispatched-by c.before.before.before.before.before.before.before).dispatch.auto.1.1.1.1.0
 
 same-length-12 : tie.Need-shape_of-results-in-Refused-receive
-same-length-12 c = (dispatched-by c.before.before.before.before.before.before.before.before.before).dispatch.auto.1.1.1.1.1.0
+same-length-12 c = (dispatched-by c.before.before.before.before.before.before.before).dispatch.auto.1.1.1.1.1.0
 
 same-length-13 : tie.Need-shape_of-scratch-in-Refused-receive
-same-length-13 c = c.receive.auto.1.1.1.1.1.1.0
+same-length-13 c = c.receive.auto.scratch
 
 same-length-14 : tie.Need-shape_of-values-in-Refused-receive
-same-length-14 c = c.receive.auto.1.1.1.1.1.1.1.0
+same-length-14 c = c.receive.auto.values
 
 same-length-15 : tie.Need-shape_of-figures-in-Refused-receive
-same-length-15 c = c.receive.auto.1.1.1.1.1.1.1.1.0
+same-length-15 c = c.receive.auto.figures
 
 returns-3 : tie.Need-returns-in-Refused-receive
 returns-3 c =
-    let e = c.before.before.before.before.before.before.before.before.before in
+    let e = c.before.before.before.before.before.before.before in
     let w = columns-before e in
     let d = dispatching w in
     let n = compiled-before d in
@@ -242,35 +242,35 @@ returns-3 c =
     _ (counted_at n)
     _ _ t.columns (ap pairs t.steps_front ∙ pairs_flat _) t.outputs_front
     _ _ _ _ e.receive.ensures
-    _ _ c.number-in-Refused-receive-1.given.1
+    _ _ c.in-Refused-receive.is
 
 same-length-16 : tie.Need-shape_of-steps-in-Multiplications
-same-length-16 c = (compiled_by c.before.before.before.before.before.before.before.before.before).compile.auto.1.1.1.1.1.0
+same-length-16 c = (compiled_by c.before.before.before.before.before.before.before).compile.auto.1.1.1.1.1.0
 
 same-length-17 : tie.Need-shape_of-outputs-in-Multiplications
-same-length-17 c = (compiled_by c.before.before.before.before.before.before.before.before.before).compile.auto.1.1.1.1.1.1.0
+same-length-17 c = (compiled_by c.before.before.before.before.before.before.before).compile.auto.1.1.1.1.1.1.0
 
 same-length-18 : tie.Need-shape_of-bytes-in-Multiplications
-same-length-18 c = (dispatched-by c.before.before.before.before.before.before.before.before.before).dispatch.auto.1.1.1.0
+same-length-18 c = (dispatched-by c.before.before.before.before.before.before.before).dispatch.auto.1.1.1.0
 
 same-length-19 : tie.Need-shape_of-received-in-Multiplications
-same-length-19 c = (dispatched-by c.before.before.before.before.before.before.before.before.before).dispatch.auto.1.1.1.1.0
+same-length-19 c = (dispatched-by c.before.before.before.before.before.before.before).dispatch.auto.1.1.1.1.0
 
 same-length-20 : tie.Need-shape_of-results-in-Multiplications
-same-length-20 c = (dispatched-by c.before.before.before.before.before.before.before.before.before).dispatch.auto.1.1.1.1.1.0
+same-length-20 c = (dispatched-by c.before.before.before.before.before.before.before).dispatch.auto.1.1.1.1.1.0
 
 same-length-21 : tie.Need-shape_of-scratch-in-Multiplications
-same-length-21 c = c.receive.auto.1.1.1.1.1.1.0
+same-length-21 c = c.receive.auto.scratch
 
 same-length-22 : tie.Need-shape_of-values-in-Multiplications
-same-length-22 c = c.receive.auto.1.1.1.1.1.1.1.0
+same-length-22 c = c.receive.auto.values
 
 same-length-23 : tie.Need-shape_of-figures-in-Multiplications
-same-length-23 c = c.receive.auto.1.1.1.1.1.1.1.1.0
+same-length-23 c = c.receive.auto.figures
 
 returns-4 : tie.Need-returns-in-Multiplications
 returns-4 c =
-    let e = c.before.before.before.before.before.before.before.before.before in
+    let e = c.before.before.before.before.before.before.before in
     let w = columns-before e in
     let d = dispatching w in
     let n = compiled-before d in
@@ -286,7 +286,7 @@ returns-4 c =
     _ (counted_at n)
     _ _ t.columns (ap pairs t.steps_front ∙ pairs_flat _) t.outputs_front
     _ _ _ _ e.receive.ensures
-    _ c.made-1.given.1
+    _ c.in-Multiplications.is
 
 pub sheet_to_figures_spec : {M : Type 1} → statement M
 sheet_to_figures_spec =

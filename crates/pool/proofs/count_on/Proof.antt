@@ -13,9 +13,9 @@ use Rattle.pool.proofs.count_on.Tie as tie
 -- the place told is low
 add-t6 : tie.Need-overflow_add-result
 add-t6 c =
-    let told = c.before in
-    let start = told.before.before in
-    let is = ap (λ (j : Judgement). place_in (verdict_of j)) told.found-1.given.1 in
+    let told = c in
+    let start = told.before in
+    let is = ap (λ (j : Judgement). place_in (verdict_of j)) told.in-Refused.is in
     record { fits = omega (arith, is, start.requires) }
 
 pub count_on_spec : {M : Type 1} → statement M

@@ -11,9 +11,9 @@ use Rattle.pool.proofs.judge_lengths.Tie as tie
 -- both parts have few steps, so they can be added
 add-judge-length : tie.Need-overflow_add-n1
 add-judge-length c =
-    let e = c.before.before.before in
-    let first = length-fits _ _ (sym (told_fine _ _ e.judge_length.ensures e.enum_told-1.given.1)) in
-    let second = length-fits _ _ (sym (told_fine _ _ c.judge_length-2.ensures c.enum_told-in-Fine-judge_length-1.given.1)) in
+    let e = c.before.before in
+    let first = length-fits _ _ (sym (told_fine _ _ e.judge_length.ensures e.in-Fine.is)) in
+    let second = length-fits _ _ (sym (told_fine _ _ c.judge_length-2.ensures c.in-Fine-judge_length.is)) in
     record { fits = omega (arith, first, second) }
 
 pub judge_lengths_spec : {M : Type 1} → statement M

@@ -10,9 +10,9 @@ use Rattle.pool.proofs.judge_sizes.Tie as tie
 -- both parts have few payslips, so they can be added
 add-if1 : tie.Need-overflow_add-q1
 add-if1 c =
-    let e = c.before.before.before in
-    let first = payslips_low _ _ _ e.judge_sizes.ensures e.enum_told-1.given.1 in
-    let second = payslips_low _ _ _ c.judge_sizes-2.ensures c.enum_told-in-Fine-judge_sizes-1.given.1 in
+    let e = c.before.before in
+    let first = payslips_low _ _ _ e.judge_sizes.ensures e.in-Fine.is in
+    let second = payslips_low _ _ _ c.judge_sizes-2.ensures c.in-Fine-judge_sizes.is in
     record { fits = omega (arith, first, second) }
 
 pub judge_sizes_spec : {M : Type 1} → statement M

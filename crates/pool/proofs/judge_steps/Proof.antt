@@ -27,19 +27,19 @@ module _ (c : tie.In-Fine-judge_steps-2) where
 -- the place told is low
 add-t17 : tie.Need-overflow_add-result
 add-t17 c =
-    let judged = c.before.before.before in
-    let start = judged.before.before.before.before.before.before.before in
-    let place = found_refused _ _ _ judged.judge_steps-in-Fine.ensures _ _ c.number-in-Refused-judge_steps-2-1.given.1 in
+    let judged = c.before in
+    let start = judged.before.before.before.before.before in
+    let place = found_refused _ _ _ judged.judge_steps-in-Fine.ensures _ _ c.in-Refused-judge_steps.is in
     record { fits = omega (arith, steps_place_low _ start.args.steps2.now _ place start.requires.n'_low, start.requires.n_low) }
 
 add-t18 : tie.Need-overflow_add-result-in-Fine-judge_steps
 add-t18 c =
-    let start = (told c.before).before.before.before.before.before in
+    let start = (told c).before.before.before.before.before in
     let s = start.args in
     record {
       fits = omega (
         arith,
-        both c.before,
+        both c,
         squarings_few (pairs s.steps1.now),
         squarings_few (pairs s.steps2.now),
         length_pairs s.steps1.now,

@@ -25,27 +25,27 @@ abbrev second : tie.In-Fine → Part
 second e = let s = e.before.before.before.before.before.before.before.before.before.before.args in part s.p2 (pairs s.steps2.now) s.outputs2.now
 
 agreed : (e : tie.In-Fine) → fine ≡ poolable_rule (first e) (second e)
-agreed e = found_fine _ _ _ e.before.before.before.judge-parts.ensures _ e.before.squarings.given.1
+agreed e = found_fine _ _ _ e.judge_parts.ensures _ e.in-Fine.is
 
 -- the squarings of both are the pool's
-counted : (e : tie.In-Fine) → e.before.squarings.given.0.0 ≡ squarings_of (pooled_steps (first e) (second e))
+counted : (e : tie.In-Fine) → e.in-Fine.squarings ≡ squarings_of (pooled_steps (first e) (second e))
 counted e =
-    found_number _ _ _ e.before.before.before.judge-parts.ensures _ e.before.squarings.given.1 ∙ sym (squarings_pooled (first e) (second e))
+    found_number _ _ _ e.judge_parts.ensures _ e.in-Fine.is ∙ sym (squarings_pooled (first e) (second e))
 
 both : (e : tie.In-Fine) → Poolable (first e) (second e)
 both e = poolable _ _ (sym (agreed e))
 
 pool_of : (e : tie.In-Fine)
-    → let s = e.before.before.before.before.before.before.before.before.before.before.args in
+    → let s = e.args in
     FlatPool s.p1 s.p2 s.steps1.now s.steps2.now s.outputs1.now s.outputs2.now
 pool_of e = flat_pool _ _ _ _ _ _
 
 -- together they are few
 few : (e : tie.In-Fine)
-    → let s = e.before.before.before.before.before.before.before.before.before.before.args in
+    → let s = e.args in
     length s.steps1.now / 2 + length s.steps2.now / 2 ≤ most_steps
 few e =
-    let s = e.before.before.before.before.before.before.before.before.before.before.args in
+    let s = e.args in
     omega (arith, (both e).few, length_pairs s.steps1.now, length_pairs s.steps2.now)
 
 add-if1 : tie.Need-overflow_add-n1
@@ -114,9 +114,9 @@ counts-of-requires c κs =
 
 returns-3 : tie.Need-returns-in-Refused
 returns-3 c =
-    let judged = c.before.before.before in
+    let judged = c.before in
     refused_leaves _ _ _ _ _ _
-    (parts_refused _ _ _ _ _ _ (found_refused _ _ _ judged.judge_parts.ensures _ _ c.number-1.given.1))
+    (parts_refused _ _ _ _ _ _ (found_refused _ _ _ judged.judge_parts.ensures _ _ c.in-Refused.is))
 
 returns-4 : tie.Need-returns-else-outputs-outputs1
 returns-4 c =

@@ -14,12 +14,12 @@ use Rattle.quote.proofs.judge_quote.Tie as tie
 
 -- the sheet is fine, and then the method too
 sheet_fine : (c : tie.In-Fine) → let a = c.args in fine ≡ sheet_rule a.p a.q a.amounts.now
-sheet_fine c = told_fine _ _ c.judge_sheet.ensures c.enum_told-1.given.1
+sheet_fine c = told_fine _ _ c.judge_sheet.ensures c.in-Fine.is
 
 passed : (c : tie.In-Fine-judge_method) → let a = c.args in
     fine ≡ count_rule a.p a.q a.amounts.now a.method a.k
 unfolding count_rule
-passed c = pass _ _ _ (sheet_fine c.before.before.before) (told_fine _ _ c.judge_method.ensures c.enum_told-in-Fine-judge_method-1.given.1)
+passed c = pass _ _ _ (sheet_fine c.before.before) (told_fine _ _ c.judge_method.ensures c.in-Fine-judge_method.is)
 
 judge-sheet-requires : tie.Need-judge_sheet-requires
 judge-sheet-requires c κs = search rules
@@ -56,7 +56,7 @@ measure-requires c κs =
 quote-requires : tie.Need-quote-quoted-requires
 quote-requires c κs =
     let measured = c.before.before.before in
-    record { passed = sym (passed measured.before.before); measured = measured.measure.ensures }
+    record { passed = sym (passed measured.before); measured = measured.measure.ensures }
 
 same_length : tie.Need-shape_of-largest
 same_length c = search rules
@@ -64,7 +64,7 @@ same_length c = search rules
 returns-3 : tie.Need-returns
 returns-3 c =
     let measured = c.before.before.before.before in
-    (counted _ _ _ _ _ _ (passed measured.before.before) c.quote-quoted.ensures, λ e. measured.measure.ensures)
+    (counted _ _ _ _ _ _ (passed measured.before) c.quote-quoted.ensures, λ e. measured.measure.ensures)
 
 pub judge_quote_spec : {M : Type 1} → statement M
 judge_quote_spec =

@@ -60,7 +60,7 @@ raise-requires c κs =
 -- where the row ends fits its place
 fit : (c : tie.After-raise-e invariant-loop decreases-loop)
     → let turn = c.before.before.before.before.before.before.before.before.before.before in
-    (c.raise-e.result < 2 ^ 32) × (turn.args.to + turn.loop-j.j + 1 < length c.raise-e.new.0)
+    (c.raise-e.result < 2 ^ 32) × (turn.args.to + turn.loop-j.j + 1 < length c.raise-e.new.s)
 fit c =
     let copied = c.before.before.before.before in
     let turn = copied.before.before.before.before.before.before in

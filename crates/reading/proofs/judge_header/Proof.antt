@@ -31,26 +31,26 @@ enum_told : tie.Need-enum_told-1
 enum_told c = search rules
 
 -- n is within the limit
-few : (c : tie.In-Fine) → let h = c.before.before.before.before.before.before in
+few : (c : tie.In-Fine) → let h = c.before.before.before.before.before in
     h.take_header-h.result.n ≤ h.args.layout.limit
 few c =
-    let j = c.before.before in
-    length-fits _ _ (sym (told_fine _ _ j.judge_length.ensures c.enum_told-1.given.1))
+    let j = c.before in
+    length-fits _ _ (sym (told_fine _ _ j.judge_length.ensures c.in-Fine.is))
 
 extent-of-requires : tie.Need-extent_of-requires
 extent-of-requires c κs =
-    let h = c.before.before.before.before.before.before in
+    let h = c.before.before.before.before.before in
     let s = h.before.before.before in
     record { sound = s.requires; sized = sized_by s.args.layout _ _ h.take_header-h.ensures (few c) }
 
 returns-3 : tie.Need-returns-in-Refused
 returns-3 c =
-    let h = c.before.before.before.before.before.before.before in
+    let h = c.before.before.before.before.before in
     header_is h.args.layout _ _ h.take_header-h.ensures _ (search judging depth 10)
 
 returns-4 : tie.Need-returns-in-Fine
 returns-4 c =
-    let h = c.before.before.before.before.before.before.before in
+    let h = c.before.before.before.before.before.before in
     let L = h.args.layout in (
       header_is L _ _ h.take_header-h.ensures _ (search judging depth 10),
       extent_is L _ _ h.take_header-h.ensures _ c.extent_of.ensures,

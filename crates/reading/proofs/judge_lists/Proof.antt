@@ -18,10 +18,10 @@ returns-2 c =
 
 returns-3 : tie.Need-returns-in-Fine-judge_outputs
 returns-3 c =
-    let told = c.before.before.before.before in
-    let j = told.before.before in
+    let told = c.before.before in
+    let j = told.before in
     let x = j.args.x in
-    counted_done _ _ _ (chain_is _ x _ (search (judging, counting) depth 8)) (found_number _ _ _ j.judge_steps.ensures _ told.squarings-1.given.1)
+    counted_done _ _ _ (chain_is _ x _ (search (judging, counting) depth 8)) (found_number _ _ _ j.judge_steps.ensures _ told.in-Fine.is)
 
 pub judge_lists_spec : {M : Type 1} → statement M
 judge_lists_spec =

@@ -35,21 +35,21 @@ cast-b c =
 
 returns : tie.Need-returns-in-Refused invariant-loop decreases-loop
 returns c =
-    let j = c.before.before.before in
+    let j = c.before in
     let t = j.before.before.before.before in
     let l = t.before in
     counted_refused _ _ _ _
     (step_bad _ _ _ _ _ _ _ _ _ l.loop-s.invariant l.loop-s-test.true _ _ _ t.take_two-step.ensures _ j.judge_step.ensures _ _
-    c.number-1.given.1)
+    c.in-Refused.is)
 
 loop-again : tie.Need-loop-s-preserved invariant-loop decreases-loop
 loop-again c =
     let q = c.before in
-    let j = q.before.before.before in
+    let j = q.before.before in
     let t = j.before.before.before.before in
     let l = t.before in
     step_on _ _ _ _ _ _ _ _ _ l.loop-s.invariant l.loop-s-test.true _ _ _ t.take_two-step.ensures _ j.judge_step.ensures
-    q.enum_told-1.given.1 _ q.squaring-squarings.ensures
+    q.in-Fine.is _ q.squaring-squarings.ensures
 
 returns-2 : tie.Need-returns invariant-loop decreases-loop
 returns-2 c =

@@ -15,16 +15,16 @@ enum-known-x c = search rules
 
 read-body-requires : tie.Need-read_body-requires
 read-body-requires c κs =
-    let x = c.before.before.before in
-    let j = x.before.before in
+    let x = c.before.before in
+    let j = x.before in
     let s = j.before.before.before.before in
-    found_proper s.args.layout s.args.bytes.now _ j.judge_header.ensures s.requires _ x.x-1.given.1
+    found_proper s.args.layout s.args.bytes.now _ j.judge_header.ensures s.requires _ x.in-Found.is
 
 returns : tie.Need-returns-in-Refused
 returns c =
-    let j = c.before.before.before in
+    let j = c.before in
     let a = j.args in
-    let r = not_found a.layout a.bytes.now _ j.judge_header.ensures _ _ c.number-1.given.1 in
+    let r = not_found a.layout a.bytes.now _ j.judge_header.ensures _ _ c.in-Refused.is in
     file_refused a.layout a.bytes.now a.steps.now a.outputs.now _ _ r
 
 same_length : tie.Need-shape_of-steps
@@ -36,10 +36,10 @@ same-length-2 c = search rules
 returns-2 : tie.Need-returns-in-Found
 returns-2 c =
     let b = c.before.before.before.before in
-    let x = b.before.before.before.before in
-    let j = x.before.before in
+    let x = b.before.before.before in
+    let j = x.before in
     let a = j.args in
-    let f = found a.layout a.bytes.now _ j.judge_header.ensures _ x.x-1.given.1 in
+    let f = found a.layout a.bytes.now _ j.judge_header.ensures _ x.in-Found.is in
     file_read_lem a.layout a.bytes.now a.steps.now a.outputs.now _ f _ _ _ b.read_body.ensures
 
 pub read_as_spec : {M : Type 1} → statement M

@@ -16,40 +16,40 @@ use Rattle.reading.proofs.read_body.Tie as tie
 passed : (c : tie.In-Fine-2)
     → let a = c.args in
     fine ≡ body_rule a.bytes.now a.x (length a.steps.now / 2) (length a.outputs.now)
-passed c = found_fine _ _ _ c.judge_body.ensures _ c.squarings-1.given.1
+passed c = found_fine _ _ _ c.judge_body.ensures _ c.in-Fine.is
 
 -- and the squarings are counted
 counted : (c : tie.In-Fine-2)
     → let a = c.args in
-    c.squarings-1.given.0.0 ≡ squarings_of (file_steps a.bytes.now a.x)
-counted c = found_number _ _ _ c.judge_body.ensures _ c.squarings-1.given.1
+    c.in-Fine.squarings ≡ squarings_of (file_steps a.bytes.now a.x)
+counted c = found_number _ _ _ c.judge_body.ensures _ c.in-Fine.is
 
 take-lists-requires : tie.Need-take_lists-requires
 take-lists-requires c κs =
-    let e = c.before.before.before in
-    let s = e.before.before.before.before.before.before in
+    let e = c.before.before in
+    let s = e.before.before.before.before.before in
     let a = s.args in
     lists_room a.bytes.now a.x s.requires a.steps.now a.outputs.now (passed e)
 
 counts-of-requires : tie.Need-counts_of-requires
 counts-of-requires c κs =
-    let e = c.before.before.before.before.before.before.before.before in
+    let e = c.before.before.before.before.before.before.before in
     let a = e.args in
     omega (arith, counted e, squarings_few (file_steps a.bytes.now a.x), steps_count a.bytes.now a.x)
 
 returns : tie.Need-returns-in-Refused
 returns c =
-    let j = c.before.before.before in
+    let j = c.before in
     let s = j.before.before.before.before in
     let a = s.args in
     body_refused a.bytes.now a.x s.requires a.steps.now a.outputs.now _ _
-    (found_refused _ _ _ j.judge_body.ensures _ _ c.number-1.given.1)
+    (found_refused _ _ _ j.judge_body.ensures _ _ c.in-Refused.is)
 
 returns-2 : tie.Need-returns-in-Fine
 returns-2 c =
     let t = c.before.before.before.before.before in
-    let e = t.before.before.before.before in
-    let s = e.before.before.before.before.before.before in
+    let e = t.before.before.before in
+    let s = e.before.before.before.before.before in
     let a = s.args in
     let n = sym (steps_count a.bytes.now a.x) in
     body_done a.bytes.now a.x s.requires a.steps.now a.outputs.now (passed e) _ _ _

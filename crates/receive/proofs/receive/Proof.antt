@@ -23,11 +23,11 @@ same_length c = search rules
 
 returns : tie.Need-returns-in-Refused
 returns c =
-    let w = c.before.before.before.before.before in
+    let w = c.before.before.before in
     let a = w.args in
     not_passed a.p (pairs a.steps.now) a.outputs.now a.amounts.now a.m a.bases.now a.scratch.now a.values.now
     a.figures.now _
-    (answer_clause w.verify.ensures) _ (only_slice_clause w.verify.ensures) _ _ c.number-1.given.1
+    (answer_clause w.verify.ensures) _ (only_slice_clause w.verify.ensures) _ _ c.in-Refused.is
 
 same-length-2 : tie.Need-shape_of-scratch-in-Passed
 same-length-2 c = search rules
@@ -42,11 +42,11 @@ returns-2 : tie.Need-returns-in-Passed
 returns-2 c =
     let r = c.before.before.before.before in
     let e = r.before.before.before in
-    let w = e.before.before.before.before in
+    let w = e.before.before.before in
     let a = w.args in
     then_run a.p (pairs a.steps.now) a.outputs.now a.amounts.now a.m a.bases.now a.scratch.now a.values.now
     a.figures.now _
-    (answer_clause w.verify.ensures) _ (only_slice_clause w.verify.ensures) _ e.enum_told-1.given.1 _ _ _ (answer_clause r.run.ensures) (first_slice_clause r.run.ensures) (second_slice_clause r.run.ensures)
+    (answer_clause w.verify.ensures) _ (only_slice_clause w.verify.ensures) _ e.in-Passed.is _ _ _ (answer_clause r.run.ensures) (first_slice_clause r.run.ensures) (second_slice_clause r.run.ensures)
 
 pub receive_spec : {M : Type 1} → statement M
 receive_spec =

@@ -14,15 +14,15 @@ use Rattle.rest.proofs.judge_rest.Tie as tie
 
 -- nothing was found before the steps, and so they are asked of as they may be
 able : (e : tie.In-Fine)
-    → let a = e.before.before.before.before.args in
+    → let a = e.args in
     EndAsked a.p (length a.steps.now / 2)
-able e = e.before.before.before.before.requires (ap verdict_of e.enum_told.given.1)
+able e = e.requires (ap verdict_of e.in-Fine.is)
 
 judge-steps-requires : tie.Need-judge_steps-requires
 judge-steps-requires c κs = omega (arith, (able c).p_low, (able c).n_low)
 
 judge-end-requires : tie.Need-judge_end-requires
-judge-end-requires c κs = able c.before.before.before.before
+judge-end-requires c κs = able c.before.before
 
 pub judge_rest_spec : {M : Type 1} → statement M
 judge_rest_spec =

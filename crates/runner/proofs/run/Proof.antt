@@ -19,12 +19,12 @@ use Rattle.runner.proofs.run.Tie as tie
 allowed : (c : tie.In-Fine-2)
     → let s = c.args in
     fine ≡ run_rule s.p (pairs s.steps.now) s.outputs.now s.m s.bases.now (length s.values.now) (length s.figures.now)
-allowed c = found_fine _ _ _ c.judge.ensures _ c.squarings-1.given.1
+allowed c = found_fine _ _ _ c.judge.ensures _ c.in-Fine.is
 
 -- and the squarings are counted
 counted : (c : tie.In-Fine-2)
-    → c.squarings-1.given.0.0 ≡ squarings_of (pairs c.args.steps.now)
-counted c = found_number _ _ _ c.judge.ensures _ c.squarings-1.given.1
+    → c.in-Fine.squarings ≡ squarings_of (pairs c.args.steps.now)
+counted c = found_number _ _ _ c.judge.ensures _ c.in-Fine.is
 
 -- what that says of the arguments
 acc : (c : tie.In-Fine-2)
@@ -34,7 +34,7 @@ acc c = runnable _ _ _ _ _ _ _ (sym (allowed c))
 
 fill-requires : tie.Need-fill-requires
 fill-requires c κs =
-    let a = acc c.before.before in
+    let a = acc c.before in
     record {
       products =
           record {
@@ -47,7 +47,7 @@ fill-requires c κs =
 show-requires : tie.Need-show-requires
 show-requires c κs =
     let filled = c.before.before.before.before in
-    let a = acc filled.before.before.before in
+    let a = acc filled.before in
     record {
       figures_fit = a.figures_fit;
       outputs_within = λ i h. omega (arith, a.outputs_within i h, a.values_fit, filled.fill.auto.1.1.1.1.0);
@@ -55,14 +55,14 @@ show-requires c κs =
 
 counts-of-requires : tie.Need-counts_of-requires
 counts-of-requires c κs =
-    let told = c.before.before.before.before.before.before.before.before.before.before in
+    let told = c.before.before.before.before.before.before.before.before in
     let steps = told.args.steps.now in
     omega (arith, counted told, squarings_few (pairs steps), length_pairs steps)
 
 returns : tie.Need-returns-in-Refused
 unfolding run_answer run_values run_figures
 returns c =
-    let r = found_refused _ _ _ c.judge.ensures _ _ c.number-1.given.1 in
+    let r = found_refused _ _ _ c.judge.ensures _ _ c.in-Refused.is in
     (answer_refused _ _ _ _ r, (kept _ _ _ _ _ r, kept _ _ _ _ _ r))
 
 returns-2 : tie.Need-returns-in-Fine
@@ -70,7 +70,7 @@ unfolding run_answer run_values run_figures
 returns-2 c =
     let shown = c.before.before.before in
     let filled = shown.before.before.before.before.before in
-    let told = filled.before.before.before in
+    let told = filled.before in
     let s = told.args in
     let counts = c.counts_of.ensures ∙ counts_are (pairs s.steps.now) _ _ (sym (length_pairs s.steps.now)) (counted told) in (
       ap (λ (l : List ℕ). done l) counts ∙ answer_done _ _ (allowed told),

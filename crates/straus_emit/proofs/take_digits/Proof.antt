@@ -27,15 +27,15 @@ abbrev place : (e : tie.In-loop-d invariant-loop decreases-loop) → ℕ
 place e = e.before.before.before.before.before.before.args.digits - (e.before.loop.d + 1)
 
 entry_low : (e : tie.In-loop-d invariant-loop decreases-loop)
-    → let a = e.before.before.before.before.before.before.args in
+    → let a = e.args in
     vector_at a.p a.cells.now a.masks.now (a.k * place e) < 2 ^ (a.k * length a.inputs.now)
-entry_low e = e.before.before.before.before.before.before.requires.asked.entries (place e)
+entry_low e = e.requires.asked.entries (place e)
 
 -- and its value the one that the product is multiplied by
 value_is : (e : tie.After-entry-e invariant-loop decreases-loop)
-    → let a = e.before.before.before.before.before.before.before.before.args in
-    e.entry.result ≡ entry a.k a.inputs.now (a.p + 1) (vector_at a.p a.cells.now a.masks.now (a.k * place e.before.before))
-value_is e = e.entry.ensures ∙ ap (entry _ _ _) e.before.vector.ensures
+    → let a = e.args in
+    e.entry-e.result ≡ entry a.k a.inputs.now (a.p + 1) (vector_at a.p a.cells.now a.masks.now (a.k * place e.before.before))
+value_is e = e.entry-e.ensures ∙ ap (entry _ _ _) e.vector-t.ensures
 
 loop-holds : tie.Need-loop-d-init invariant-loop decreases-loop
 loop-holds c = (search rules, search rules, search emitted_own)

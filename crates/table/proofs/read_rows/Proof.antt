@@ -52,7 +52,7 @@ add-filled c =
     let h = rows_room _ _ _ _ _ _ _ _ _ _ c.loop-at.invariant.3
     _ _ _ c.loop-at-test.true
     c.line_end-end.ensures
-    c.read_row.ensures _ c.n-1.given.1 in
+    c.read_row.ensures _ c.in-Numbers.is in
     search rules
 
 enum-known-fault : tie.Need-enum_known-fault invariant-loop decreases-loop
@@ -60,40 +60,40 @@ enum-known-fault c = search rules
 
 same_length : tie.Need-shape_of-amounts-in-Fault invariant-loop decreases-loop
 same_length c =
-    let r = c.before.before.before.before.before in
-    r.read_row.auto.1.1.1.1.1.0 ∙ r.loop-at.invariant.3.long
+    let r = c.before.before.before in
+    r.read_row.auto.amounts ∙ r.loop-at.invariant.3.long
 
 returns : tie.Need-returns-in-Fault invariant-loop decreases-loop
 returns c =
-    let r = c.before.before.before.before.before in
+    let r = c.before.before.before in
     let e = r.before.before.before in
     rows_stop _ _ _ _ _ _ _ _ _ _ e.loop-at.invariant.3 _ _ _ e.loop-at-test.true e.line_end-end.ensures
-    r.read_row.ensures _ _ _ _ c.fault-1.given.1
+    r.read_row.ensures _ _ _ _ c.in-Fault.is
 
 add-payslips : tie.Need-overflow_add-payslips invariant-loop decreases-loop
-add-payslips c = let w = within c.before.before.before.before.before.before.before.before in search rules
+add-payslips c = let w = within c.before.before.before.before.before.before in search rules
 
 add-line : tie.Need-overflow_add-line invariant-loop decreases-loop
-add-line c = let w = within c.before.before.before.before.before.before.before.before in search rules
+add-line c = let w = within c.before.before.before.before.before.before in search rules
 
 add_at : tie.Need-overflow_add-at invariant-loop decreases-loop
-add_at c = let w = within c.before.before.before.before.before.before.before.before in search rules
+add_at c = let w = within c.before.before.before.before.before.before in search rules
 
 loop-less : tie.Need-loop-at-smaller invariant-loop decreases-loop
 loop-less c =
-    let w = within c.before.before.before.before.before.before.before.before in
+    let w = within c.before.before.before.before.before.before in
     omega (arith, w.0, w.1)
 
 loop-again : tie.Need-loop-at-preserved invariant-loop decreases-loop
 loop-again c =
-    let r = c.before.before.before.before.before in
+    let r = c.before.before.before in
     let e = r.before.before.before in
     let at = e.loop-at.invariant in
     let w = within e in (
       omega (arith, w.1),
       omega (arith, w.0, at.1),
       omega (arith, w.0, at.2),
-      rows_on _ _ _ _ _ _ _ _ _ _ at.3 _ _ _ e.loop-at-test.true e.line_end-end.ensures r.read_row.ensures _ c.n-1.given.1,
+      rows_on _ _ _ _ _ _ _ _ _ _ at.3 _ _ _ e.loop-at-test.true e.line_end-end.ensures r.read_row.ensures _ c.in-Numbers.is,
     )
 
 same-length-2 : tie.Need-shape_of-amounts-then-payslips-eq0 invariant-loop decreases-loop

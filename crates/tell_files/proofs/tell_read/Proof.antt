@@ -10,7 +10,7 @@ use Rattle.tell_files.proofs.tell_read.Tie as tie
 returns-2 : tie.Need-returns-in-Chain
 returns-2 c =
     let told = c.tell_words.ensures in
-    let is = c.reading-in-Chain-1.given.1 in
+    let is = c.in-Chain.is in
     record {
       number_is = told.number_is ∙ sym (ap (λ (x : Reading). number_of (read_of x)) is);
       words_are = told.words_are ∙ sym (ap (λ (x : Reading). words_of (read_of x)) is);

@@ -14,12 +14,12 @@ enum-known-read-2 c = search rules
 
 returns : tie.Need-returns-in-Values
 returns c =
-    let is = c.read-1.given.1 in
+    let is = c.in-Values.is in
     record { number_is = case number_told _ _ _ is refl; words_are = case words_told _ _ _ is refl }
 
 returns-2 : tie.Need-returns-in-Refused
 returns-2 c =
-    let is = c.read-in-Refused-1.given.1 in
+    let is = c.in-Refused.is in
     record { number_is = case number_told _ _ _ is refl; words_are = case words_told _ _ _ is refl }
 
 pub tell_text_spec : {M : Type 1} → statement M

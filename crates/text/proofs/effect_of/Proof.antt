@@ -37,19 +37,19 @@ cast-t9 : tie.Need-overflow_cast-result
 cast-t9 c = search rules
 
 returns : tie.Need-returns-in-Blank
-returns c = case (effect_of _ _ _) _ _ _ c.enum_told-1.given.1 c.part.ensures
+returns c = case (effect_of _ _ _) _ _ _ c.in-Blank.is c.part.ensures
 
 returns-2 : tie.Need-returns-in-Padding
-returns-2 c = case (effect_of _ _ _) _ _ _ c.enum_told-in-Padding-1.given.1 c.pad.ensures
+returns-2 c = case (effect_of _ _ _) _ _ _ c.in-Padding.is c.pad.ensures
 
 returns-3 : tie.Need-returns-in-Separator
-returns-3 c = case (effect_of _ _ _) _ _ _ c.enum_told-in-Separator-1.given.1 c.close.ensures
+returns-3 c = case (effect_of _ _ _) _ _ _ c.in-Separator.is c.close.ensures
 
 returns-4 : tie.Need-returns-in-Digit
-returns-4 c = case (effect_of _ _ _) _ _ _ c.kind-1.given.1 c.lengthen.ensures
+returns-4 c = case (effect_of _ _ _) _ _ _ c.in-Digit.is c.lengthen.ensures
 
 returns-5 : tie.Need-returns-in-Other
-returns-5 c = case (effect_of _ _ _) _ _ _ c.kind-in-Other-1.given.1 refl
+returns-5 c = case (effect_of _ _ _) _ _ _ c.in-Other.is refl
 
 pub effect_of_spec : {M : Type 1} → statement M
 effect_of_spec =

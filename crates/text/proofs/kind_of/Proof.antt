@@ -24,13 +24,13 @@ field-kind-requires : tie.Need-field_kind-requires
 field-kind-requires c κs = search rules
 
 returns : tie.Need-returns-in-Free
-returns c = case (λ by. kind_of by c.args.b) _ _ _ c.enum_told-1.given.1 c.free_kind.ensures
+returns c = case (λ by. kind_of by c.args.b) _ _ _ c.in-Free.is c.free_kind.ensures
 
 returns-2 : tie.Need-returns-in-Words
-returns-2 c = case (λ by. kind_of by c.args.b) _ _ _ c.enum_told-in-Words-1.given.1 c.word_kind.ensures
+returns-2 c = case (λ by. kind_of by c.args.b) _ _ _ c.in-Words.is c.word_kind.ensures
 
 returns-3 : tie.Need-returns-in-Fields
-returns-3 c = case (λ by. kind_of by c.args.b) _ _ _ c.by-1.given.1 c.field_kind.ensures
+returns-3 c = case (λ by. kind_of by c.args.b) _ _ _ c.in-Fields.is c.field_kind.ensures
 
 pub kind_of_spec : {M : Type 1} → statement M
 kind_of_spec =

@@ -25,13 +25,13 @@ add-t8 : tie.Need-overflow_add-result
 add-t8 c = search rules
 
 returns : tie.Need-returns-in-Nothing
-returns c = case (lengthened _ _ _) _ _ _ c.enum_told-1.given.1 c.begin.ensures
+returns c = case (lengthened _ _ _) _ _ _ c.in-Nothing.is c.begin.ensures
 
 returns-2 : tie.Need-returns-in-Number
-returns-2 c = case (lengthened _ _ _) _ _ _ c.making-1.given.1 c.grow.ensures
+returns-2 c = case (lengthened _ _ _) _ _ _ c.in-Number.is c.grow.ensures
 
 returns-3 : tie.Need-returns-in-Padded
-returns-3 c = case (lengthened _ _ _) _ _ _ c.enum_told-in-Padded-1.given.1 refl
+returns-3 c = case (lengthened _ _ _) _ _ _ c.in-Padded.is refl
 
 pub lengthen_spec : {M : Type 1} → statement M
 lengthen_spec =

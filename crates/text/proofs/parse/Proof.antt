@@ -31,10 +31,10 @@ enum-known-x c = search rules
 
 slice-write-numbers : tie.Need-bounds-numbers-from invariant-loop decreases-loop
 slice-write-numbers c =
-    let y = c.before.before.before in
+    let y = c.before in
     let l = y.loop-i in
     let low =
-    reads_room _ _ _ _ _ _ _ _ _ l.invariant.1 y.loop-i-test.true _ _ y.kind_at-kind.ensures y.effect_of.ensures _ c.x-1.given.1 in
+    reads_room _ _ _ _ _ _ _ _ _ l.invariant.1 y.loop-i-test.true _ _ y.kind_at-kind.ensures y.effect_of.ensures _ c.in-Ends.is in
     omega (arith, l.invariant.1.long, y.requires, low)
 
 add-numbers : tie.Need-overflow_add-numbers invariant-loop decreases-loop
@@ -57,9 +57,9 @@ same_length c = c.loop-i.invariant.1.long
 
 returns : tie.Need-returns-in-Faulty invariant-loop decreases-loop
 returns c =
-    let y = c.before.before.before in
+    let y = c.before in
     let l = y.loop-i in
-    reads_stop _ _ _ _ _ _ _ _ _ l.invariant.1 y.loop-i-test.true _ _ y.kind_at-kind.ensures y.effect_of.ensures _ _ _ c.fault-1.given.1
+    reads_stop _ _ _ _ _ _ _ _ _ l.invariant.1 y.loop-i-test.true _ _ y.kind_at-kind.ensures y.effect_of.ensures _ _ _ c.in-Faulty.is
 
 add-i : tie.Need-overflow_add-i invariant-loop decreases-loop
 add-i c = search rules

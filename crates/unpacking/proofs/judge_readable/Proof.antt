@@ -12,11 +12,11 @@ use Rattle.unpacking.proofs.judge_readable.Tie as tie
 
 -- a sheet has few fields
 few : (e : tie.In-Fine)
-    → let s = e.before.before.before.before.args in
+    → let s = e.args in
     s.p * s.q ≤ most_columns * most_payslips
 few e =
-    let sizes = e.before.before.judge-sizes.ensures in
-    product_low _ _ (columns_low _ _ _ sizes e.enum_told.given.1) (payslips_low _ _ _ sizes e.enum_told.given.1)
+    let sizes = e.judge_sizes.ensures in
+    product_low _ _ (columns_low _ _ _ sizes e.in-Fine.is) (payslips_low _ _ _ sizes e.in-Fine.is)
 
 mul-m : tie.Need-overflow_mul-m
 mul-m c = record { fits = omega (arith, few c) }

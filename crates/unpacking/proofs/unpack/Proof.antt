@@ -11,12 +11,12 @@ use Rattle.unpacking.proofs.unpack.Statement.{statement}
 use Rattle.unpacking.proofs.unpack.Tie as tie
 
 found_fine : (e : tie.In-Fine)
-    → let s = e.before.before.before.before.before.args in
+    → let s = e.args in
     fine ≡ readable_rule s.p s.q s.bytes.now
-found_fine e = told_fine _ _ e.before.before.judge-readable.ensures e.enum_told.given.1
+found_fine e = told_fine _ _ e.judge_readable.ensures e.in-Fine.is
 
 can_read : (e : tie.In-Fine)
-    → let s = e.before.before.before.before.before.args in
+    → let s = e.args in
     Readable s.p s.q s.bytes.now
 can_read e = readable _ _ _ (sym (found_fine e))
 
@@ -34,7 +34,7 @@ returns-2 : tie.Need-returns-in-Refused
 unfolding unpack_rule unpack_answer unpack_amounts
 returns-2 c =
     refused_leaves _ _ _ _ _ _
-    (given_refused _ _ _ _ _ (told_refused_lem _ _ _ _ c.judge_readable.ensures c.number-1.given.1))
+    (given_refused _ _ _ _ _ (told_refused_lem _ _ _ _ c.judge_readable.ensures c.in-Refused.is))
 
 returns-3 : tie.Need-returns-else-amounts-m
 unfolding unpack_rule unpack_answer unpack_amounts

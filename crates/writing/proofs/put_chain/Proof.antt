@@ -23,14 +23,14 @@ mul-put-fields c =
 put-fields-requires : tie.Need-put_fields-d-requires
 put-fields-requires c κs =
     let h = c.before.before.before.before in
-    steps_room _ _ _ _ _ (chain h.before.before.before.before.before) _ _ h.put_header-c.ensures h.put_header-c.auto.1.1.0
+    steps_room _ _ _ _ _ (chain h.before.before.before.before.before) _ _ h.put_header-c.ensures h.put_header-c.auto.bytes
 
 put-fields-requires-2 : tie.Need-put_fields-requires
 put-fields-requires-2 c κs =
     let t = c.before.before.before in
     let h = t.before.before.before.before.before in
-    outputs_room _ _ _ _ _ (chain h.before.before.before.before.before) _ _ h.put_header-c.ensures h.put_header-c.auto.1.1.0 _ _
-    t.put_fields-d.ensures t.put_fields-d.auto.0
+    outputs_room _ _ _ _ _ (chain h.before.before.before.before.before) _ _ h.put_header-c.ensures h.put_header-c.auto.bytes _ _
+    t.put_fields-d.ensures t.put_fields-d.auto.buf
 
 same_length : tie.Need-shape_of-bytes
 same_length c = search rules
@@ -40,8 +40,8 @@ returns c =
     let u = c.before.before in
     let t = u.before.before.before.before in
     let h = t.before.before.before.before.before in
-    file_stored _ _ _ _ _ (chain h.before.before.before.before.before) _ _ h.put_header-c.ensures h.put_header-c.auto.1.1.0 _ _
-    t.put_fields-d.ensures t.put_fields-d.auto.0 _ _ u.put_fields.ensures
+    file_stored _ _ _ _ _ (chain h.before.before.before.before.before) _ _ h.put_header-c.ensures h.put_header-c.auto.bytes _ _
+    t.put_fields-d.ensures t.put_fields-d.auto.buf _ _ u.put_fields.ensures
 
 pub put_chain_spec : {M : Type 1} → statement M
 put_chain_spec =

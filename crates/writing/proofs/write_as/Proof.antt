@@ -21,9 +21,9 @@ enum-known-number c = search rules
 
 returns : tie.Need-returns-in-Refused
 returns c =
-    let j = c.before.before.before in
+    let j = c.before in
     let a = j.args in
-    shape_refused a.layout a.p a.steps.now a.outputs.now a.bytes.now _ j.judge_shape.ensures _ _ c.number-1.given.1
+    shape_refused a.layout a.p a.steps.now a.outputs.now a.bytes.now _ j.judge_shape.ensures _ _ c.in-Refused.is
 
 enum_told : tie.Need-enum_told-1
 enum_told c = search rules
@@ -32,16 +32,16 @@ enum_told c = search rules
 held : (c : tie.In-Fine) → let a = c.args in
     Sized a.layout a.p (length a.outputs.now) (length a.steps.now / 2)
 held c =
-    let j = c.before.before in
+    let j = c.before in
     let a = j.args in
-    sized a.layout a.p a.steps.now a.outputs.now a.bytes.now _ j.judge_shape.ensures c.enum_told-1.given.1
+    sized a.layout a.p a.steps.now a.outputs.now a.bytes.now _ j.judge_shape.ensures c.in-Fine.is
 
 extent-of-requires : tie.Need-extent_of-s-requires
 extent-of-requires c κs = record { sound = c.requires; sized = held c }
 
 judge-rest-requires : tie.Need-judge_rest-requires
 judge-rest-requires c κs =
-    let start = c.before.before.before.before.before.before.before in
+    let start = c.before.before.before.before.before.before in
     let sizes = held c.before in
     omega (arith, sizes.p_low, sizes.n_low, start.requires.narrow)
 
@@ -59,24 +59,24 @@ counts c = ap (λ (x : Extent). x.bytes) c.extent_of-s.ensures
 put-chain-requires : tie.Need-put_chain-requires
 put-chain-requires c κs =
     let f = c.before in
-    let i = f.before.before in
+    let i = f.before in
     let x = i.before in
     let e = x.before in
-    let j = e.before.before in
+    let j = e.before in
     let s = j.before.before.before.before in
     let a = s.args in
-    to_write a.layout a.p a.steps.now a.outputs.now a.bytes.now _ j.judge_shape.ensures e.enum_told-1.given.1 _ (counts x) _
-    i.judge_rest.ensures s.requires _ x.extent_of-s.ensures f.enum_told-in-Fine-judge_rest-1.given.1
+    to_write a.layout a.p a.steps.now a.outputs.now a.bytes.now _ j.judge_shape.ensures e.in-Fine.is _ (counts x) _
+    i.judge_rest.ensures s.requires _ x.extent_of-s.ensures f.in-Fine-judge_rest.is
 
 returns-2 : tie.Need-returns-in-Refused-judge_rest
 returns-2 c =
-    let i = c.before.before.before in
+    let i = c.before in
     let x = i.before in
     let e = x.before in
-    let j = e.before.before in
+    let j = e.before in
     let a = j.args in
-    rest_refused a.layout a.p a.steps.now a.outputs.now a.bytes.now _ j.judge_shape.ensures e.enum_told-1.given.1 _ (counts x) _
-    i.judge_rest.ensures _ _ c.number-in-Refused-judge_rest-1.given.1
+    rest_refused a.layout a.p a.steps.now a.outputs.now a.bytes.now _ j.judge_shape.ensures e.in-Fine.is _ (counts x) _
+    i.judge_rest.ensures _ _ c.in-Refused-judge_rest.is
 
 same_length : tie.Need-shape_of-bytes
 same_length c = search rules
@@ -85,13 +85,13 @@ returns-3 : tie.Need-returns-in-Fine-judge_rest
 returns-3 c =
     let u = c.before.before in
     let f = u.before.before in
-    let i = f.before.before in
+    let i = f.before in
     let x = i.before in
     let e = x.before in
-    let j = e.before.before in
+    let j = e.before in
     let a = j.args in
-    all_written a.layout a.p a.steps.now a.outputs.now a.bytes.now _ j.judge_shape.ensures e.enum_told-1.given.1 _ (counts x) _
-    i.judge_rest.ensures f.enum_told-in-Fine-judge_rest-1.given.1 _
+    all_written a.layout a.p a.steps.now a.outputs.now a.bytes.now _ j.judge_shape.ensures e.in-Fine.is _ (counts x) _
+    i.judge_rest.ensures f.in-Fine-judge_rest.is _
     (u.put_chain.ensures ∙ ap (λ (y : Extent). over (file_of a.layout y.p (pairs a.steps.now) a.outputs.now) a.bytes.now)
     x.extent_of-s.ensures)
 

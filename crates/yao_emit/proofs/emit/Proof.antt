@@ -8,7 +8,7 @@ use Rattle.yao_emit.proofs.emit.Tie as tie
 
 -- the columns are measured
 measured : (c : tie.After-measure_digits) → let s = c.args in
-    Measured s.p s.q s.amounts.now s.k c.measure_digits.new.1.1.1.0
+    Measured s.p s.q s.amounts.now s.k c.measure_digits.new.cells
 measured c =
     let known = c.before.before.before.before in
     let asked = known.requires.asked in

@@ -20,7 +20,7 @@ phrase-start-requires-2 c κs = omega (arith, place_low c.args.number, c.phrase_
 sub-if1 : tie.Need-overflow_sub-end
 sub-if1 c = search phrase_rises
 
-returns : tie.Need-returns-then-text-end
+returns : tie.Need-returns
 returns c =
     let ends = c.before.before in
     let begins = ends.before in

@@ -7,7 +7,7 @@ use Rattle.products.proofs.put.Statement.{statement}
 use Rattle.products.proofs.put.Tie as tie
 
 -- the squarings so far are no more than the steps, and those fit the slice
-add-squarings : tie.Need-overflow_add-result
+add-squarings : tie.Need-overflow_add-result-2
 add-squarings c =
     let room = c.requires in
     omega (arith, squarings_within _ _ room.so_far, room.enough, c.squaring.ensures.low)

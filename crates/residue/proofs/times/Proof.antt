@@ -31,7 +31,7 @@ cast-result c =
     let call = c.before.before in
     let s = call.before in
     let t : Taken _ _ _ _ _ = record { x_low = s.ranges.x.fits; y_low = s.ranges.y.fits; asked = s.requires; taken = call.high.ensures } in
-    record { fits = (one_more (what_is_left t) s.ranges.m.fits told.type-inv told.ensures c.if-less-lt9223372036854775808.true).low }
+    record { fits = (one_more (what_is_left t) s.ranges.m.fits told.type_inv told.ensures c.if-less-lt9223372036854775808.true).low }
 
 cast-result-2 : tie.Need-overflow_cast-result-else-less-lt9223372036854775808
 cast-result-2 c =
@@ -39,7 +39,7 @@ cast-result-2 c =
     let call = c.before.before in
     let s = call.before in
     let t : Taken _ _ _ _ _ = record { x_low = s.ranges.x.fits; y_low = s.ranges.y.fits; asked = s.requires; taken = call.high.ensures } in
-    record { fits = (as_it_is (what_is_left t) s.ranges.m.fits told.type-inv told.ensures c.if-less-lt9223372036854775808.false).low }
+    record { fits = (as_it_is (what_is_left t) s.ranges.m.fits told.type_inv told.ensures c.if-less-lt9223372036854775808.false).low }
 
 returns : tie.Need-returns-then-less-lt9223372036854775808
 returns c =
@@ -47,7 +47,7 @@ returns c =
     let call = c.before.before in
     let s = call.before in
     let t : Taken _ _ _ _ _ = record { x_low = s.ranges.x.fits; y_low = s.ranges.y.fits; asked = s.requires; taken = call.high.ensures } in
-    (one_more (what_is_left t) s.ranges.m.fits told.type-inv told.ensures c.if-less-lt9223372036854775808.true).is
+    (one_more (what_is_left t) s.ranges.m.fits told.type_inv told.ensures c.if-less-lt9223372036854775808.true).is
 
 returns-2 : tie.Need-returns-else-less-lt9223372036854775808
 returns-2 c =
@@ -55,7 +55,7 @@ returns-2 c =
     let call = c.before.before in
     let s = call.before in
     let t : Taken _ _ _ _ _ = record { x_low = s.ranges.x.fits; y_low = s.ranges.y.fits; asked = s.requires; taken = call.high.ensures } in
-    (as_it_is (what_is_left t) s.ranges.m.fits told.type-inv told.ensures c.if-less-lt9223372036854775808.false).is
+    (as_it_is (what_is_left t) s.ranges.m.fits told.type_inv told.ensures c.if-less-lt9223372036854775808.false).is
 
 pub times_spec : {M : Type 1} → statement M
 times_spec =

@@ -14,15 +14,12 @@ use Rattle.pool.proofs.judge_steps.Statement.{statement}
 use Rattle.pool.proofs.judge_steps.Tie as tie
 
 -- the squarings of both parts
-module _ (c : tie.In-Fine-judge_steps-2) where
-  abbrev told : tie.In-Fine-2
-  told = c.before.before.before.before
-
-  both : let s = told.before.before.before.before.before.args in
-      told.squarings1.given.0.0 + c.squarings2.given.0.0 ≡ squarings_of (pairs s.steps1.now) + squarings_of (pairs s.steps2.now)
+module _ (c : tie.In-Fine-judge_steps) where
+  both : let s = c.args in
+      c.in-Fine.squarings1 + c.in-Fine-judge_steps.squarings2 ≡ squarings_of (pairs s.steps1.now) + squarings_of (pairs s.steps2.now)
   both =
-      ap₂ ◌+◌ (found_number _ _ _ told.before.before.judge-steps.ensures _ told.squarings1.given.1)
-      (found_number _ _ _ c.before.before.judge-steps2.ensures _ c.squarings2.given.1)
+      ap₂ ◌+◌ (found_number _ _ _ c.judge_steps.ensures _ c.in-Fine.is)
+      (found_number _ _ _ c.judge_steps-in-Fine.ensures _ c.in-Fine-judge_steps.is)
 
 -- the place told is low
 add-t17 : tie.Need-overflow_add-result
@@ -34,8 +31,7 @@ add-t17 c =
 
 add-t18 : tie.Need-overflow_add-result-in-Fine-judge_steps
 add-t18 c =
-    let start = (told c).before.before.before.before.before in
-    let s = start.args in
+    let s = c.args in
     record {
       fits = omega (
         arith,
@@ -44,7 +40,7 @@ add-t18 c =
         squarings_few (pairs s.steps2.now),
         length_pairs s.steps1.now,
         length_pairs s.steps2.now,
-        start.pre,
+        c.requires,
       );
     }
 

@@ -37,7 +37,7 @@ take-up-requires c κs =
         arith,
         outputs_low (c.args.p + length (pairs c.args.steps.now)) 1 c.args.outputs.now c.requires.chain_sound.outputs_fine i h,
         length_pairs c.args.steps.now,
-        c.column-place.auto.1.1.1.0,
+        c.column-place.auto.scratch,
         l.invariant.1,
         c.requires.chain_sound.steps_sound.room,
       );
@@ -54,7 +54,7 @@ loop-again c =
     let l = c.loop-c in
     let top = ap (λ (n : ℕ). c.args.p + n + 1) (sym (length_pairs c.args.steps.now)) in (
       search rules,
-      c.column-place.auto.1.1.1.0 ∙ l.invariant.1,
+      c.column-place.auto.scratch ∙ l.invariant.1,
       held_next _ _ (pairs c.args.steps.now) _ _ _ _ _ _ _ c.requires.chain_sound.outputs_fine c.column-place.ensures c.take_up-found.ensures l.invariant.2,
       summed_past _ _ _ (pairs c.args.steps.now) _ _ _ top c.column-place.ensures ∙ l.invariant.3,
     )

@@ -44,7 +44,7 @@ gather-requires c κs =
               arith,
               outputs_low (c.args.p + length (pairs c.args.steps.now)) 1 c.args.outputs.now c.requires.chain_sound.outputs_fine i h,
               length_pairs c.args.steps.now,
-              c.column-place.auto.1.1.1.0,
+              c.column-place.auto.scratch,
               c.loop-c.invariant.1,
               c.requires.chain_sound.steps_sound.room,
             );
@@ -65,7 +65,7 @@ loop-again : tie.Need-loop-c-preserved invariant-loop decreases-loop
 loop-again c =
     (
       search rules,
-      c.column-place.auto.1.1.1.0 ∙ c.loop-c.invariant.1,
+      c.column-place.auto.scratch ∙ c.loop-c.invariant.1,
       c.gather.auto.table ∙ c.loop-c.invariant.2,
       earliest_next c.loop-c.c (large_in c.args.p (pairs c.args.steps.now)) _ _ _ c.earlier-large.ensures c.loop-c.invariant.3 c.column-place.ensures.place,
       filled_on c.args.p c.loop-c.c (pairs c.args.steps.now) c.args.outputs.now _ _ _ _ _ _ _ c.requires.chain_sound.outputs_fine

@@ -24,7 +24,7 @@ slice-aggregate-make-parts c =
 make-parts-requires : tie.Need-make_parts-requires
 make-parts-requires c κs =
     let a = c.args in
-    let numbers : List ℕ = take a.s.groups c.number_parts.new.1.1.1.1.0 in
+    let numbers : List ℕ = take a.s.groups c.number_parts.new.cells in
     let at = numbers_at a.s a.amounts.now a.i _ _ c.number_parts.ensures in
     let long = numbers_long a.s a.amounts.now a.i _ _ c.number_parts.ensures in
     let same = payslip_is c.requires.ready a.i numbers at (steps_in a.steps.now a.progress.steps) in
@@ -40,7 +40,7 @@ same-length-2 c = search rules
 returns : tie.Need-returns
 returns c =
     let a = c.args in
-    let numbers : List ℕ = take a.s.groups c.number_parts.new.1.1.1.1.0 in
+    let numbers : List ℕ = take a.s.groups c.number_parts.new.cells in
     let at = numbers_at a.s a.amounts.now a.i _ _ c.number_parts.ensures in
     let same = payslip_is c.requires.ready a.i numbers at (steps_in a.steps.now a.progress.steps) in
     rw (← same) c.make_parts.ensures

@@ -201,19 +201,19 @@ returns-2 c =
     _ _ c.in-Refused-dispatch.is
 
 same-length-8 : tie.Need-shape_of-steps-in-Refused-receive
-same-length-8 c = (compiled_by c.before.before.before.before.before.before.before).compile.auto.1.1.1.1.1.0
+same-length-8 c = (compiled_by c.before.before.before.before.before.before.before).compile.auto.steps
 
 same-length-9 : tie.Need-shape_of-outputs-in-Refused-receive
-same-length-9 c = (compiled_by c.before.before.before.before.before.before.before).compile.auto.1.1.1.1.1.1.0
+same-length-9 c = (compiled_by c.before.before.before.before.before.before.before).compile.auto.outputs
 
 same-length-10 : tie.Need-shape_of-bytes-in-Refused-receive
-same-length-10 c = (dispatched-by c.before.before.before.before.before.before.before).dispatch.auto.1.1.1.0
+same-length-10 c = (dispatched-by c.before.before.before.before.before.before.before).dispatch.auto.bytes
 
 same-length-11 : tie.Need-shape_of-received-in-Refused-receive
-same-length-11 c = (dispatched-by c.before.before.before.before.before.before.before).dispatch.auto.1.1.1.1.0
+same-length-11 c = (dispatched-by c.before.before.before.before.before.before.before).dispatch.auto.received
 
 same-length-12 : tie.Need-shape_of-results-in-Refused-receive
-same-length-12 c = (dispatched-by c.before.before.before.before.before.before.before).dispatch.auto.1.1.1.1.1.0
+same-length-12 c = (dispatched-by c.before.before.before.before.before.before.before).dispatch.auto.results
 
 same-length-13 : tie.Need-shape_of-scratch-in-Refused-receive
 same-length-13 c = c.receive.auto.scratch
@@ -245,19 +245,19 @@ returns-3 c =
     _ _ c.in-Refused-receive.is
 
 same-length-16 : tie.Need-shape_of-steps-in-Multiplications
-same-length-16 c = (compiled_by c.before.before.before.before.before.before.before).compile.auto.1.1.1.1.1.0
+same-length-16 c = (compiled_by c.before.before.before.before.before.before.before).compile.auto.steps
 
 same-length-17 : tie.Need-shape_of-outputs-in-Multiplications
-same-length-17 c = (compiled_by c.before.before.before.before.before.before.before).compile.auto.1.1.1.1.1.1.0
+same-length-17 c = (compiled_by c.before.before.before.before.before.before.before).compile.auto.outputs
 
 same-length-18 : tie.Need-shape_of-bytes-in-Multiplications
-same-length-18 c = (dispatched-by c.before.before.before.before.before.before.before).dispatch.auto.1.1.1.0
+same-length-18 c = (dispatched-by c.before.before.before.before.before.before.before).dispatch.auto.bytes
 
 same-length-19 : tie.Need-shape_of-received-in-Multiplications
-same-length-19 c = (dispatched-by c.before.before.before.before.before.before.before).dispatch.auto.1.1.1.1.0
+same-length-19 c = (dispatched-by c.before.before.before.before.before.before.before).dispatch.auto.received
 
 same-length-20 : tie.Need-shape_of-results-in-Multiplications
-same-length-20 c = (dispatched-by c.before.before.before.before.before.before.before).dispatch.auto.1.1.1.1.1.0
+same-length-20 c = (dispatched-by c.before.before.before.before.before.before.before).dispatch.auto.results
 
 same-length-21 : tie.Need-shape_of-scratch-in-Multiplications
 same-length-21 c = c.receive.auto.scratch

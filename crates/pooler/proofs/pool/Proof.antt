@@ -19,10 +19,10 @@ use Rattle.pooler.proofs.pool.Tie as tie
 
 -- the two parts, against which nothing was found
 abbrev first : tie.In-Fine → Part
-first e = let s = e.before.before.before.before.before.before.before.before.before.before.args in part s.p1 (pairs s.steps1.now) s.outputs1.now
+first e = let s = e.args in part s.p1 (pairs s.steps1.now) s.outputs1.now
 
 abbrev second : tie.In-Fine → Part
-second e = let s = e.before.before.before.before.before.before.before.before.before.before.args in part s.p2 (pairs s.steps2.now) s.outputs2.now
+second e = let s = e.args in part s.p2 (pairs s.steps2.now) s.outputs2.now
 
 agreed : (e : tie.In-Fine) → fine ≡ poolable_rule (first e) (second e)
 agreed e = found_fine _ _ _ e.judge_parts.ensures _ e.in-Fine.is
@@ -105,8 +105,7 @@ add-counts-of c = record { fits = omega (arith, few c.before.before.before.befor
 
 counts-of-requires : tie.Need-counts_of-requires
 counts-of-requires c κs =
-    let e = c.before.before.before.before.before.before.before.before.before.before in
-    omega (arith, counted c.before.before.before.before.before.before.before.before.before.before, squarings_few (pooled_steps (first e) (second e)), (pool_of c.before.before.before.before.before.before.before.before.before.before).count)
+    omega (arith, counted c.before.before.before.before.before.before.before.before.before.before, squarings_few (pooled_steps (first c.before.before.before.before.before.before.before.before.before.before) (second c.before.before.before.before.before.before.before.before.before.before)), (pool_of c.before.before.before.before.before.before.before.before.before.before).count)
 
 returns-3 : tie.Need-returns-in-Refused
 returns-3 c =

@@ -49,7 +49,7 @@ show-requires c κs =
     let a = acc c.before.before.before.before.before in
     record {
       figures_fit = a.figures_fit;
-      outputs_within = λ i h. omega (arith, a.outputs_within i h, a.values_fit, c.fill.auto.1.1.1.1.0);
+      outputs_within = λ i h. omega (arith, a.outputs_within i h, a.values_fit, c.fill.auto.values);
     }
 
 counts-of-requires : tie.Need-counts_of-requires

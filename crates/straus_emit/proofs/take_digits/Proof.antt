@@ -24,7 +24,7 @@ decreases-loop p k inputs cells masks digits steps₀ r₀ d₀ steps r d = digi
 
 -- the digit's vector is an entry of the table
 abbrev place : (e : tie.In-loop-d invariant-loop decreases-loop) → ℕ
-place e = e.before.before.before.before.before.before.args.digits - (e.before.loop.d + 1)
+place e = e.args.digits - (e.loop-d.d + 1)
 
 entry_low : (e : tie.In-loop-d invariant-loop decreases-loop)
     → let a = e.args in

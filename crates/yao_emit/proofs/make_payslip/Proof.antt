@@ -45,9 +45,9 @@ join-column-requires : tie.Need-join_column-r-requires invariant-loop decreases-
 join-column-requires c κs =
     let s = c.args in
     let chain = c.requires.asked.chain in
-    let is = column_is s.p s.q s.amounts.now s.k s.columns.now chain.decreases c.loop-c.c (search rules) in
+    let is = column_is s.p s.q s.amounts.now s.k s.columns.now chain.measured c.loop-c.c (search rules) in
     record {
-      asked = reaches _ chain.ranges (column_few _ _ _ _ chain.decreases.narrow (search rules)) (search rules) c.loop-c.invariant.2;
+      asked = reaches _ chain.ranges (column_few _ _ _ _ chain.measured.narrow (search rules)) (search rules) c.loop-c.invariant.2;
       room =
           column_room s.p s.q s.amounts.now s.k s.i (steps_in s.steps.now s.progress.steps) s.steps.now _ _ _ c.loop-c.c c.loop-c.first _
           c.amount.result c.loop-c.invariant.4 c.loop-c.invariant.1 is c.amount.ensures _ c.requires.room (search rules);

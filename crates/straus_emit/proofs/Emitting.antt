@@ -12,7 +12,8 @@ use Rattle.products.specs.declared.Progress.{Progress}
 use Rattle.products.proofs.Sound.{Begins, begins_own, begins_on, begins_rise}
 use Rattle.products.proofs.Product.{times_begins, squared_begins}
 use Rattle.products.proofs.Emitted.{emitted_own, emits_room, emits_on}
-use Rattle.straus.specs.Straus.{straus_digits, horner, straus_payslip}
+use Rattle.straus.specs.Straus.{straus_digits, horner, straus_payslip, digit_vector, bases}
+use Rattle.tables.specs.Table.{entry}
 
 -- squared k times, then times y
 module _ (p k : ℕ) (n : Progress) (v y : ℕ) (cells : List ℕ) where

@@ -9,9 +9,6 @@ use Rattle.listing.proofs.Lines.{put_refusal}
 use Rattle.listing.proofs.put_refused.Statement.{statement}
 use Rattle.listing.proofs.put_refused.Tie as tie
 
-slice-aggregate-put-word : tie.Need-slice-aggregate-put-word
-slice-aggregate-put-word c = search rules
-
 put-word-requires : tie.Need-put_word-first-requires
 put-word-requires c κs = search rules
 
@@ -43,7 +40,6 @@ pub put_refused_spec : {M : Type 1} → statement M
 put_refused_spec =
     tie.close
     (tie.spec
-    slice-aggregate-put-word
     put-word-requires
     put-decimal-requires
     slice-write-text

@@ -20,18 +20,15 @@ phrase-start-requires-2 c κs = omega (arith, place_low c.args.number, c.phrase_
 sub-if1 : tie.Need-overflow_sub-end
 sub-if1 c = search phrase_rises
 
-returns : tie.Need-returns
+returns : tie.Need-returns-then-text-end
 returns c =
     let long = phrase-length _ _ _ _ c.phrase_place-n.ensures c.phrase_start-from.ensures c.phrase_start-end.ensures in
     phrase_refused _ _ (rw long at c.if-text-end.true)
 
-slice-aggregate-put-part : tie.Need-slice-aggregate-put-part
-slice-aggregate-put-part c = search rules
-
 put-part-requires : tie.Need-put_part-requires
 put-part-requires c κs = (search phrase_rises, search phrase_within, search rules)
 
-sub-t8 : tie.Need-overflow-sub-t8
+sub-t8 : tie.Need-overflow_sub-answer
 sub-t8 c = search phrase_rises
 
 same_length : tie.Need-shape_of-text
@@ -53,7 +50,6 @@ phrase_spec =
     phrase-start-requires-2
     sub-if1
     returns
-    slice-aggregate-put-part
     put-part-requires
     sub-t8
     same_length

@@ -114,16 +114,13 @@ returns-3 c =
 
 returns-4 : tie.Need-returns-else-outputs-outputs1
 returns-4 c =
-    let put-outputs = c.before.before.before in
-    let put-steps = put-outputs.before.before.before.before in
-    let room = put-steps.before.before in
-    let e = room.before.before in
-    let s = e.before.before.before.before.before.before.before.before.before.before.args in
+    let e = c.before.before.before.before.before.before.before.before.before.before.before in
+    let s = c.args in
     let pool = pool_of e in
     let told = c.counts_of.ensures ∙ counts_are (pooled_steps (first e) (second e)) _ _ pool.count (counted e) in
     pooled_leaves _ _ s.steps.now s.outputs.now _ _ _
-    (room_enough _ _ _ _ (agreed e) (omega (arith, pool.count, room.before.if1.false)) (omega (arith, pool.payslips, room.if2.false))) told
-    (put-steps.put.ensures ∙ ap (λ (l : List ℕ). over l s.steps.now) pool.steps)
+    (room_enough _ _ _ _ (agreed e) (omega (arith, pool.count, c.if-steps-n1.false)) (omega (arith, pool.payslips, c.if-outputs-outputs1.false))) told
+    (c.put.ensures ∙ ap (λ (l : List ℕ). over l s.steps.now) pool.steps)
     (c.put-in-Fine.ensures ∙ ap (λ (l : List ℕ). over l s.outputs.now) pool.outputs)
 
 pub pool_spec : {M : Type 1} → statement M

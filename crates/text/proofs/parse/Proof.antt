@@ -1,11 +1,11 @@
 -- At each turn what the whole text comes to is what the bytes that are left come to, after the numbers that stand whole.
 use borrow.Author.Rules.{rules}
-use mathlib.Core.Logic.{⊎_elim}
 use Prim.Native.Nat.{◌+◌, ◌-◌, ◌≤◌}
 use native.Mathlib.Omega.{arith}
 use lib.ListN.{length}
 use Rattle.text.proofs.Reading.{Reads, reads_start, reads_end, reads_room, reads_stop, on_becomes, on_ends}
 use Rattle.text.proofs.parse.Statement.{statement}
+use Rattle.text.proofs.parse.Lts.{in-Becomes, in-Ends}
 use Rattle.text.proofs.parse.Tie as tie
 
 abbrev invariant-loop : tie.invariant-loop-i
@@ -71,10 +71,12 @@ loop-again c =
     let at = c.loop-i-test.true in
     let room = c.requires in (
       search rules,
-      ⊎_elim
-          (λ w. on_becomes _ _ _ _ _ _ _ _ _ l.invariant.1 at _ _ c.kind_at-kind.ensures c.effect_of.ensures _ _ _ _ w.1.given.1 w.3 w.4 w.5)
-          (λ w. on_ends _ _ _ _ _ _ _ _ _ l.invariant.1 at _ _ c.kind_at-kind.ensures c.effect_of.ensures _ _ _ _ w.1.given.1 room w.3 w.4 w.5)
-          c.match-effect_of.branch,
+      elim c.match-effect_of.branch [
+        in-Becomes w ↦
+          on_becomes _ _ _ _ _ _ _ _ _ l.invariant.1 at _ _ c.kind_at-kind.ensures c.effect_of.ensures _ _ _ _ w.in-Becomes.is w.numbers-is w.made-is w.making-is
+        | in-Ends w ↦
+          on_ends _ _ _ _ _ _ _ _ _ l.invariant.1 at _ _ c.kind_at-kind.ensures c.effect_of.ensures _ _ _ _ w.in-Ends.is room w.numbers-is w.made-is w.making-is
+      ],
     )
 
 same-length-2 : tie.Need-shape_of-numbers invariant-loop decreases-loop

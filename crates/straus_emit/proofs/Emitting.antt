@@ -77,7 +77,7 @@ module _ (p k : ℕ) (e : ℕ → ℕ) (J : ℕ) where
 
 -- a payslip only appends steps
 pub payslip_begins : (p : ℕ) (amounts : List ℕ) (k i : ℕ) (before : List Step) → Begins before (straus_payslip p amounts k i before).steps
-payslip_begins p amounts k i before = digits_begin p k _ (straus_digits p amounts k i) before 0 (straus_digits p amounts k i) (omega arith)
+payslip_begins p amounts k i before = digits_begin p k (λ j. entry k (bases p) (p + 1) (digit_vector p amounts k i j)) (straus_digits p amounts k i) before 0 (straus_digits p amounts k i) (omega arith)
 
 pub digit_fits : (k d digits : ℕ) → k * (digits - 1) < 32 → d < digits → k * (digits - (d + 1)) < 32
 digit_fits k d digits room h =

@@ -22,16 +22,16 @@ use Rattle.path.proofs.sheet_to_figures.Tie as tie
 abbrev start : tie.After-compile → tie.Start
 start r = r.before.before.before.before.before.before.before.before.before.before.before.before.before
 
-abbrev compiling : tie.In-Chain-2 → tie.After-compile
+abbrev compiling : tie.In-Chain → tie.After-compile
 compiling c = c.before.before.before.before.before.before
 
-abbrev compiled-before : tie.After-dispatch → tie.In-Chain-2
+abbrev compiled-before : tie.After-dispatch → tie.In-Chain
 compiled-before d = d.before.before.before.before.before.before.before.before
 
-abbrev dispatching : tie.In-Chain-dispatch-2 → tie.After-dispatch
+abbrev dispatching : tie.In-Chain-dispatch → tie.After-dispatch
 dispatching c = c.before.before.before.before.before.before.before.before
 
-abbrev columns-before : tie.After-receive → tie.In-Chain-dispatch-2
+abbrev columns-before : tie.After-receive → tie.In-Chain-dispatch
 columns-before e = e.before.before.before.before.before.before.before.before
 
 abbrev dispatched-by : tie.After-receive → tie.After-dispatch
@@ -53,7 +53,7 @@ low r j =
     omega (arith, known.shared-slice-known.given j)
 
 -- compile found nothing, and told the count
-accepted_at : (c : tie.In-Chain-2) → let s = start (compiling c) in
+accepted_at : (c : tie.In-Chain) → let s = start (compiling c) in
     fine ≡ compiles s.args.p s.args.q s.args.amounts.now s.args.method s.args.k (slices s)
 accepted_at c =
     let r = compiling c in
@@ -61,7 +61,7 @@ accepted_at c =
     compile_passes s.args.p s.args.q s.args.amounts.now s.args.method s.args.k s.args.steps.now
     s.args.outputs.now _ (answer_clause r.compile.ensures) _ c.in-Chain.is
 
-counted_at : (c : tie.In-Chain-2) → let s = start (compiling c) in
+counted_at : (c : tie.In-Chain) → let s = start (compiling c) in
     c.in-Chain.compiled.steps ≡ count s.args.p s.args.q s.args.amounts.now s.args.method s.args.k
 counted_at c =
     let r = compiling c in
@@ -70,7 +70,7 @@ counted_at c =
     s.args.outputs.now _ (answer_clause r.compile.ensures) _ c.in-Chain.is (low r)
 
 -- the chain that compile filled
-filled_at : (c : tie.In-Chain-2)
+filled_at : (c : tie.In-Chain)
     → let r = compiling c in
     let s = start r in
     Filled s.args.p s.args.q s.args.amounts.now s.args.method s.args.k
@@ -82,7 +82,7 @@ filled_at c =
     s.args.outputs.now _ (answer_clause r.compile.ensures) _ c.in-Chain.is (low r) _ _ (first_slice_clause r.compile.ensures) (second_slice_clause r.compile.ensures)
 
 -- the chain that read filled
-taken_at : (c : tie.In-Chain-dispatch-2)
+taken_at : (c : tie.In-Chain-dispatch)
     → let d = dispatching c in
     let s = start (compiling (compiled-before d)) in
     let g = c.columns-1.given.0 in
@@ -122,7 +122,7 @@ slice-reshare-prefix-dispatch-2 : tie.Need-slice_bounds-dispatch-end-in-Chain-2
 slice-reshare-prefix-dispatch-2 c = (filled_at c.before).outputs_room
 
 slice-aggregate-dispatch-2 : tie.Need-slice_bounds-dispatch-end-in-Chain-3
-slice-aggregate-dispatch-2 c = sym (length-take-le _ _ (filled_at c.before.before).outputs_room)
+slice-aggregate-dispatch-2 c = sym (length-take-le _ _ (filled_at c.before).outputs_room)
 
 dispatch-requires : tie.Need-dispatch-requires
 dispatch-requires c κs = search rules
@@ -146,7 +146,7 @@ slice-reshare-prefix-receive-2 : tie.Need-slice_bounds-receive-end-in-Chain-disp
 slice-reshare-prefix-receive-2 c = (taken_at c.before).outputs_room
 
 slice-aggregate-receive-2 : tie.Need-slice_bounds-receive-end-in-Chain-dispatch-3
-slice-aggregate-receive-2 c = sym (length-take-le _ _ (taken_at c.before.before).outputs_room)
+slice-aggregate-receive-2 c = sym (length-take-le _ _ (taken_at c.before).outputs_room)
 
 receive-requires : tie.Need-receive-requires
 receive-requires c κs = search rules
@@ -168,9 +168,9 @@ returns c =
     let r = c.before.before.before.before.before in
     let s = start r in
     not_compiled s.args.p s.args.q s.args.amounts.now s.args.method s.args.k (low r) (slices s) s.args.m
-    s.args.bases.now _ _ (first_slice_clause r.compile.ensures) (second_slice_clause r.compile.ensures) _ _
+    s.args.bases.now _ _ (first_slice_clause c.compile.ensures) (second_slice_clause c.compile.ensures) _ _
     (compile_stops s.args.p s.args.q s.args.amounts.now s.args.method s.args.k s.args.steps.now
-    s.args.outputs.now _ (answer_clause r.compile.ensures) _ _ c.in-Refused.is)
+    s.args.outputs.now _ (answer_clause c.compile.ensures) _ _ c.in-Refused.is)
 
 same-length-3 : tie.Need-shape_of-steps-in-Refused-dispatch
 same-length-3 c = search rules
@@ -197,23 +197,23 @@ returns-2 c =
     not_dispatched s.args.p s.args.q s.args.amounts.now s.args.method s.args.k (low r) (slices s) s.args.m
     s.args.bases.now _ _ (first_slice_clause r.compile.ensures) (second_slice_clause r.compile.ensures)
     (accepted_at n)
-    _ _ f.steps_front f.outputs_front _ _ _ _ d.dispatch.ensures
+    _ _ f.steps_front f.outputs_front _ _ _ _ c.dispatch.ensures
     _ _ c.in-Refused-dispatch.is
 
 same-length-8 : tie.Need-shape_of-steps-in-Refused-receive
-same-length-8 c = (compiled_by c.before.before.before.before.before.before.before).compile.auto.1.1.1.1.1.0
+same-length-8 c = (compiled_by c.before.before.before.before.before.before.before).compile.auto.steps
 
 same-length-9 : tie.Need-shape_of-outputs-in-Refused-receive
-same-length-9 c = (compiled_by c.before.before.before.before.before.before.before).compile.auto.1.1.1.1.1.1.0
+same-length-9 c = (compiled_by c.before.before.before.before.before.before.before).compile.auto.outputs
 
 same-length-10 : tie.Need-shape_of-bytes-in-Refused-receive
-same-length-10 c = (dispatched-by c.before.before.before.before.before.before.before).dispatch.auto.1.1.1.0
+same-length-10 c = (dispatched-by c.before.before.before.before.before.before.before).dispatch.auto.bytes
 
 same-length-11 : tie.Need-shape_of-received-in-Refused-receive
-same-length-11 c = (dispatched-by c.before.before.before.before.before.before.before).dispatch.auto.1.1.1.1.0
+same-length-11 c = (dispatched-by c.before.before.before.before.before.before.before).dispatch.auto.received
 
 same-length-12 : tie.Need-shape_of-results-in-Refused-receive
-same-length-12 c = (dispatched-by c.before.before.before.before.before.before.before).dispatch.auto.1.1.1.1.1.0
+same-length-12 c = (dispatched-by c.before.before.before.before.before.before.before).dispatch.auto.results
 
 same-length-13 : tie.Need-shape_of-scratch-in-Refused-receive
 same-length-13 c = c.receive.auto.scratch
@@ -241,23 +241,23 @@ returns-3 c =
     _ _ _ w.columns.given.1
     _ (counted_at n)
     _ _ t.columns (ap pairs t.steps_front ∙ pairs_flat _) t.outputs_front
-    _ _ _ _ e.receive.ensures
+    _ _ _ _ c.receive.ensures
     _ _ c.in-Refused-receive.is
 
 same-length-16 : tie.Need-shape_of-steps-in-Multiplications
-same-length-16 c = (compiled_by c.before.before.before.before.before.before.before).compile.auto.1.1.1.1.1.0
+same-length-16 c = (compiled_by c.before.before.before.before.before.before.before).compile.auto.steps
 
 same-length-17 : tie.Need-shape_of-outputs-in-Multiplications
-same-length-17 c = (compiled_by c.before.before.before.before.before.before.before).compile.auto.1.1.1.1.1.1.0
+same-length-17 c = (compiled_by c.before.before.before.before.before.before.before).compile.auto.outputs
 
 same-length-18 : tie.Need-shape_of-bytes-in-Multiplications
-same-length-18 c = (dispatched-by c.before.before.before.before.before.before.before).dispatch.auto.1.1.1.0
+same-length-18 c = (dispatched-by c.before.before.before.before.before.before.before).dispatch.auto.bytes
 
 same-length-19 : tie.Need-shape_of-received-in-Multiplications
-same-length-19 c = (dispatched-by c.before.before.before.before.before.before.before).dispatch.auto.1.1.1.1.0
+same-length-19 c = (dispatched-by c.before.before.before.before.before.before.before).dispatch.auto.received
 
 same-length-20 : tie.Need-shape_of-results-in-Multiplications
-same-length-20 c = (dispatched-by c.before.before.before.before.before.before.before).dispatch.auto.1.1.1.1.1.0
+same-length-20 c = (dispatched-by c.before.before.before.before.before.before.before).dispatch.auto.results
 
 same-length-21 : tie.Need-shape_of-scratch-in-Multiplications
 same-length-21 c = c.receive.auto.scratch
@@ -285,7 +285,7 @@ returns-4 c =
     _ _ _ w.columns.given.1
     _ (counted_at n)
     _ _ t.columns (ap pairs t.steps_front ∙ pairs_flat _) t.outputs_front
-    _ _ _ _ e.receive.ensures
+    _ _ _ _ c.receive.ensures
     _ c.in-Multiplications.is
 
 pub sheet_to_figures_spec : {M : Type 1} → statement M

@@ -26,7 +26,7 @@ fn judge_lent(
     outputs: usize,
     numbers: usize,
 ) -> Judgement
-    ensures { judgement.verdictOf result ≡ choose_rule p q amounts.now pairs outputs numbers }
+    ensures { judgement.verdict_of result ≡ choose_rule p q amounts.now pairs outputs numbers }
 {
     match sheet::judge_sheet(p, q, amounts) {
         Judgement::Refused(number, place) => {

@@ -31,12 +31,12 @@ judge-file-requires c κs = enough _ _ _ _ _ _ (first c.before.before.before)
 
 judge-file-requires-2 : tie.Need-judge_file-y-requires
 judge-file-requires-2 c κs =
-    let k = c.judge_file-x.auto.steps in
+    let k = c.judge_file-x.auto in
     let e = enough _ _ _ _ _ _ (first c.before.before.before.before.before.before.before.before.before.before.before.before.before) in
     record {
-      pairs_enough = omega (arith, e.pairs_enough, k.0);
-      outputs_enough = omega (arith, e.outputs_enough, k.1.0);
-      numbers_enough = omega (arith, e.numbers_enough, k.1.1.0);
+      pairs_enough = omega (arith, e.pairs_enough, k.steps);
+      outputs_enough = omega (arith, e.outputs_enough, k.outputs);
+      numbers_enough = omega (arith, e.numbers_enough, k.numbers);
     }
 
 better-requires : tie.Need-better-requires

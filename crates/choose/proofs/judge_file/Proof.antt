@@ -21,8 +21,8 @@ enum-known-columns c = search rules
 
 -- what the file that was read tells
 read_file : (c : tie.In-Chain)
-    → let g = c.columns-1.given.0 in
-    Good edition1 c.args.bytes.now c.read.new.steps c.read.new.outputs g.0 g.1.0 g.1.1.0.steps
+    → let g = c.in-Chain in
+    Good edition1 c.args.bytes.now c.read.new.steps c.read.new.outputs g.columns g.payslips g.counts.steps
 read_file c =
     let a = c.args in
     let e = c.read.ensures in

@@ -68,7 +68,7 @@ same-length-9 c = search rules
 
 returns-3 : tie.Need-returns-in-Neither
 returns-3 c =
-    handed _ _ _ _ _ (chosen c.before.before.before.before.before.before.before ∙ ap choice_of c.k-1.given.1) (refl, (refl, refl))
+    handed _ _ _ _ _ (chosen c.before.before.before.before.before.before.before ∙ ap choice_of c.in-Neither.is) (refl, (refl, refl))
 
 pub choose_spec : {M : Type 1} → statement M
 choose_spec =

@@ -55,7 +55,7 @@ returns-2 c =
     let a = c.args in
     then_read a.p (pairs a.steps.now) a.outputs.now a.bytes.now a.received.now a.results.now _ (answer_clause c.write.ensures) _
     (only_slice_clause c.write.ensures)
-    _ c.count-1.given.1 _ _ _ (answer_clause c.read.ensures) (first_slice_clause c.read.ensures) (second_slice_clause c.read.ensures)
+    _ c.in-Bytes.is _ _ _ (answer_clause c.read.ensures) (first_slice_clause c.read.ensures) (second_slice_clause c.read.ensures)
 
 pub dispatch_spec : {M : Type 1} → statement M
 dispatch_spec =

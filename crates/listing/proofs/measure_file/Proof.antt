@@ -121,7 +121,7 @@ returns-4 : tie.Need-returns-in-Fine
 returns-4 c =
     let passed = c.in-Fine.is in
     let a = c.args in
-    let told = read_counts edition1 a.bytes.now a.steps.now a.outputs.now _ (answer_clause c.read.ensures) _ _ _ c.p-1.given.1 in
+    let told = read_counts edition1 a.bytes.now a.steps.now a.outputs.now _ (answer_clause c.read.ensures) _ _ _ c.in-Chain.is in
     listing_done _ _ _ _ _ _ (read_file c.before.before.before.before.before.before.before.before.before) c.if-bytes-gt-MOST_BYTES.false _ _ told (told_fine _ _ c.measure.ensures.told_is passed)
     (c.measure.ensures.holds (ap verdict_of passed))
 

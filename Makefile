@@ -1,4 +1,4 @@
-# The proved archive (by rt, whose log goes to target/prove.log), the shared object that is made of it, and the command (by cargo); their installation.
+# The proved archive (by rt, whose log goes to out/prove.log), the shared object that is made of it, and the command (by cargo); their installation.
 #
 #   make                    all three
 #   make check              the gate
@@ -16,17 +16,17 @@ VERSION := $(shell sed -n 's/^\#define SPOUTBASKET_VERSION "\(.*\)"/\1/p' includ
 NUMBERS := $(subst ., ,$(VERSION))
 INTERFACE := $(firstword $(NUMBERS))$(if $(filter 0,$(firstword $(NUMBERS))),.$(word 2,$(NUMBERS)))
 
-ARCHIVE = target/staticlib/libspoutbasket.a
-SHARED = target/shared/libspoutbasket.so.$(VERSION)
+ARCHIVE = crates/spoutbasket/out/libspoutbasket.a
+SHARED = out/shared/libspoutbasket.so.$(VERSION)
 COMMAND = rust/target/release/spoutbasket
 
 .PHONY: all check install uninstall clean
 
 all: $(ARCHIVE) $(SHARED) $(COMMAND)
 
-target/staticlib/libspoutbasket.a: crates.txt $(shell find crates -name '*.rt' -o -name '*.antt')
-	mkdir -p target
-	rt staticlib spoutbasket > target/prove.log 2>&1 || { tail -n 20 target/prove.log; exit 1; }
+$(ARCHIVE): crates.txt $(shell find crates -name out -prune -o \( -name '*.rt' -o -name '*.antt' \) -print)
+	mkdir -p out
+	(cd crates/spoutbasket && rt lib) > out/prove.log 2>&1 || { tail -n 20 out/prove.log; exit 1; }
 	touch $@
 
 $(SHARED): $(ARCHIVE)
@@ -71,4 +71,4 @@ uninstall:
 	rm -f $(DESTDIR)$(LIBDIR)/libspoutbasket.so.$(VERSION) $(DESTDIR)$(LIBDIR)/pkgconfig/spoutbasket.pc
 
 clean:
-	rm -rf target rust/target tests/target bench/target
+	rm -rf out crates/*/out rust/target tests/target bench/target

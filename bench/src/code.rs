@@ -7,7 +7,7 @@ use std::process::Command;
 fn archive() -> String {
     let folder = std::env::var("SPOUTBASKET_LIB_DIR").unwrap_or_else(|_| {
         let here = Path::new(env!("CARGO_MANIFEST_DIR"));
-        here.join("../target/staticlib").display().to_string()
+        here.join("../crates/spoutbasket/out").display().to_string()
     });
     format!("{folder}/libspoutbasket.a")
 }

@@ -138,9 +138,9 @@ pub fn spoutbasket(arguments: &[&str], input: &[u8]) -> Ended {
     end_on(start(arguments), input)
 }
 
-/// The lister, which `rt check` leaves in target/bin, on some input.
+/// The lister, as `rt ci` leaves it, on some input.
 pub fn lister(input: &[u8]) -> Ended {
-    let path = Path::new(env!("CARGO_MANIFEST_DIR")).join("../target/bin/lister");
+    let path = Path::new(env!("CARGO_MANIFEST_DIR")).join("../crates/lister/out/lister");
     end_on(start_program(path, &[], Stdio::piped()), input)
 }
 

@@ -73,7 +73,7 @@ fn run_c(name: &str, program: &str) -> String {
         ])
         .arg(project("include"))
         .arg(&source)
-        .arg(project("target/staticlib/libspoutbasket.a"))
+        .arg(sources::archive())
         .arg("-o")
         .arg(&binary)
         .status()

@@ -22,7 +22,7 @@ fn an_archive_that_is_missing() {
     let missing = check(&folder, "empty");
     let told = String::from_utf8(missing.stderr).unwrap();
     let why = format!(
-        "{} is missing: run `rt staticlib spoutbasket` first, or set SPOUTBASKET_LIB_DIR to the archive's folder",
+        "{} is missing: run `rt lib` in crates/spoutbasket first, or set SPOUTBASKET_LIB_DIR to the archive's folder",
         folder.path("empty/libspoutbasket.a")
     );
     assert!(!missing.status.success() && told.contains(&why), "{told}");

@@ -100,10 +100,10 @@ fn the_program() {
     }
 }
 
-/// What breaks the program's reading or writing is said on standard error, and nothing is listed.
+/// What breaks the program's reading or writing is said on standard error, and nothing is listed; it ends with status 1.
 #[test]
 fn what_breaks_the_program() {
-    let program = concat!(env!("CARGO_MANIFEST_DIR"), "/../target/bin/lister");
+    let program = concat!(env!("CARGO_MANIFEST_DIR"), "/../crates/lister/out/lister");
     for (script, line) in [
         ("\"$0\" < .", "standard input: Is a directory\n"),
         (
@@ -117,5 +117,6 @@ fn what_breaks_the_program() {
             .unwrap();
         let told = String::from_utf8(ended.stderr).unwrap();
         assert_eq!((&ended.stdout[..], told.as_str()), (&b""[..], line));
+        assert_eq!(ended.status.code(), Some(1));
     }
 }

@@ -144,8 +144,8 @@ fn differences() {
     }
     // a function that the library has and neither of the two
     let more =
-        "#[no_mangle]\npub extern \"C\" fn spoutbasket_more(p: usize) -> u32 { 0 }\n\n#[no_mangle]";
-    let (passed, said) = judged(LIBRARY, "#[no_mangle]", more);
+        "#[unsafe(no_mangle)]\npub extern \"C\" fn spoutbasket_more(p: usize) -> u32 { 0 }\n\n#[unsafe(no_mangle)]";
+    let (passed, said) = judged(LIBRARY, "#[unsafe(no_mangle)]", more);
     assert!(!passed);
     for file in [HEADER, SLICES] {
         let line = format!("{file}: spoutbasket_more is missing");

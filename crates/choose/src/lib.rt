@@ -1,5 +1,6 @@
 // The choice between two files, by number.
 #![tactic(auto)]
+
 ghost use Rattle.std.specs.Prelude.{◌≡◌, ◌/◌, length};
 ghost use Rattle.chain.specs.Judgement as judgement;
 ghost use Rattle.answers.specs.Answers.{choice_of};

@@ -62,16 +62,15 @@ loop-less : tie.Need-loop-c-smaller invariant-loop decreases-loop
 loop-less c = search rules
 
 loop-again : tie.Need-loop-c-preserved invariant-loop decreases-loop
-loop-again c =
-    (
-      search rules,
-      c.column-place.auto.scratch ∙ c.loop-c.invariant.1,
-      c.gather.auto.table ∙ c.loop-c.invariant.2,
-      earliest_next c.loop-c.c (large_in c.args.p (pairs c.args.steps.now)) _ _ _ c.earlier-large.ensures c.loop-c.invariant.3 c.column-place.ensures.place,
-      filled_on c.args.p c.loop-c.c (pairs c.args.steps.now) c.args.outputs.now _ _ _ _ _ _ _ c.requires.chain_sound.outputs_fine
-          c.requires.outputs_few (omega (arith, c.loop-c-test.true, c.requires.chain_sound.steps_sound.p_low)) (c.loop-c.invariant.2 ∙ c.requires.table_whole)
-          c.earlier-large.ensures c.column-place.ensures c.loop-c.invariant.4 c.gather.ensures,
-    )
+loop-again c = (
+  search rules,
+  c.column-place.auto.scratch ∙ c.loop-c.invariant.1,
+  c.gather.auto.table ∙ c.loop-c.invariant.2,
+  earliest_next c.loop-c.c (large_in c.args.p (pairs c.args.steps.now)) _ _ _ c.earlier-large.ensures c.loop-c.invariant.3 c.column-place.ensures.place,
+  filled_on c.args.p c.loop-c.c (pairs c.args.steps.now) c.args.outputs.now _ _ _ _ _ _ _ c.requires.chain_sound.outputs_fine
+      c.requires.outputs_few (omega (arith, c.loop-c-test.true, c.requires.chain_sound.steps_sound.p_low)) (c.loop-c.invariant.2 ∙ c.requires.table_whole)
+      c.earlier-large.ensures c.column-place.ensures c.loop-c.invariant.4 c.gather.ensures,
+)
 
 same_length : tie.Need-shape_of-scratch-then-large-ne0 invariant-loop decreases-loop
 same_length c = search rules

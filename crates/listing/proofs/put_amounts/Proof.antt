@@ -53,13 +53,12 @@ loop-less : tie.Need-loop-c-smaller invariant-loop decreases-loop
 loop-less c = search rules
 
 loop-again : tie.Need-loop-c-preserved invariant-loop decreases-loop
-loop-again c =
-    (
-      search rules,
-      c.put_field-end.auto.text ∙ c.loop-c.invariant.1,
-      omega (arith, decimal_short 9 _ (amount_low c.before.before.before.before), c.put_field-end.ensures.place, c.loop-c.invariant.2),
-      put_amount _ _ (amount_in c.args.table.now c.args.i) _ _ _ _ _ (omega (arith, c.requires.room)) c.loop-c.invariant.3 c.put_field-end.ensures,
-    )
+loop-again c = (
+  search rules,
+  c.put_field-end.auto.text ∙ c.loop-c.invariant.1,
+  omega (arith, decimal_short 9 _ (amount_low c.before.before.before.before), c.put_field-end.ensures.place, c.loop-c.invariant.2),
+  put_amount _ _ (amount_in c.args.table.now c.args.i) _ _ _ _ _ (omega (arith, c.requires.room)) c.loop-c.invariant.3 c.put_field-end.ensures,
+)
 
 same_length : tie.Need-shape_of-text invariant-loop decreases-loop
 same_length c = search rules

@@ -32,13 +32,12 @@ loop-less : tie.Need-loop-i-smaller invariant-loop decreases-loop
 loop-less c = search rules
 
 loop-again : tie.Need-loop-i-preserved invariant-loop decreases-loop
-loop-again c =
-    (
-      search rules,
-      c.put_payslip-end.auto.text ∙ c.loop-i.invariant.1,
-      omega (arith, c.put_payslip-end.ensures.short, c.loop-i.invariant.2),
-      put_next _ c.args.p c.loop-i.i (amount_in c.args.table.now) _ _ _ _ _ (omega (arith, c.requires.room)) c.loop-i.invariant.3 c.put_payslip-end.ensures.put,
-    )
+loop-again c = (
+  search rules,
+  c.put_payslip-end.auto.text ∙ c.loop-i.invariant.1,
+  omega (arith, c.put_payslip-end.ensures.short, c.loop-i.invariant.2),
+  put_next _ c.args.p c.loop-i.i (amount_in c.args.table.now) _ _ _ _ _ (omega (arith, c.requires.room)) c.loop-i.invariant.3 c.put_payslip-end.ensures.put,
+)
 
 same_length : tie.Need-shape_of-text invariant-loop decreases-loop
 same_length c = search rules

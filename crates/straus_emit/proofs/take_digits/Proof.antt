@@ -76,7 +76,7 @@ entry-requires c κs =
 take-digit-requires : tie.Need-take_digit-r-requires invariant-loop decreases-loop
 take-digit-requires c κs =
     digit_room c.args.p c.args.k (λ j. entry c.args.k c.args.inputs.now (c.args.p + 1) (vector_at c.args.p c.args.cells.now c.args.masks.now (c.args.k * j)))
-        c.args.digits c.args.steps.now c.args.progress _ _ _ _ _ c.loop-d-test.true (value_is c.before) c.loop-d.invariant.2 c.requires.room
+    c.args.digits c.args.steps.now c.args.progress _ _ _ _ _ c.loop-d-test.true (value_is c.before) c.loop-d.invariant.2 c.requires.room
 
 add-d : tie.Need-overflow_add-d-in-loop-d invariant-loop decreases-loop
 add-d c = search rules
@@ -88,7 +88,7 @@ loop-again : tie.Need-loop-d-preserved invariant-loop decreases-loop
 loop-again c =
     let a = c.args in
     let on = digit_on a.p a.k (λ j. entry a.k a.inputs.now (a.p + 1) (vector_at a.p a.cells.now a.masks.now (a.k * j)))
-            a.digits a.steps.now a.progress _ _ _ _ _ c.loop-d-test.true (value_is c.before.before.before.before) c.loop-d.invariant.2 _ _ _ c.take_digit-r.ensures in
+    a.digits a.steps.now a.progress _ _ _ _ _ c.loop-d-test.true (value_is c.before.before.before.before) c.loop-d.invariant.2 _ _ _ c.take_digit-r.ensures in
     (search rules, search rules, on)
 
 same_length : tie.Need-shape_of-steps invariant-loop decreases-loop

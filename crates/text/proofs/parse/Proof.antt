@@ -72,10 +72,10 @@ loop-again c =
     let room = c.requires in (
       search rules,
       elim c.match-effect_of.branch [
-        in-Becomes w ↦
-          on_becomes _ _ _ _ _ _ _ _ _ l.invariant.1 at _ _ c.kind_at-kind.ensures c.effect_of.ensures _ _ _ _ w.in-Becomes.is w.numbers-is w.made-is w.making-is
+        | in-Becomes w ↦
+            on_becomes _ _ _ _ _ _ _ _ _ l.invariant.1 at _ _ c.kind_at-kind.ensures c.effect_of.ensures _ _ _ _ w.in-Becomes.is w.numbers-is w.made-is w.making-is
         | in-Ends w ↦
-          on_ends _ _ _ _ _ _ _ _ _ l.invariant.1 at _ _ c.kind_at-kind.ensures c.effect_of.ensures _ _ _ _ w.in-Ends.is room w.numbers-is w.made-is w.making-is
+            on_ends _ _ _ _ _ _ _ _ _ l.invariant.1 at _ _ c.kind_at-kind.ensures c.effect_of.ensures _ _ _ _ w.in-Ends.is room w.numbers-is w.made-is w.making-is
       ],
     )
 

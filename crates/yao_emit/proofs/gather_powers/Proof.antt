@@ -42,12 +42,11 @@ loop-less : tie.Need-loop-i-smaller invariant-loop decreases-loop
 loop-less c = search rules
 
 loop-again : tie.Need-loop-i-preserved invariant-loop decreases-loop
-loop-again c =
-    (
-      search rules,
-      search rules,
-      powers_on c.args.column _ _ _ _ _ _ _ c.loop-i.invariant.2 _ _ c.digit.ensures c.power_at-power.ensures _ _ _ c.gather_one-r.ensures,
-    )
+loop-again c = (
+  search rules,
+  search rules,
+  powers_on c.args.column _ _ _ _ _ _ _ c.loop-i.invariant.2 _ _ c.digit.ensures c.power_at-power.ensures _ _ _ c.gather_one-r.ensures,
+)
 
 same_length : tie.Need-shape_of-steps invariant-loop decreases-loop
 same_length c = search rules

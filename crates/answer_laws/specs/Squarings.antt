@@ -18,17 +18,17 @@ pub record Squarings : Type 0 where
   -- the two add up to n
   pub adds_up : (steps : List Step) → squarings_of steps + products_of steps ≡ length steps
   -- compile tells them of the chain that it makes
-  pub compiled : (p q : ℕ) (amounts : List ℕ) (method k pairsLent outputsLent : ℕ) → compile_rule p q amounts method k pairsLent outputsLent ≡ fine
-      → compile_answer p q amounts method k pairsLent outputsLent ≡ done (counts (chain_of p q amounts method k).steps)
+  pub compiled : (p q : ℕ) (amounts : List ℕ) (method k pairs_lent outputs_lent : ℕ) → compile_rule p q amounts method k pairs_lent outputs_lent ≡ fine
+      → compile_answer p q amounts method k pairs_lent outputs_lent ≡ done (counts (chain_of p q amounts method k).steps)
   -- check and run of the chain that they are lent
   pub checked : (p : ℕ) (steps : List Step) (outputs amounts : List ℕ) (scratch : ℕ) → verify_rule p steps outputs amounts scratch ≡ fine
       → verify_answer p steps outputs amounts scratch ≡ done (counts steps)
-  pub ran : (p : ℕ) (steps : List Step) (outputs : List ℕ) (m : ℕ) (bases : List ℕ) (valuesLent figuresLent : ℕ)
-      → run_rule p steps outputs m bases valuesLent figuresLent ≡ fine → run_answer p steps outputs m bases valuesLent figuresLent ≡ done (counts steps)
+  pub ran : (p : ℕ) (steps : List Step) (outputs : List ℕ) (m : ℕ) (bases : List ℕ) (values_lent figures_lent : ℕ)
+      → run_rule p steps outputs m bases values_lent figures_lent ≡ fine → run_answer p steps outputs m bases values_lent figures_lent ≡ done (counts steps)
   -- read of the chain in the file, after p and q
-  pub read : (L : Layout) (bytes : List ℕ) (pairsLent outputsLent : ℕ) → read_rule L bytes pairsLent outputsLent ≡ fine
-      → read_answer L bytes pairsLent outputsLent ≡ done (columns_of bytes ∷ payslips_of bytes ∷ counts (steps_of L bytes))
+  pub read : (L : Layout) (bytes : List ℕ) (pairs_lent outputs_lent : ℕ) → read_rule L bytes pairs_lent outputs_lent ≡ fine
+      → read_answer L bytes pairs_lent outputs_lent ≡ done (columns_of bytes ∷ payslips_of bytes ∷ counts (steps_of L bytes))
   -- pool of the pool, whose squarings are those of both parts
-  pub pooled : (a b : Part) (pairsLent outputsLent : ℕ) → pool_rule a b pairsLent outputsLent ≡ fine
-      → pool_answer a b pairsLent outputsLent ≡ done (counts (pooled_steps a b))
+  pub pooled : (a b : Part) (pairs_lent outputs_lent : ℕ) → pool_rule a b pairs_lent outputs_lent ≡ fine
+      → pool_answer a b pairs_lent outputs_lent ≡ done (counts (pooled_steps a b))
   pub both_parts : (a b : Part) → squarings_of (pooled_steps a b) ≡ squarings_of a.steps + squarings_of b.steps

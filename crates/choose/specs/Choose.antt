@@ -36,13 +36,13 @@ unless (refused k s) c = neither k s
 
 -- Spec 8: before the files 1, 2, then 5; the last three arguments are how many pairs, outputs and numbers are lent
 unfoldable pub choose_rule : ℕ → ℕ → List ℕ → ℕ → ℕ → ℕ → Verdict
-choose_rule p q amounts pairsLent outputsLent numbersLent =
+choose_rule p q amounts pairs_lent outputs_lent numbers_lent =
     sheet_rule p q amounts
-    then refuse_if (pairsLent <? edition1.limit or outputsLent <? most_payslips or numbersLent <? most_scratch) 5 0
+    then refuse_if (pairs_lent <? edition1.limit or outputs_lent <? most_payslips or numbers_lent <? most_scratch) 5 0
 
 unfoldable pub choice : ℕ → ℕ → List ℕ → List ℕ → List ℕ → ℕ → ℕ → ℕ → Choice
-choice p q amounts a b pairsLent outputsLent numbersLent =
-    unless (choose_rule p q amounts pairsLent outputsLent numbersLent)
+choice p q amounts a b pairs_lent outputs_lent numbers_lent =
+    unless (choose_rule p q amounts pairs_lent outputs_lent numbers_lent)
     (better (file_rule p q amounts a) (file_rule p q amounts b) (length_of edition1 a) (length_of edition1 b))
 
 -- Spec 8: what is handed back of files a and b: that very slice, with number and place 0; or an empty part and the refusal.

@@ -9,10 +9,10 @@ use Rattle.choose.specs.Answers.{verdict_of, count_of}
 use Rattle.choose.specs.declared.Judged.{Judged}
 
 -- as many pairs, outputs and numbers as any file of edition 1 asks for
-pub record Enough (pairsLent outputsLent numbersLent : ℕ) : Type 0 where
-  pub pairs_enough : edition1.limit ≤ pairsLent
-  pub outputs_enough : most_payslips ≤ outputsLent
-  pub numbers_enough : most_scratch ≤ numbersLent
+pub record Enough (pairs_lent outputs_lent numbers_lent : ℕ) : Type 0 where
+  pub pairs_enough : edition1.limit ≤ pairs_lent
+  pub outputs_enough : most_payslips ≤ outputs_lent
+  pub numbers_enough : most_scratch ≤ numbers_lent
 
 -- the verdict on a file, and its steps where it passes
 pub record FileJudged (p q : ℕ) (amounts bytes : List ℕ) (r : Judged) : Type 0 where

@@ -7,20 +7,20 @@ use Rattle.layout.specs.Layout.{edition1}
 use Rattle.layout.specs.File.{columns_of, payslips_of, steps_of, file_of, write_rule, write_bytes, read_rule, read_steps, read_outputs}
 
 -- read gets exactly the bytes that write counted
-module _ (p : ℕ) (steps : List Step) (outputs : List ℕ) (bytesLent : ℕ) where
+module _ (p : ℕ) (steps : List Step) (outputs : List ℕ) (bytes_lent : ℕ) where
   abbrev file : List ℕ
   file = file_of edition1 p steps outputs
 
   unfoldable pub dispatch_answer : ℕ → ℕ → Answer
-  dispatch_answer pairsLent outputsLent =
-      answer (write_rule edition1 p steps outputs bytesLent then read_rule edition1 file pairsLent outputsLent)
+  dispatch_answer pairs_lent outputs_lent =
+      answer (write_rule edition1 p steps outputs bytes_lent then read_rule edition1 file pairs_lent outputs_lent)
       (columns_of file ∷ payslips_of file ∷ counts (steps_of edition1 file))
 
   unfoldable pub dispatch_steps : ℕ → List ℕ → List ℕ
-  dispatch_steps outputsLent old = on_fine (write_rule edition1 p steps outputs bytesLent) (read_steps edition1 file outputsLent old) old
+  dispatch_steps outputs_lent old = on_fine (write_rule edition1 p steps outputs bytes_lent) (read_steps edition1 file outputs_lent old) old
 
   unfoldable pub dispatch_outputs : ℕ → List ℕ → List ℕ
-  dispatch_outputs pairsLent old = on_fine (write_rule edition1 p steps outputs bytesLent) (read_outputs edition1 file pairsLent old) old
+  dispatch_outputs pairs_lent old = on_fine (write_rule edition1 p steps outputs bytes_lent) (read_outputs edition1 file pairs_lent old) old
 
 -- the answer and the three slices, which were bytes, received and results before
 pub record Dispatched (p : ℕ) (steps : List Step) (outputs bytes received results : List ℕ) (a : Answer) (bytes' received' results' : List ℕ) : Type 0 where

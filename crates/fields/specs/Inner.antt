@@ -4,7 +4,7 @@ use Rattle.chain.specs.Written.{over}
 use Rattle.bits.specs.Bits.{bytes_bits, fields_at}
 use Rattle.bits.specs.Inner.{filed}
 
--- how wide the fields of a list may be, so that two of them are read and written as one (`widestField`)
+-- how wide the fields of a list may be, so that two of them are read and written as one (`widest_field`)
 abbrev pub widest_number : ℕ
 widest_number = 28
 

@@ -5,7 +5,7 @@ use Prim.Native.Nat.{ℕ, suc, ◌+◌, ◌≤◌, ◌<◌}
 use native.Mathlib.Omega.{arith}
 use lib.ListN.{length, get_or, set, length-set}
 use lib.Seq.{get_or-set_same, get_or-set_other}
-use Rattle.chain.specs.Written.{laid as laidAt}
+use Rattle.chain.specs.Written.{laid as laid_at}
 use Rattle.digits.proofs.Range.{sum_more, sum_same}
 use Rattle.digits.proofs.Listed.{list_same}
 use Rattle.rows.specs.Inner.{RowsLaid, RowsOver}
@@ -39,7 +39,7 @@ module _ (s : List ℕ) (keys k a to : ℕ) (asked : ClumpsAsked s keys k a to) 
 
       pub row_on : RowsOver to k (j + 1) end f s (set new (to + j + 1) end)
       row_on =
-          rw row_end (over_more to k f j e s cells new d h (laid.are ∙ ap (λ (l : List ℕ). laidAt e l cells) own) row_room)
+          rw row_end (over_more to k f j e s cells new d h (laid.are ∙ ap (λ (l : List ℕ). laid_at e l cells) own) row_room)
 
   -- with their first place stored before
   abbrev first : List ℕ

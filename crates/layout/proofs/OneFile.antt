@@ -101,20 +101,20 @@ pub record IsFile (L : Layout) (bytes : List ℕ) : Type 0 where
   pub held : Held L (columns_of bytes) (steps_of L bytes) (outputs_of L bytes)
   pub is : bytes ≡ file_of L (columns_of bytes) (steps_of L bytes) (outputs_of L bytes)
 
-module _ (L : Layout) (sound : SoundLayout L) (bytes : List ℕ) (ok : Bytes bytes) (pairsLent outputsLent : ℕ) where
-  pub reading_is_a_file : read_rule L bytes pairsLent outputsLent ≡ fine → IsFile L bytes
+module _ (L : Layout) (sound : SoundLayout L) (bytes : List ℕ) (ok : Bytes bytes) (pairs_lent outputs_lent : ℕ) where
+  pub reading_is_a_file : read_rule L bytes pairs_lent outputs_lent ≡ fine → IsFile L bytes
   reading_is_a_file e =
-      let r = readable L bytes pairsLent outputsLent e in
+      let r = readable L bytes pairs_lent outputs_lent e in
       record {
-        held = parts_held L _ (steps_of L bytes) (outputs_of L bytes) (held_is L bytes sound pairsLent outputsLent r);
-        is = file_is L bytes sound pairsLent outputsLent r ok;
+        held = parts_held L _ (steps_of L bytes) (outputs_of L bytes) (held_is L bytes sound pairs_lent outputs_lent r);
+        is = file_is L bytes sound pairs_lent outputs_lent r ok;
       }
 
   -- every other string of bytes is refused
   pub others_refused : ((p : ℕ) (steps : List Step) (outputs : List ℕ) → Held L p steps outputs → bytes ≡ file_of L p steps outputs → ⊥)
-      → (number : ℕ) × (place : ℕ) × (read_rule L bytes pairsLent outputsLent ≡ refused number place)
-  others_refused none = by_verdict (read_rule L bytes pairsLent outputsLent) refl
+      → (number : ℕ) × (place : ℕ) × (read_rule L bytes pairs_lent outputs_lent ≡ refused number place)
+  others_refused none = by_verdict (read_rule L bytes pairs_lent outputs_lent) refl
     where
-      by_verdict : (v : Verdict) → read_rule L bytes pairsLent outputsLent ≡ v → (number : ℕ) × (place : ℕ) × (v ≡ refused number place)
+      by_verdict : (v : Verdict) → read_rule L bytes pairs_lent outputs_lent ≡ v → (number : ℕ) × (place : ℕ) × (v ≡ refused number place)
       by_verdict fine e = let f = reading_is_a_file e in absurd (none _ _ _ f.held f.is)
       by_verdict (refused number place) e = (number, place, refl)

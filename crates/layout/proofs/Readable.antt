@@ -14,13 +14,13 @@ use Rattle.layout.specs.declared.Layout.{Layout}
 use Rattle.layout.specs.File.{edition_of, columns_of, payslips_of, length_of, steps_of, outputs_of, bits_of, filling_of, read_rule}
 use Rattle.layout.specs.Inner.{Sized}
 
-pub record Readable (L : Layout) (bytes : List ℕ) (pairsLent outputsLent : ℕ) : Type 0 where
+pub record Readable (L : Layout) (bytes : List ℕ) (pairs_lent outputs_lent : ℕ) : Type 0 where
   pub some : 4 ≤ length bytes
   pub same_edition : edition_of bytes ≡ L.edition
   pub few : length_of L bytes ≤ L.limit
   pub long : length bytes ≡ bytes_for (bits_of L bytes)
-  pub pairs_room : length_of L bytes ≤ pairsLent
-  pub outputs_room : payslips_of bytes ≤ outputsLent
+  pub pairs_room : length_of L bytes ≤ pairs_lent
+  pub outputs_room : payslips_of bytes ≤ outputs_lent
   pub filling : filling_of L bytes ≡ 0
   pub chain : chain_rule (columns_of bytes) (steps_of L bytes) (outputs_of L bytes) ≡ fine
 

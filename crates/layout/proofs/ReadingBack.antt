@@ -160,8 +160,8 @@ module _ (L : Layout) (sound : SoundLayout L) (p : ℕ) (steps : List Step) (out
       }
 
   -- it is read wherever there is room
-  pub reading_back : (pairsLent outputsLent : ℕ) → length steps ≤ pairsLent → length outputs ≤ outputsLent
-      → read_rule L (file_of L p steps outputs) pairsLent outputsLent ≡ fine
+  pub reading_back : (pairs_lent outputs_lent : ℕ) → length steps ≤ pairs_lent → length outputs ≤ outputs_lent
+      → read_rule L (file_of L p steps outputs) pairs_lent outputs_lent ≡ fine
   reading_back x y hx hy =
       let f : List ℕ = file_of L p steps outputs in
       let r = reading_gives in

@@ -70,14 +70,14 @@ module _ (L : Layout) where
 
   -- Spec 10.2: write's order; the last argument is how many bytes are lent
   unfoldable pub write_rule : ℕ → List Step → List ℕ → ℕ → Verdict
-  write_rule p steps outputs bytesLent =
+  write_rule p steps outputs bytes_lent =
       held_rule p steps outputs
-      then refuse_if (bytesLent <? byte_count p (length outputs) (length steps)) 5 0
+      then refuse_if (bytes_lent <? byte_count p (length outputs) (length steps)) 5 0
 
   -- Spec 10.6: the number of bytes
   unfoldable pub write_answer : ℕ → List Step → List ℕ → ℕ → Answer
-  write_answer p steps outputs bytesLent =
-      answer (write_rule p steps outputs bytesLent) (byte_count p (length outputs) (length steps) ∷ [])
+  write_answer p steps outputs bytes_lent =
+      answer (write_rule p steps outputs bytes_lent) (byte_count p (length outputs) (length steps) ∷ [])
 
   -- Spec 10.5: what the lent bytes are afterwards; they were old before
   unfoldable pub write_bytes : ℕ → List Step → List ℕ → List ℕ → List ℕ
@@ -106,26 +106,26 @@ module _ (L : Layout) where
 
     -- Spec 10.2: read's order; the arguments are how many pairs and outputs are lent
     unfoldable pub read_rule : ℕ → ℕ → Verdict
-    read_rule pairsLent outputsLent =
+    read_rule pairs_lent outputs_lent =
         refuse_if (length bytes <? 4) 6 0
         then refuse_if (edition_of bytes ≠? L.edition) 7 0
         then length_rule L.limit length_of
         then refuse_if (length bytes ≠? bytes_for bits_of) 6 0
-        then refuse_if (pairsLent <? length_of or outputsLent <? payslips_of bytes) 5 0
+        then refuse_if (pairs_lent <? length_of or outputs_lent <? payslips_of bytes) 5 0
         then refuse_if (filling_of ≠? 0) 8 0
         then chain_rule (columns_of bytes) steps_of outputs_of
 
     -- Spec 10.6, Req 05: p, q and n, and of its n steps the squarings and the other products
     unfoldable pub read_answer : ℕ → ℕ → Answer
-    read_answer pairsLent outputsLent =
-        answer (read_rule pairsLent outputsLent) (columns_of bytes ∷ payslips_of bytes ∷ counts steps_of)
+    read_answer pairs_lent outputs_lent =
+        answer (read_rule pairs_lent outputs_lent) (columns_of bytes ∷ payslips_of bytes ∷ counts steps_of)
 
     -- Spec 10.5: what the lent slices are afterwards, steps in turn; each was old before
     unfoldable pub read_steps : ℕ → List ℕ → List ℕ
-    read_steps outputsLent old = on_fine (read_rule (length old / 2) outputsLent) (over (flat steps_of) old) old
+    read_steps outputs_lent old = on_fine (read_rule (length old / 2) outputs_lent) (over (flat steps_of) old) old
 
     unfoldable pub read_outputs : ℕ → List ℕ → List ℕ
-    read_outputs pairsLent old = on_fine (read_rule pairsLent (length old)) (over outputs_of old) old
+    read_outputs pairs_lent old = on_fine (read_rule pairs_lent (length old)) (over outputs_of old) old
 
   -- no file of this layout has more bytes than one of the most steps and payslips, in the widest fields
   abbrev pub most_bytes : ℕ

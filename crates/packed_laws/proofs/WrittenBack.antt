@@ -5,7 +5,7 @@ use Prim.Native.Nat.{ℕ, ◌+◌, ◌*◌, ◌≤◌, ◌<◌}
 use native.Mathlib.Omega.{arith}
 use lib.ListN.{length, get_or}
 use Rattle.chain.specs.Verdict.{fine}
-use Rattle.chain.specs.Written.{over, in_aRow}
+use Rattle.chain.specs.Written.{over, in_a_row}
 use Rattle.chain.proofs.Rules.{pass, answer_done, renewed, refuse_no, lt_no}
 use Rattle.chain.proofs.Limits.{low_numbers}
 use Rattle.packed.specs.Field.{field_bytes, most_packed, amount_of, field_of, written_back, field_from, fields_in}
@@ -31,8 +31,8 @@ module _ (p q : ℕ) (bytes : List ℕ) (s : Saying p q bytes (p * q)) where
   anew : (k : ℕ) → k < p * q → field_of (amount_of (field_from bytes (at k))) ≡ written_back (field_from bytes (at k))
   anew k h = written_anew bytes (at k) (field_there p q bytes s k h) (s.fields k h)
 
-  packed_unpacked : packed amounts ≡ in_aRow (map written_back fields)
-  packed_unpacked = ap in_aRow (map-map field_of amount_of fields ∙ map_same (λ f. field_of (amount_of f)) written_back [] fields each)
+  packed_unpacked : packed amounts ≡ in_a_row (map written_back fields)
+  packed_unpacked = ap in_a_row (map-map field_of amount_of fields ∙ map_same (λ f. field_of (amount_of f)) written_back [] fields each)
     where
       each : (k : ℕ) → k < length fields → field_of (amount_of (get_or fields k [])) ≡ written_back (get_or fields k [])
       each k h =

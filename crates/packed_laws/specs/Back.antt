@@ -1,7 +1,7 @@
 -- Amounts that were written are read again, and fields that were read are written again: nothing is lost but the difference of plus and unsigned.
 use Rattle.std.specs.Prelude.{◌≡◌, ◌≢◌, List, [], ◌∷◌, map, ℕ, ◌+◌, ◌*◌, ◌%◌, ◌<◌, length, get_or, take}
 use Rattle.chain.specs.Verdict.{done}
-use Rattle.chain.specs.Written.{over, in_aRow}
+use Rattle.chain.specs.Written.{over, in_a_row}
 use Rattle.packed.specs.Field.{field_bytes, unsigned, written_back, fields_in}
 use Rattle.packed.specs.Packed.{packed, unpack_answer, unpack_amounts, pack_answer, pack_bytes}
 
@@ -24,7 +24,7 @@ pub record WrittenBack (p q : ℕ) (bytes amounts new : List ℕ) : Type 0 where
   -- all amounts are written
   pub all_written : pack_answer p q amounts (length new) ≡ done (p * q ∷ [])
   -- each as the field that it was read from, with plus for unsigned
-  pub fields_same : pack_bytes p q amounts new ≡ over (in_aRow (map written_back (fields_in (p * q) bytes))) new
+  pub fields_same : pack_bytes p q amounts new ≡ over (in_a_row (map written_back (fields_in (p * q) bytes))) new
   -- so there are as many bytes
   pub as_many : length (packed amounts) ≡ field_bytes * (p * q)
   -- and each is the same, unless it is a field's last and has unsigned for its sign

@@ -44,8 +44,8 @@ legal_one_chain p p' steps steps' outputs outputs' a b =
 
 -- reading the file with room enough gives the chain
 module _ (p : ℕ) (steps : List Step) (outputs : List ℕ) (legal : Legal p steps outputs) where
-  pub legal_reads : (pairsLent outputsLent : ℕ) → length steps ≤ pairsLent → length outputs ≤ outputsLent
-      → read_rule edition1 (file_of edition1 p steps outputs) pairsLent outputsLent ≡ fine
+  pub legal_reads : (pairs_lent outputs_lent : ℕ) → length steps ≤ pairs_lent → length outputs ≤ outputs_lent
+      → read_rule edition1 (file_of edition1 p steps outputs) pairs_lent outputs_lent ≡ fine
   legal_reads = reading_back edition1 edition1_sound p steps outputs (legal_held p steps outputs legal)
 
   pub legal_gives : ReadBack edition1 p steps outputs (file_of edition1 p steps outputs)
@@ -59,11 +59,11 @@ module _ (p : ℕ) (steps : List Step) (outputs : List ℕ) (legal : Legal p ste
   legal_widths = widths_by_cases edition1 edition1_sound p steps outputs (legal_held p steps outputs legal)
 
 -- "and every other string of bytes is refused"
-module _ (bytes : List ℕ) (ok : Bytes bytes) (pairsLent outputsLent : ℕ) where
-  pub read_is_legal : read_rule edition1 bytes pairsLent outputsLent ≡ fine → Legal (columns_of bytes) (steps_of edition1 bytes) (outputs_of edition1 bytes)
-  read_is_legal e = held_legal _ _ _ (reading_is_a_file edition1 edition1_sound bytes ok pairsLent outputsLent e).held
+module _ (bytes : List ℕ) (ok : Bytes bytes) (pairs_lent outputs_lent : ℕ) where
+  pub read_is_legal : read_rule edition1 bytes pairs_lent outputs_lent ≡ fine → Legal (columns_of bytes) (steps_of edition1 bytes) (outputs_of edition1 bytes)
+  read_is_legal e = held_legal _ _ _ (reading_is_a_file edition1 edition1_sound bytes ok pairs_lent outputs_lent e).held
 
   pub legal_others_refused : ((p : ℕ) (steps : List Step) (outputs : List ℕ) → Legal p steps outputs → bytes ≡ file_of edition1 p steps outputs → ⊥)
-      → (number : ℕ) × (place : ℕ) × (read_rule edition1 bytes pairsLent outputsLent ≡ refused number place)
+      → (number : ℕ) × (place : ℕ) × (read_rule edition1 bytes pairs_lent outputs_lent ≡ refused number place)
   legal_others_refused none =
-      others_refused edition1 edition1_sound bytes ok pairsLent outputsLent (λ p steps outputs held. none p steps outputs (held_legal p steps outputs held))
+      others_refused edition1 edition1_sound bytes ok pairs_lent outputs_lent (λ p steps outputs held. none p steps outputs (held_legal p steps outputs held))

@@ -29,10 +29,10 @@ use Rattle.path.proofs.Demand2.{legal_held, legal_reads, legal_gives}
 -- what is promised of the chain c of an accepted sheet, with n its count and most its ceiling
 pub record Promised (p q : ℕ) (amounts : List ℕ) (method k : ℕ) (c : Chain) (n most : ℕ) : Type 0 where
   -- compile, write and read succeed where the lent slices are long enough, and reading gives the chain
-  pub compiles : (pairsLent outputsLent : ℕ) → n ≤ pairsLent → q ≤ outputsLent → compile_rule p q amounts method k pairsLent outputsLent ≡ fine
-  pub writes : (bytesLent : ℕ) → byte_count edition1 p q n ≤ bytesLent → write_rule edition1 p c.steps c.outputs bytesLent ≡ fine
-  pub reads : (pairsLent outputsLent : ℕ) → n ≤ pairsLent → q ≤ outputsLent
-      → read_rule edition1 (file_of edition1 p c.steps c.outputs) pairsLent outputsLent ≡ fine
+  pub compiles : (pairs_lent outputs_lent : ℕ) → n ≤ pairs_lent → q ≤ outputs_lent → compile_rule p q amounts method k pairs_lent outputs_lent ≡ fine
+  pub writes : (bytes_lent : ℕ) → byte_count edition1 p q n ≤ bytes_lent → write_rule edition1 p c.steps c.outputs bytes_lent ≡ fine
+  pub reads : (pairs_lent outputs_lent : ℕ) → n ≤ pairs_lent → q ≤ outputs_lent
+      → read_rule edition1 (file_of edition1 p c.steps c.outputs) pairs_lent outputs_lent ≡ fine
   pub read_back : ReadBack edition1 p c.steps c.outputs (file_of edition1 p c.steps c.outputs)
   -- the check passes
   pub passes : (scratch : ℕ) → scratch_size p n ≤ scratch → verify_rule p c.steps c.outputs amounts scratch ≡ fine

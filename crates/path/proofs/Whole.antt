@@ -83,9 +83,9 @@ module _ (p q : ℕ) (amounts : List ℕ) (method k : ℕ) (low : (j : ℕ) → 
 
     -- compile found nothing, and s and o are the chain that it filled
     module _ (v : fine ≡ compiles p q amounts method k l) (s : List Step) (o : List ℕ) (s-is : s ≡ (compiled p q amounts method k).steps)
-        (o_is : o ≡ (compiled p q amounts method k).outputs) (r : Reading) (bytes' stepsRead' outputsRead' : List ℕ)
-        (dispatched : Dispatched p s o l.bytes l.steps_read l.outputs_read (read_of r) bytes' stepsRead' outputsRead') where
-      sent : Dispatched p chain.steps chain.outputs l.bytes l.steps_read l.outputs_read (read_of r) bytes' stepsRead' outputsRead'
+        (o_is : o ≡ (compiled p q amounts method k).outputs) (r : Reading) (bytes' steps_read' outputs_read' : List ℕ)
+        (dispatched : Dispatched p s o l.bytes l.steps_read l.outputs_read (read_of r) bytes' steps_read' outputs_read') where
+      sent : Dispatched p chain.steps chain.outputs l.bytes l.steps_read l.outputs_read (read_of r) bytes' steps_read' outputs_read'
       sent = rw (s-is, o_is) at dispatched
 
       bytes_left : bytes' ≡ on_fine compiling (write_bytes edition1 p chain.steps chain.outputs l.bytes) l.bytes
@@ -96,7 +96,7 @@ module _ (p q : ℕ) (amounts : List ℕ) (method k : ℕ) (low : (j : ℕ) → 
       found = told _ _ _ sent.answered
 
       pub not_dispatched : (n c : ℕ) → r ≡ reading.Refused n c
-          → Fulfilled (refusal n c) (lent steps' outputs' bytes' stepsRead' outputsRead' l.scratch l.values l.figures)
+          → Fulfilled (refusal n c) (lent steps' outputs' bytes' steps_read' outputs_read' l.scratch l.values l.figures)
       unfolding path_answer path_leaves dispatch_steps dispatch_outputs
       not_dispatched n c e =
           let d : refused n c ≡ (writing then file_read) = sym (ap (λ (x : Reading). verdict_in (read_of x)) e) ∙ found in
@@ -119,12 +119,12 @@ module _ (p q : ℕ) (amounts : List ℕ) (method k : ℕ) (low : (j : ℕ) → 
         was_read = sym (then_fine _ _ (sym both)).1
 
         -- what reading the file would have answered and left by itself
-        pub read_alone : ChainTaken edition1 file stepsRead' outputsRead' columns payslips read_counts.steps
+        pub read_alone : ChainTaken edition1 file steps_read' outputs_read' columns payslips read_counts.steps
         unfolding dispatch_answer dispatch_steps dispatch_outputs read_answer
         read_alone =
             taken edition1 file l.steps_read l.outputs_read r
             (sent.answered ∙ sym (after_answer _ _ _ wrote))
-            columns payslips read_counts is stepsRead' outputsRead'
+            columns payslips read_counts is steps_read' outputs_read'
             (sent.steps_left_lem ∙ sym (renewed _ _ l.steps_read _ wrote refl))
             (sent.outputs_left ∙ sym (renewed _ _ l.outputs_read _ wrote refl))
 
@@ -144,7 +144,7 @@ module _ (p q : ℕ) (amounts : List ℕ) (method k : ℕ) (low : (j : ℕ) → 
           unfolding receive_answer
           last_two = told _ _ _ got.answered
 
-          all_left : lent steps' outputs' bytes' stepsRead' outputsRead' scratch' values' figures' ≡ path_leaves p q amounts method k l m bases
+          all_left : lent steps' outputs' bytes' steps_read' outputs_read' scratch' values' figures' ≡ path_leaves p q amounts method k l m bases
           unfolding path_leaves dispatch_steps dispatch_outputs receive_values receive_figures
           all_left =
               same_lent es eo bytes_left (by_verdict _ _ _ _ _ (pass _ _ _ v refl) sent.steps_left_lem)
@@ -154,7 +154,7 @@ module _ (p q : ℕ) (amounts : List ℕ) (method k : ℕ) (low : (j : ℕ) → 
               (by_verdict _ _ _ _ _ (three_calls _ _ refl) got.figures_left_lem)
 
           pub not_received : (number place : ℕ) → a ≡ ran.Refused number place
-              → Fulfilled (refusal number place) (lent steps' outputs' bytes' stepsRead' outputsRead' scratch' values' figures')
+              → Fulfilled (refusal number place) (lent steps' outputs' bytes' steps_read' outputs_read' scratch' values' figures')
           unfolding path_answer
           not_received number place e =
               fulfilled _ _
@@ -162,7 +162,7 @@ module _ (p q : ℕ) (amounts : List ℕ) (method k : ℕ) (low : (j : ℕ) → 
               all_left
 
           pub all_done : (made : Counts) → a ≡ ran.Multiplications made
-              → Fulfilled (done (compiled' ∷ read_counts.steps ∷ made.steps ∷ [])) (lent steps' outputs' bytes' stepsRead' outputsRead' scratch' values' figures')
+              → Fulfilled (done (compiled' ∷ read_counts.steps ∷ made.steps ∷ [])) (lent steps' outputs' bytes' steps_read' outputs_read' scratch' values' figures')
           unfolding path_answer receive_answer spec.counts
           all_done made e =
               let long : read_counts.steps ≡ length_of edition1 file = read_alone.long in

@@ -7,7 +7,7 @@ use native.Mathlib.Numerals.{add-one}
 use native.Mathlib.Omega.{arith}
 use lib.ListN.{length, get_or, take, drop, length-append, length-take, length-drop, get_or-append, get_or-eq_default}
 use lib.Seq.{take-append_seam, drop-append-add}
-use Rattle.chain.specs.Written.{over, in_aRow}
+use Rattle.chain.specs.Written.{over, in_a_row}
 use Rattle.chain.proofs.Rules.{lt_yes, lt_no}
 use Rattle.decimal.proofs.Choices.{choosing}
 use Rattle.phrases.specs.Phrases.{no_phrase, phrases, first_fault, fault_phrases, phrase, lacks, phrase_number, phrase_words, phrase_text}
@@ -15,14 +15,14 @@ use Rattle.phrases.specs.Inner.{all_phrases, start_of, place_of}
 
 -- list n, cut out of all
 pub cut : (ls : List (List ℕ)) (n : ℕ) (d : List ℕ) → n < length ls
-    → take (start_of ls (suc n) - start_of ls n) (drop (start_of ls n) (in_aRow ls)) ≡ get_or ls n d
+    → take (start_of ls (suc n) - start_of ls n) (drop (start_of ls n) (in_a_row ls)) ≡ get_or ls n d
 cut [] n d h = absurd (omega arith)
 cut (l ∷ r) zero d h =
     let all : length l + 0 - 0 ≡ length l = omega arith in
-    ap (λ (k : ℕ). take k (l ++ in_aRow r)) all ∙ take-append_seam l (in_aRow r)
+    ap (λ (k : ℕ). take k (l ++ in_a_row r)) all ∙ take-append_seam l (in_a_row r)
 cut (l ∷ r) (suc n) d h =
     let same : length l + start_of r (suc n) - (length l + start_of r n) ≡ start_of r (suc n) - start_of r n = omega arith in
-    ap₂ take same (drop-append-add l (in_aRow r) (start_of r n)) ∙ cut r n d (omega arith)
+    ap₂ take same (drop-append-add l (in_a_row r) (start_of r n)) ∙ cut r n d (omega arith)
 
 -- each begins and ends within all of them
 pub starts_rise : (ls : List (List ℕ)) (n : ℕ) → n < length ls → start_of ls n ≤ start_of ls (suc n)
@@ -30,10 +30,10 @@ starts_rise [] n h = absurd (omega arith)
 starts_rise (l ∷ r) zero h = omega arith
 starts_rise (l ∷ r) (suc n) h = omega (arith, starts_rise r n (omega arith))
 
-pub starts_within : (ls : List (List ℕ)) (n : ℕ) → start_of ls n ≤ length (in_aRow ls)
+pub starts_within : (ls : List (List ℕ)) (n : ℕ) → start_of ls n ≤ length (in_a_row ls)
 starts_within ls zero = omega arith
 starts_within [] (suc n) = omega arith
-starts_within (l ∷ r) (suc n) = omega (arith, length-append l (in_aRow r), starts_within r n)
+starts_within (l ∷ r) (suc n) = omega (arith, length-append l (in_a_row r), starts_within r n)
 
 -- all starts as a list, the first one being k
 abbrev pub starts_from : ℕ → List (List ℕ) → List ℕ
@@ -105,20 +105,20 @@ module _ (number : ℕ) where
 
   -- cut by the numbers that the code has
   module _ (n from end : ℕ) (is : n ≡ place_of number) (begins : from ≡ start_of all_phrases n) (ends : end ≡ start_of all_phrases (n + 1)) where
-    pub phrase_cut : take (end - from) (drop from (in_aRow all_phrases)) ≡ phrase number
+    pub phrase_cut : take (end - from) (drop from (in_a_row all_phrases)) ≡ phrase number
     phrase_cut = rw (begins, ends, is, add-one (place_of number)) (cut all_phrases (place_of number) no_phrase place_low) ∙ phrase_there
 
     pub phrase_rises : from ≤ end
     phrase_rises = rw (begins, ends, is, add-one (place_of number)) (starts_rise all_phrases (place_of number) place_low)
 
-    pub phrase_within : end ≤ length (in_aRow all_phrases)
+    pub phrase_within : end ≤ length (in_a_row all_phrases)
     phrase_within = rw ends (starts_within all_phrases (n + 1))
 
     pub phrase-length : end - from ≡ length (phrase number)
     phrase-length =
         let rise = phrase_rises in
         let within = phrase_within in
-        rw (← phrase_cut) (omega (arith, length-take (end - from) (drop from (in_aRow all_phrases)), length-drop from (in_aRow all_phrases)))
+        rw (← phrase_cut) (omega (arith, length-take (end - from) (drop from (in_a_row all_phrases)), length-drop from (in_a_row all_phrases)))
 
 -- the phrase fits, or not: what is returned, told and written
 module _ (number : ℕ) (text : List ℕ) where

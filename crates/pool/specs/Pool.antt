@@ -61,17 +61,17 @@ poolable_rule a b =
 
 -- Spec 10.2: and then 5; the last two arguments are how many pairs and outputs are lent
 unfoldable pub pool_rule : Part → Part → ℕ → ℕ → Verdict
-pool_rule a b pairsLent outputsLent =
+pool_rule a b pairs_lent outputs_lent =
     poolable_rule a b
-    then refuse_if (pairsLent <? length (pooled_steps a b) or outputsLent <? length (pooled_outputs a b)) 5 0
+    then refuse_if (pairs_lent <? length (pooled_steps a b) or outputs_lent <? length (pooled_outputs a b)) 5 0
 
 -- Spec 10.6, Req 05: the pool's n, its squarings and its other products
 unfoldable pub pool_answer : Part → Part → ℕ → ℕ → Answer
-pool_answer a b pairsLent outputsLent = answer (pool_rule a b pairsLent outputsLent) (counts (pooled_steps a b))
+pool_answer a b pairs_lent outputs_lent = answer (pool_rule a b pairs_lent outputs_lent) (counts (pooled_steps a b))
 
 -- Spec 10.5: what the lent slices are afterwards, steps in turn; each was old before
 unfoldable pub pool_steps : Part → Part → ℕ → List ℕ → List ℕ
-pool_steps a b outputsLent old = on_fine (pool_rule a b (length old / 2) outputsLent) (over (flat (pooled_steps a b)) old) old
+pool_steps a b outputs_lent old = on_fine (pool_rule a b (length old / 2) outputs_lent) (over (flat (pooled_steps a b)) old) old
 
 unfoldable pub pool_outputs : Part → Part → ℕ → List ℕ → List ℕ
-pool_outputs a b pairsLent old = on_fine (pool_rule a b pairsLent (length old)) (over (pooled_outputs a b) old) old
+pool_outputs a b pairs_lent old = on_fine (pool_rule a b pairs_lent (length old)) (over (pooled_outputs a b) old) old

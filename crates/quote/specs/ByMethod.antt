@@ -10,7 +10,7 @@ use Rattle.yao.specs.Yao.{yao_method}
 use Rattle.partition.specs.Method.{partition_method}
 use Rattle.parameters.specs.Parameters.{method_rule}
 
--- the method of a number, for a sheet and a parameter; `methodRule` lets no number but 1, 2 and 3 pass
+-- the method of a number, for a sheet and a parameter; `method_rule` lets no number but 1, 2 and 3 pass
 unfoldable pub method_of : ℕ → ℕ → List ℕ → ℕ → ℕ → Method
 method_of p q amounts method k =
     cond (method =? 1) (straus_method p q amounts k)

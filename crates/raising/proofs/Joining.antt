@@ -8,7 +8,7 @@ use native.Mathlib.Decide.{dec_lt}
 use native.Mathlib.Omega.{arith}
 use lib.ListN.{length, get_or, set, length-append, length-map, length-set}
 use lib.Seq.{slice, ext_get_or, get_or-set_same, get_or-set_other}
-use Rattle.chain.specs.Written.{laid as laidAt}
+use Rattle.chain.specs.Written.{laid as laid_at}
 use Rattle.chain.proofs.Written.{laid_laid, laid-length}
 use Rattle.digits.specs.Range.{sum_to}
 use Rattle.digits.proofs.Range.{sum_more, sum_same}
@@ -22,14 +22,14 @@ use Rattle.cuts.specs.Inner.{CopyAsked, Copied}
 use Rattle.raising.specs.Inner.{raised_row, RaiseAsked, Raised, RowAsked, RowRaised}
 
 -- what stands in the only cells that changed is laid there
-laid_is : (r e : ℕ) (l old new : List ℕ) → Apart r e old new → e ≡ r + length l → e ≤ length old → slice r e new ≡ l → new ≡ laidAt r l old
+laid_is : (r e : ℕ) (l old new : List ℕ) → Apart r e old new → e ≡ r + length l → e ≤ length old → slice r e new ≡ l → new ≡ laid_at r l old
 laid_is r e l old new apart end inside is =
-    ext_get_or 0 new (laidAt r l old) (apart.size ∙ sym (laid-length r l old room)) (λ c h. by_place c (dec_lt c r) (dec_lt c e))
+    ext_get_or 0 new (laid_at r l old) (apart.size ∙ sym (laid-length r l old room)) (λ c h. by_place c (dec_lt c r) (dec_lt c e))
   where
     room : r + length l ≤ length old
     room = omega arith
 
-    by_place : (c : ℕ) → Dec (c < r) → Dec (c < e) → get_or new c 0 ≡ get_or (laidAt r l old) c 0
+    by_place : (c : ℕ) → Dec (c < r) → Dec (c < e) → get_or new c 0 ≡ get_or (laid_at r l old) c 0
     by_place c (yes low) _ = apart.before c low ∙ sym (cell_before r l old room c low)
     by_place c (no ge) (no high) = apart.behind c (omega arith) ∙ sym (cell_behind r l old room c (omega arith))
     by_place c (no ge) (yes lt) =
@@ -38,7 +38,7 @@ laid_is r e l old new apart end inside is =
         ∙ sym (slice_cell r e new (c - r) (omega arith))
         ∙ ap (λ (t : List ℕ). get_or t (c - r) 0) is
         ∙ sym (cell_within r l old room (c - r) (omega arith))
-        ∙ ap (λ (i : ℕ). get_or (laidAt r l old) i 0) (sym q)
+        ∙ ap (λ (i : ℕ). get_or (laid_at r l old) i 0) (sym q)
 
 module _ (s : List ℕ) (front back m k to : ℕ) (asked : RaiseAsked s front back m k to) where
   abbrev f : ℕ → List ℕ
@@ -145,7 +145,7 @@ module _ (s : List ℕ) (front back m k to : ℕ) (asked : RaiseAsked s front ba
           omega (arith, row_room, head, raised.apart.size, copied.apart.size),
         )
 
-        first_laid : mid ≡ laidAt e (row_at s front j) cells
+        first_laid : mid ≡ laid_at e (row_at s front j) cells
         first_laid =
             laid_is e end (row_at s front j) cells mid copied.apart (omega (arith, mid_end, row_long s front m _ asked.front_formed j h))
             (omega (arith, mid_end, row_room, joined_long j h)) (copied.are ∙ row_is front asked.front_formed asked.front_before)
@@ -159,16 +159,16 @@ module _ (s : List ℕ) (front back m k to : ℕ) (asked : RaiseAsked s front ba
             (λ c a b. copied.apart.before c (omega (arith, back_is.1, back_low, head)))
             ∙ row_is back asked.back_formed asked.back_before
 
-        second_laid : new ≡ laidAt end behind mid
+        second_laid : new ≡ laid_at end behind mid
         second_laid =
             laid_is end last behind mid new raised.apart
             (omega (arith, raised.end, back_is.0, back_is.1, length-map (row_at s back j) (λ i. k + i), row_long s back m _ asked.back_formed j h))
             (omega (arith, row_end, row_room, copied.apart.size)) (raised.are ∙ ap (map (λ i. k + i)) source_is)
 
-        row_laid : new ≡ laidAt e (f j) cells
+        row_laid : new ≡ laid_at e (f j) cells
         row_laid =
             second_laid
-            ∙ ap (laidAt end behind) first_laid
+            ∙ ap (laid_at end behind) first_laid
             ∙ laid_laid e end (row_at s front j) behind cells (omega (arith, mid_end, row_long s front m _ asked.front_formed j h)) (omega (arith, row_room))
 
         pub row_on : RowsOver to m (j + 1) last f s (set new (to + j + 1) last)

@@ -74,9 +74,9 @@ module _ (bytes : List ℕ) (x : Extent) where
 
   -- the reader's rules after the header's: 6, 5, 8, steps, 12
   unfoldable pub body_rule : ℕ → ℕ → Verdict
-  body_rule pairsLent outputsLent =
+  body_rule pairs_lent outputs_lent =
       refuse_if (length bytes ≠? x.bytes) 6 0
-      then refuse_if (pairsLent <? x.n or outputsLent <? x.q) 5 0
+      then refuse_if (pairs_lent <? x.n or outputs_lent <? x.q) 5 0
       then refuse_if (field_at bytes x.total (8 * length bytes - x.total) ≠? 0) 8 0
       then chain_rule x.p file_steps file_outputs
 

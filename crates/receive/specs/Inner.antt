@@ -9,14 +9,14 @@ use Rattle.run.specs.Run.{run_rule, run_values, run_figures}
 -- a chain held against a sheet, then run with a modulus and bases
 module _ (p : ℕ) (steps : List Step) (outputs amounts : List ℕ) (scratch m : ℕ) (bases : List ℕ) where
   unfoldable pub receive_answer : ℕ → ℕ → Answer
-  receive_answer valuesLent figuresLent =
-      answer (verify_rule p steps outputs amounts scratch then run_rule p steps outputs m bases valuesLent figuresLent) (counts steps)
+  receive_answer values_lent figures_lent =
+      answer (verify_rule p steps outputs amounts scratch then run_rule p steps outputs m bases values_lent figures_lent) (counts steps)
 
   unfoldable pub receive_values : ℕ → List ℕ → List ℕ
-  receive_values figuresLent old = on_fine (verify_rule p steps outputs amounts scratch) (run_values p steps outputs m bases figuresLent old) old
+  receive_values figures_lent old = on_fine (verify_rule p steps outputs amounts scratch) (run_values p steps outputs m bases figures_lent old) old
 
   unfoldable pub receive_figures : ℕ → List ℕ → List ℕ
-  receive_figures valuesLent old = on_fine (verify_rule p steps outputs amounts scratch) (run_figures p steps outputs m bases valuesLent old) old
+  receive_figures values_lent old = on_fine (verify_rule p steps outputs amounts scratch) (run_figures p steps outputs m bases values_lent old) old
 
 -- the answer and the three slices, which were scratch, values and figures before
 pub record Received (p : ℕ) (steps : List Step) (outputs amounts : List ℕ) (m : ℕ) (bases scratch values figures : List ℕ) (a : Answer)

@@ -14,4 +14,4 @@ start_rule p q n m bases =
 
 -- 5 for figures: fewer are lent than there are outputs
 unfoldable pub figures_rule : ℕ → ℕ → Verdict
-figures_rule outputs figuresLent = refuse_if (figuresLent <? outputs) 5 0
+figures_rule outputs figures_lent = refuse_if (figures_lent <? outputs) 5 0

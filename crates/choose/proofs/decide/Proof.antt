@@ -1,4 +1,4 @@
--- What is lent is judged first; enough of it stays enough, since no slice changes its length, so both files are judged, and `choice-made` puts the verdicts together.
+-- What is lent is judged first; enough of it stays enough, since no slice changes its length, so both files are judged, and `choice_made` puts the verdicts together.
 use borrow.Author.Rules.{rules}
 use mathlib.Core.Path.{◌≡◌, ◌∙◌}
 use Prim.Native.Nat.{◌/◌}

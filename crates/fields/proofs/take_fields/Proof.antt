@@ -1,4 +1,4 @@
--- A short file's fields are those of the copy that begins with it (`long-taken`).
+-- A short file's fields are those of the copy that begins with it (`long_taken`).
 use native.Mathlib.Omega.{arith}
 use borrow.Author.Rules.{rules}
 use Rattle.fields.proofs.Taking.{long_room, long_taken}

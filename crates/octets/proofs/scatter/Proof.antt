@@ -1,4 +1,4 @@
--- Each return follows one more stored byte than the one before; the bytes stored so far are the first ones of the word (`stored_one` to `stored-four`).
+-- Each return follows one more stored byte than the one before; the bytes stored so far are the first ones of the word (`stored_one` to `stored_four`).
 use native.Mathlib.Omega.{arith}
 use lib.ListN.{length-set}
 use Rattle.octets.proofs.Spread.{stored_one, stored_two, stored_three, stored_four}

@@ -1,4 +1,4 @@
--- What each byte's digits say, at its weight, adds up to the amount (`amount-said`). Nothing overflows, whatever the half-bytes are.
+-- What each byte's digits say, at its weight, adds up to the amount (`amount_said`). Nothing overflows, whatever the half-bytes are.
 use borrow.Author.Rules.{rules}
 use mathlib.Core.Path.{sym, ap, ◌∙◌}
 use native.Mathlib.Omega.{arith}

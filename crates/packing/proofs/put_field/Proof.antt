@@ -1,4 +1,4 @@
--- The five bytes stored are those of the amount's field (`field-parted`), laid one after the other.
+-- The five bytes stored are those of the amount's field (`field_parted`), laid one after the other.
 use borrow.Author.Rules.{rules}
 use mathlib.Core.Path.{sym, ap, ◌∙◌}
 use mathlib.Core.List.{List}

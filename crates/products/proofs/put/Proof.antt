@@ -1,4 +1,4 @@
--- The larger operand is stored first, and the step is counted if the two are equal (`put-ordered`).
+-- The larger operand is stored first, and the step is counted if the two are equal (`put_ordered`).
 use borrow.Author.Rules.{rules}
 use native.Mathlib.Omega.{arith}
 use lib.ListN.{length-set}

@@ -1,4 +1,4 @@
--- Each return is one rule of `bodyRule` that refuses; once the length is right the extent lies within the bytes, and the rest is the chain's judge.
+-- Each return is one rule of `body_rule` that refuses; once the length is right the extent lies within the bytes, and the rest is the chain's judge.
 use mathlib.Core.Path.{ap, ◌∙◌}
 use Rattle.chain.specs.Verdict.{Verdict}
 use Rattle.chain.specs.Chain.{chain_rule, squarings_of}

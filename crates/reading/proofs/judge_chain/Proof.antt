@@ -1,4 +1,4 @@
--- A short file's chain is that of the copy that begins with it (`long-judged`).
+-- A short file's chain is that of the copy that begins with it (`long_judged`).
 use native.Mathlib.Omega.{arith}
 use borrow.Author.Rules.{rules}
 use Rattle.reading.proofs.Judging.{long_contained, long_judged}

@@ -1,4 +1,4 @@
--- Each return is one rule of `headerRule`; where none refuses, n is within the limit, and the extent is that of the header's numbers.
+-- Each return is one rule of `header_rule`; where none refuses, n is within the limit, and the extent is that of the header's numbers.
 use mathlib.Core.Path.{sym}
 use Prim.Native.Nat.{◌≤◌}
 use Rattle.chain.proofs.Rules.{judging, told_fine}

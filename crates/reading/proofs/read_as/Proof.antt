@@ -1,4 +1,4 @@
--- The header's judge refuses, or hands on the extent by which the body is read; `file-read` puts the two rules together.
+-- The header's judge refuses, or hands on the extent by which the body is read; `file_read_lem` puts the two rules together.
 use Rattle.reading.proofs.ReadAnswers.{not_found, found, found_proper, file_refused, file_read_lem}
 use borrow.Author.Rules.{rules}
 use Rattle.reading.proofs.read_as.Statement.{statement}

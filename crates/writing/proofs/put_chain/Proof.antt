@@ -1,4 +1,4 @@
--- The header, the steps and the outputs are put one after the other; each finds room because the whole file has it, and together they are the file (`file-stored`).
+-- The header, the steps and the outputs are put one after the other; each finds room because the whole file has it, and together they are the file (`file_stored`).
 use lib.ListN.{length}
 use Rattle.writing.specs.Inner.{ToWrite}
 use Rattle.writing.proofs.Writing.{header_fill, twice_fits, steps_room, outputs_room, file_stored}

@@ -1,4 +1,4 @@
--- Four fields are put one after the other, each where the one before ended; `header-stored` joins them.
+-- Four fields are put one after the other, each where the one before ended; `header_stored` joins them.
 use Rattle.writing.proofs.Writing.{header_stored}
 use borrow.Author.Rules.{rules}
 use Rattle.writing.proofs.put_header.Statement.{statement}

@@ -1,4 +1,4 @@
--- Shifts put the byte's head and the field side by side in one word, and `put-stored` says that its bytes are the buffer with the field added.
+-- Shifts put the byte's head and the field side by side in one word, and `put_stored` says that its bytes are the buffer with the field added.
 use native.Mathlib.Omega.{arith}
 use Rattle.bits.proofs.Put.{head_low, put_stored}
 use borrow.Author.Rules.{rules}

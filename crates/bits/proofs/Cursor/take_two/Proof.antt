@@ -1,4 +1,4 @@
--- Eight bytes that cover both fields are shifted and cut to each (`two-taken`).
+-- Eight bytes that cover both fields are shifted and cut to each (`two_taken`).
 use native.Mathlib.Omega.{arith}
 use Rattle.bits.proofs.Take.{one_shl_pos, two_taken}
 use borrow.Author.Rules.{rules}

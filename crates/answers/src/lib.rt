@@ -1,5 +1,6 @@
 // What each call answers: its values, or a refusal with its number and its place, 0 for none (Spec 10.6).
 #![tactic(auto)]
+
 ghost use Rattle.std.specs.Prelude.{◌≡◌, [], ◌∷◌, ◌-◌, ◌≤◌};
 ghost use Rattle.answers.specs.Answers.{counts_in};
 

@@ -1,5 +1,6 @@
 // Bit fields, most significant bit first.
 #![tactic(auto)]
+
 ghost use Rattle.std.specs.Prelude.{◌≡◌, ◌+◌, ◌-◌, ◌*◌, ◌/◌, ◌≤◌, ◌<◌, min, length};
 ghost use Rattle.chain.specs.Written.{over};
 ghost use Rattle.bits.specs.Bits.{bits};

@@ -1,6 +1,7 @@
 // Chains: their limits, their steps, and their values picked by outputs. The rules that chains are judged by, and the laws of legal chains and of
 // exponents, stand beside in specs and proofs. Nothing here knows of methods, files or residues.
 #![tactic(auto)]
+
 ghost use Rattle.std.specs.Prelude.{◌≡◌, ◌+◌, ◌*◌, ◌<◌, length};
 ghost use Rattle.chain.specs.Chain.{by, pick};
 ghost use Rattle.chain.specs.Written.{over};

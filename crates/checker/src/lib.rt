@@ -1,5 +1,6 @@
 // The check of a chain whose steps are lent flat.
 #![tactic(auto)]
+
 ghost use Rattle.std.specs.Prelude.{◌≡◌, ◌+◌, ◌/◌, length, take};
 ghost use Rattle.chain.specs.Verdict.{◌then◌};
 ghost use Rattle.chain.specs.Chain.{pairs, values, exponents, squarings_of};

@@ -1,5 +1,6 @@
 // The choice between two files, by number.
 #![tactic(auto)]
+
 ghost use Rattle.std.specs.Prelude.{◌≡◌, ◌/◌, length};
 ghost use Rattle.chain.specs.Judgement as judgement;
 ghost use Rattle.answers.specs.Answers.{choice_of};
@@ -26,7 +27,7 @@ fn judge_lent(
     outputs: usize,
     numbers: usize,
 ) -> Judgement
-    ensures { judgement.verdictOf result ≡ choose_rule p q amounts.now pairs outputs numbers }
+    ensures { judgement.verdict_of result ≡ choose_rule p q amounts.now pairs outputs numbers }
 {
     match sheet::judge_sheet(p, q, amounts) {
         Judgement::Refused(number, place) => {

@@ -1,5 +1,6 @@
 // The better of two files, handed back as the lender's own bytes.
 #![tactic(auto)]
+
 ghost use Rattle.std.specs.Prelude.{◌/◌, length};
 ghost use Rattle.choose.specs.Choose.{choice, Handed};
 

@@ -1,5 +1,6 @@
 // A level of output clumping closed: the clumps and the overflow of each output, multiplied.
 #![tactic(auto)]
+
 ghost use Rattle.products.specs.Inner.{steps_in};
 ghost use Rattle.clumps.specs.Levels.{products};
 ghost use Rattle.row_products.specs.Inner.{Done};

@@ -1,5 +1,6 @@
 // A column of the check: its beginning, what is taken up once its sums stand in the scratch, and the end of the check.
 #![tactic(auto)]
+
 ghost use Rattle.std.specs.Prelude.{◌≡◌, ◌+◌, ◌≤◌, ◌<◌, length, replicate};
 ghost use Rattle.chain.specs.Written.{over};
 ghost use Rattle.verify.specs.Verify.{first_other};

@@ -1,5 +1,6 @@
 // From a sheet to a chain by one of the methods.
 #![tactic(auto)]
+
 ghost use Rattle.std.specs.Prelude.{◌≡◌, ◌/◌, ◌≤◌, length};
 ghost use Rattle.chain.specs.Chain.{most_columns};
 ghost use Rattle.chain.specs.Verdict.{fine};

@@ -1,5 +1,6 @@
 // What sums and maxima over ranges are made of.
 #![tactic(auto)]
+
 ghost use Rattle.std.specs.Prelude.{◌≡◌, ◌+◌, ◌-◌, max};
 ghost use Rattle.digits.specs.Range.{sign};
 

@@ -75,13 +75,13 @@ module _ (old : List ℕ) (at m : ℕ) (l : Pair) (keys rest : ℕ) (asked : Cut
 
   module _ (j k r : ℕ) (s : List ℕ) (d : Done j k r s) where
     keys_above : keys + m + 1 ≤ k
-    keys_above = omega (arith, d.keys-rows.between 0 (omega arith))
+    keys_above = omega (arith, d.keys_rows.between 0 (omega arith))
 
     rest_above : rest + m + 1 ≤ r
     rest_above = omega (arith, d.rest_rows.between 0 (omega arith))
 
     r_low : r ≤ rest + m + 1 + members
-    r_low = omega (arith, d.whole, rest_above, below j d.keys-rows.some)
+    r_low = omega (arith, d.whole, rest_above, below j d.keys_rows.some)
 
     -- the rows to be cut are not among the cells written
     unwritten : (c : ℕ) → at ≤ c → c < end → get_or s c 0 ≡ get_or old c 0
@@ -93,7 +93,7 @@ module _ (old : List ℕ) (at m : ℕ) (l : Pair) (keys rest : ℕ) (asked : Cut
 
     pub all_cut : m ≤ j → (e : Ends) → e.keys ≡ k → e.rest ≡ r → RowsCut at m l keys rest e old s
     all_cut h e ek er =
-        let last : j ≡ m = omega (arith, d.keys-rows.some) in
+        let last : j ≡ m = omega (arith, d.keys_rows.some) in
         rows_cut e ek er (rw last at d)
       where
         rows_cut : (e : Ends) → e.keys ≡ k → e.rest ≡ r → Done m k r s → RowsCut at m l keys rest e old s
@@ -101,12 +101,12 @@ module _ (old : List ℕ) (at m : ℕ) (l : Pair) (keys rest : ℕ) (asked : Cut
             rw (ek, er)
             (record {
               apart = d.apart;
-              keys_formed = (rows_all keys m (keys_of old at m a b keys rest) k s d.keys-rows).0;
+              keys_formed = (rows_all keys m (keys_of old at m a b keys rest) k s d.keys_rows).0;
               rest_formed = (rows_all rest m (rest_of old at m a b keys rest) r s d.rest_rows).0;
               whole = d.whole;
               keys_low = d.keys_low;
               clumps = λ n i h g.
-                  d.keys-rows.are i h
+                  d.keys_rows.are i h
                   ∙ ap (map (key_in a)) (clumps_any a b (omega (arith, asked.some, asked.within)) (2 ^ 24) n (row_at old at i) (asked.rising i h) g);
               overflow = λ n i h g.
                   d.rest_rows.are i h ∙ overflow_any a b (omega (arith, asked.some, asked.within)) (2 ^ 24) n (row_at old at i) (asked.rising i h) g;
@@ -201,7 +201,7 @@ module _ (old : List ℕ) (at m : ℕ) (l : Pair) (keys rest : ℕ) (asked : Cut
         ends_fit = (
           omega (arith, k_low, r_inside, rest_above, cut.rest_rise, asked.fits, d.apart.size),
           omega (arith, r_inside, asked.fits, d.apart.size),
-          omega (arith, keys_above, d.keys-rows.inside, cut.size),
+          omega (arith, keys_above, d.keys_rows.inside, cut.size),
           omega (arith, rest_above, d.rest_rows.inside, cut.size),
         )
 
@@ -214,7 +214,7 @@ module _ (old : List ℕ) (at m : ℕ) (l : Pair) (keys rest : ℕ) (asked : Cut
         k_rows : RowsTo keys m (j + 1) k' (keys_of old at m a b keys rest) new
         k_rows =
             subst (RowsTo keys m (j + 1) k' (keys_of old at m a b keys rest)) (set_comm mid rest_place keys_place r' k' differ)
-            (rows_more keys m (keys_of old at m a b keys rest) j k k' s (set mid rest_place r') d.keys-rows less
+            (rows_more keys m (keys_of old at m a b keys rest) j k k' s (set mid rest_place r') d.keys_rows less
             (λ c h g. get_or-set_other mid rest_place c r' 0 (λ q. omega (arith, d.keys_low)) ∙ cut.before c g)
             cut.keys_rise inside
             (slice_same k k' (set mid rest_place r') mid inside (rw (length-set mid rest_place r') at inside)

@@ -1,5 +1,6 @@
 // Rows cut into clumps and overflow: in each part the numbers are taken so many at a time, and the rest is left over.
 #![tactic(auto)]
+
 ghost use Rattle.std.specs.Prelude.{◌≡◌, ◌+◌, ◌-◌, ◌*◌, ◌^◌, ◌≤◌, ◌<◌, length};
 ghost use Rattle.clumps.specs.Clumps.{most_part};
 ghost use Rattle.cuts.specs.Inner.{CutAsked, RowsCut};

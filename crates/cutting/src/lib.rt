@@ -1,5 +1,6 @@
 // A payslip's bits in a row, column after column, cut into the parts of the groups.
 #![tactic(auto)]
+
 ghost use Rattle.std.specs.Prelude.{◌≡◌, ◌+◌, ◌%◌, ◌^◌, ◌≤◌, ◌<◌, length};
 ghost use Rattle.chain.specs.Written.{over};
 ghost use Rattle.groups.specs.Groups.{most_members};

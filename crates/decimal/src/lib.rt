@@ -1,5 +1,6 @@
 // Text written into a lent slice part by part: numbers in decimal, and words as they are.
 #![tactic(auto)]
+
 ghost use Rattle.std.specs.Prelude.{◌+◌, ◌≤◌, length};
 ghost use Rattle.decimal.specs.Decimal.{decimal};
 ghost use Rattle.decimal.specs.Inner.{Put};

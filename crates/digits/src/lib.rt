@@ -1,5 +1,6 @@
 // Digits of numbers in base 2^k, and powers of two.
 #![tactic(auto)]
+
 ghost use Rattle.std.specs.Prelude.{◌≡◌, ◌*◌, ◌^◌, ◌≤◌, ◌<◌};
 ghost use Rattle.digits.specs.Digits.{digit_count, digit};
 ghost use Rattle.digits.specs.Inner.{CountAsked};

@@ -1,5 +1,6 @@
 // A chain sent off: written, and read back from exactly the bytes counted.
 #![tactic(auto)]
+
 ghost use Rattle.chain.specs.Chain.{pairs};
 ghost use Rattle.answers.specs.Answers.{read_of};
 ghost use Rattle.dispatch.specs.Inner.{Dispatched};

@@ -1,5 +1,6 @@
 // What stands at the two ends of a text: its byte order mark, and the newline that closes it.
 #![tactic(auto)]
+
 ghost use Rattle.std.specs.Prelude.{◌≡◌};
 ghost use Rattle.places.specs.Places.{mark_length, is_cut};
 

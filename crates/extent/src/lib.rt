@@ -1,5 +1,6 @@
 // How wide the numbers of a chain's file are and how long it is, from the chain's sizes alone.
 #![tactic(auto)]
+
 ghost use Rattle.std.specs.Prelude.{◌≡◌};
 ghost use Rattle.layout.specs.Layout.{edition1};
 ghost use Rattle.layout.specs.File.{extent_answer};

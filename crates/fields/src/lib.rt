@@ -1,5 +1,6 @@
 // Lists of numbers as bit fields of one width.
 #![tactic(auto)]
+
 ghost use Rattle.std.specs.Prelude.{◌≡◌, ◌*◌, take};
 ghost use Rattle.bits.specs.Bits.{fields};
 ghost use Rattle.bits.specs.Inner.{FieldStored};

@@ -1,5 +1,6 @@
 // The squarings, the inputs that they make, and the groups' tables.
 #![tactic(auto)]
+
 ghost use Rattle.std.specs.Prelude.{◌≡◌, ◌+◌, ◌^◌, ◌≤◌, ◌<◌, length};
 ghost use Rattle.chain.specs.Chain.{most_columns};
 ghost use Rattle.chain.specs.Written.{over, laid};

@@ -54,7 +54,7 @@ module _ (bits : ℕ → ℕ) where
       by_place : (j < sum_to n bits → Place n j) → Dec (j < sum_to n bits) → Place (suc n) j
       by_place ih (yes lt) =
           let r = ih lt in
-          record { column = r.column; power = r.power; column_low = omega (arith, r.column_low); power_low = r.power-low; here = r.here }
+          record { column = r.column; power = r.power; column_low = omega (arith, r.column_low); power_low = r.power_low; here = r.here }
       by_place ih (no ge) =
           record { column = n; power = j - sum_to n bits; column_low = omega arith; power_low = omega arith; here = omega arith }
 

@@ -43,7 +43,7 @@ module _ (p q : ℕ) (amounts : List ℕ) where
   selection_two i j h =
       let f : ℕ → ℕ → ℕ = λ col k. digit 1 (amount p amounts i col) k in
       let r : Place bits p j = place bits p j (omega (arith, length_over bits f p)) in
-      rw (r.here, get_d_over bits f p r.column r.power r.column_low r.power-low) (digit_low 1 (amount p amounts i r.column) r.power)
+      rw (r.here, get_d_over bits f p r.column r.power r.column_low r.power_low) (digit_low 1 (amount p amounts i r.column) r.power)
 
   -- where the payslip is all 0 it takes none
   pub selection_none : (i : ℕ) → ((d : ℕ) → d < p → amount p amounts i d ≡ 0)
@@ -52,7 +52,7 @@ module _ (p q : ℕ) (amounts : List ℕ) where
   selection_none i none j h =
       let f : ℕ → ℕ → ℕ = λ col k. digit 1 (amount p amounts i col) k in
       let r : Place bits p j = place bits p j (omega (arith, length_over bits f p)) in
-      rw (r.here, get_d_over bits f p r.column r.power r.column_low r.power-low, none r.column r.column_low)
+      rw (r.here, get_d_over bits f p r.column r.power r.column_low r.power_low, none r.column r.column_low)
       (digit_zero 1 r.power)
 
   pub members_some : (j : ℕ) → j < length (inputs p q amounts) → 0 < get_or (inputs p q amounts) j 0
@@ -60,7 +60,7 @@ module _ (p q : ℕ) (amounts : List ℕ) where
   members_some j h =
       let n : ℕ → ℕ = column_squarings p q amounts in
       let r : Place bits p j = place bits p j (omega (arith, length_over bits (power_of p n) p)) in
-      rw (r.here, get_d_over bits (power_of p n) p r.column r.power r.column_low r.power-low) (power_some p n r.column r.power)
+      rw (r.here, get_d_over bits (power_of p n) p r.column r.power r.column_low r.power_low) (power_some p n r.column r.power)
 
   -- each input makes its power
   pub members_make : (limit : ℕ) → Powers p limit (column_squarings p q amounts) p
@@ -74,9 +74,9 @@ module _ (p q : ℕ) (amounts : List ℕ) where
       each : (j : ℕ) → Place bits p j
           → Makes p (squarings p n p) (get_or (over_inputs bits (power_of p n) p) j 0) (λ d. get_or (over_inputs bits (λ col i. delta col d * 2 ^ i) p) j 0)
       each j r =
-          rw (r.here, get_d_over bits (power_of p n) p r.column r.power r.column_low r.power-low)
-          (makes_like p _ _ _ _ (λ d h. sym (get_d_over bits (λ col i. delta col d * 2 ^ i) p r.column r.power r.column_low r.power-low))
-          (made.makes r.column r.power r.column_low (omega (arith, r.power-low))))
+          rw (r.here, get_d_over bits (power_of p n) p r.column r.power r.column_low r.power_low)
+          (makes_like p _ _ _ _ (λ d h. sym (get_d_over bits (λ col i. delta col d * 2 ^ i) p r.column r.power r.column_low r.power_low))
+          (made.makes r.column r.power r.column_low (omega (arith, r.power_low))))
 
   -- a sum over the inputs that looks at one column sees that column's powers alone
   one_column : (f : ℕ → ℕ → ℕ) (d : ℕ) → d < p
@@ -111,7 +111,7 @@ module _ (p q : ℕ) (amounts : List ℕ) where
       one j g =
           let r : Place bits p j = place bits p j g in
           let is : get_or (over_inputs bits (λ col i. 1) p) j 0 ≡ 1 =
-          ap (λ (k : ℕ). get_or (over_inputs bits (λ col i. 1) p) k 0) r.here ∙ get_d_over bits (λ col i. 1) p r.column r.power r.column_low r.power-low in
+          ap (λ (k : ℕ). get_or (over_inputs bits (λ col i. 1) p) k 0) r.here ∙ get_d_over bits (λ col i. 1) p r.column r.power r.column_low r.power_low in
           rw is (one-mul (exponent_in j d))
 
       ones : (n : ℕ) → sum_to n (λ i. 1 * 2 ^ i) < 2 ^ n

@@ -1,5 +1,6 @@
 // Method 3 up to its groups' tables: the columns' bits, the inputs and their groups.
 #![tactic(auto)]
+
 ghost use Rattle.std.specs.Prelude.{◌≤◌, length, take};
 ghost use Rattle.digits.specs.Range.{sum_to};
 ghost use Rattle.groups.specs.Groups.{group_count, most_inputs, most_members};

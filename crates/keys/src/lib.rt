@@ -1,5 +1,6 @@
 // A clump's key, one number by which clumps are told apart and put in order, and the clumps of keys.
 #![tactic(auto)]
+
 ghost use Rattle.std.specs.Prelude.{◌≡◌, ◌+◌, ◌-◌, get_or};
 ghost use Rattle.std.proofs.Math.Seq.{slice};
 ghost use Rattle.rows.specs.Inner.{RowsOver};

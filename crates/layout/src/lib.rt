@@ -1,5 +1,6 @@
 // The layout of a chain's file, as a value, and what a chain's sizes come to in it.
 #![tactic(auto)]
+
 ghost use Rattle.std.specs.Prelude.{◌≡◌};
 ghost use Rattle.layout.specs.Layout.{edition1};
 ghost use Rattle.layout.specs.Inner.{LayoutHolds, extent_of};

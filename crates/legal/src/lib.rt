@@ -1,5 +1,6 @@
 // The steps and outputs of a chain, judged in their order: each step, then 12 of an output.
 #![tactic(auto)]
+
 ghost use Rattle.std.specs.Prelude.{◌≡◌, ◌/◌, length};
 ghost use Rattle.chain.specs.Chain.{by, pairs, steps_rule, outputs_rule, chain_rule, squarings_of};
 ghost use Rattle.chain.specs.Judgement.{verdict_of, counted_of};

@@ -1,5 +1,6 @@
 // The cut of one level: rows of indices cut into clumps and overflow, equal clumps made one, and all of them put in order.
 #![tactic(auto)]
+
 ghost use Rattle.std.specs.Prelude.{◌≡◌, ◌*◌, ◌^◌, ◌≤◌, ◌<◌};
 ghost use Rattle.clumps.specs.Clumps.{most_part};
 ghost use Rattle.groups.specs.Groups.{group_count};

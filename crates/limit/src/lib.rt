@@ -1,5 +1,6 @@
 // Numbers held against a limit: the first that is above it is refused.
 #![tactic(auto)]
+
 ghost use Rattle.std.specs.Prelude.{◌≡◌};
 ghost use Rattle.chain.specs.Chain.{limit_rule};
 ghost use Rattle.chain.specs.Judgement.{verdict_of};

@@ -1,5 +1,6 @@
 // The lines of a text, and what a table's line has: its separators, its fields, its digits.
 #![tactic(auto)]
+
 ghost use Rattle.std.specs.Prelude.{◌≡◌, ◌+◌, ◌≤◌, length, drop};
 ghost use Rattle.lines.specs.Lines.{content_length, content_of, same_unit, digit_unit, tally_of, parting_of, separators_in, fields_in, head_of};
 ghost use Rattle.lines.specs.Inner.{until_newline, Low, TallyAsked, blank_unit, begun, tallied};

@@ -1,5 +1,6 @@
 // The listing of a file, as text.
 #![tactic(auto)]
+
 ghost use Rattle.std.specs.Prelude.{◌≡◌, [], ◌∷◌, ◌+◌, ◌*◌, ◌≤◌, length, get_or};
 ghost use Rattle.chain.specs.Verdict.{answer};
 ghost use Rattle.chain.specs.Written.{over, laid};

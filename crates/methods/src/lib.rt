@@ -1,5 +1,6 @@
 // What the methods share: what they tell of a chain before it is made, and powers of the bases.
 #![tactic(auto)]
+
 ghost use Rattle.std.specs.Prelude.{◌≡◌, ◌+◌, ◌^◌, ◌≤◌, ◌<◌, length};
 ghost use Rattle.chain.specs.Chain.{most_columns};
 ghost use Rattle.products.specs.Inner.{WithRoom, begun, StepsRoom, StepsStored};

@@ -1,5 +1,6 @@
 // A text of numbers, read.
 #![tactic(auto)]
+
 ghost use Rattle.std.specs.Prelude.{◌≡◌, length};
 ghost use Rattle.chain.specs.Written.{over};
 ghost use Rattle.places.specs.Places.{number_told, words_told};

@@ -1,5 +1,6 @@
 // The bytes of a number, stored into a buffer, the highest first.
 #![tactic(auto)]
+
 ghost use Rattle.std.specs.Prelude.{◌≡◌, ◌+◌, ◌*◌, ◌%◌, ◌^◌, ◌≤◌, ◌<◌, length, take};
 ghost use Rattle.chain.specs.Written.{laid};
 ghost use Rattle.octets.specs.Inner.{spread};

@@ -1,5 +1,6 @@
 // A level of output clumping opened: the outputs of each input, cut; the clumps; and the next level's outputs.
 #![tactic(auto)]
+
 ghost use Rattle.opening.specs.Inner.{OpenAsked, OutputsOpened};
 
 use cuts::Pair;

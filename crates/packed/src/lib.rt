@@ -1,5 +1,6 @@
 // Packed decimal: the fields of a slice of bytes, judged and read.
 #![tactic(auto)]
+
 ghost use Rattle.std.specs.Prelude.{◌≡◌, ◌+◌, ◌/◌, ◌≤◌, length};
 ghost use Rattle.chain.specs.Judgement.{verdict_of};
 ghost use Rattle.digits.specs.Inner.{Bounded};

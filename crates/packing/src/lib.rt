@@ -1,5 +1,6 @@
 // A sheet written as packed fields.
 #![tactic(auto)]
+
 ghost use Rattle.std.specs.Prelude.{◌≡◌, ◌<◌, length};
 ghost use Rattle.chain.specs.Judgement.{verdict_of};
 ghost use Rattle.chain.specs.Written.{over, laid};

@@ -1,11 +1,5 @@
-pub mod Again
-pub mod Calls
 pub mod Checking
-pub mod Counts
-pub mod Facts
 pub mod Folded
 pub mod Judged
-pub mod Machine
-pub mod Passes
 pub mod Running
 pub mod Tasks

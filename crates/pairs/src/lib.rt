@@ -1,5 +1,6 @@
 // The check and the run of a chain that is lent as a slice of steps: the steps are gone through as they stand, with one task or another.
 #![tactic(auto)]
+
 ghost use Rattle.std.specs.Prelude.{◌≡◌, ◌+◌, ◌≤◌, ◌<◌, length};
 ghost use Rattle.chain.specs.Verdict.{fine, ◌then◌, on_fine};
 ghost use Rattle.chain.specs.Judgement.{verdict_of};
@@ -172,7 +173,7 @@ fn run_end(task: Task, n: usize, outputs: &[u32], values: &mut [u32], figures: &
 
 // A check before its steps: they are to be judged.
 fn check_open(p: usize, q: usize, n: usize, amounts: &[u32]) -> Task
-    ensures { result ≡ unless (verify.startRule p q n amounts.now) (Judging p 0) }
+    ensures { result ≡ unless (verify.start_rule p q n amounts.now) (Judging p 0) }
 {
     unless(verify::judge_start(p, q, n, amounts), Task::Judging(p, 0))
 }

@@ -1,5 +1,6 @@
 // The number of a method, and its own range of parameters.
 #![tactic(auto)]
+
 ghost use Rattle.std.specs.Prelude.{◌≡◌, ◌≤◌};
 ghost use Rattle.chain.specs.Chain.{most_columns};
 ghost use Rattle.chain.specs.Judgement.{verdict_of};

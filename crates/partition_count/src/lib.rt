@@ -1,5 +1,6 @@
 // Method 3, partition: the number of steps and its ceiling, without making the steps.
 #![tactic(auto)]
+
 ghost use Rattle.std.specs.Prelude.{◌-◌, ◌*◌, ◌≤◌, length};
 ghost use Rattle.digits.specs.Range.{sum_to, sign};
 ghost use Rattle.methods.specs.Powers.{counts_of};

@@ -1,5 +1,6 @@
 // Method 3, partition: the chain's squarings and tables, then its payslips.
 #![tactic(auto)]
+
 ghost use Rattle.products.specs.Inner.{steps_in, WithRoom, StepsRoom, Emitted};
 ghost use Rattle.methods.specs.Inner.{AskedByLargest, ChainRoom, ChainStored, PayslipsRoom};
 ghost use Rattle.methods.specs.Powers.{counts_of};

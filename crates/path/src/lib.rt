@@ -1,5 +1,6 @@
 // The whole path from a sheet to its figures, as one function of five calls.
 #![tactic(auto)]
+
 ghost use Rattle.std.specs.Prelude.{◌≡◌};
 ghost use Rattle.path.specs.Path.{lent, path_answer, path_leaves};
 ghost use Rattle.path.specs.Demand3.{Demand3};

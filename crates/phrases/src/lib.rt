@@ -1,5 +1,6 @@
 // The refusals in words: the one place of their wording.
 #![tactic(auto)]
+
 ghost use Rattle.std.specs.Prelude.{◌≡◌, ◌-◌, ◌≤◌, length, take, drop};
 ghost use Rattle.chain.specs.Written.{over};
 ghost use Rattle.phrases.specs.Phrases.{phrase_number, phrase_words, phrase_text};

@@ -1,5 +1,6 @@
 // What a text answers, and where a place of a text is.
 #![tactic(auto)]
+
 ghost use Rattle.std.specs.Prelude.{◌≡◌, ◌+◌, ◌^◌, ◌<◌};
 ghost use Rattle.places.specs.Places.{after_byte, spot_of, cut_text, refused_at};
 

@@ -1,5 +1,6 @@
 // Two chains that are to be one, judged: each as it stands and both together.
 #![tactic(auto)]
+
 ghost use Rattle.std.specs.Prelude.{◌≡◌, ◌+◌, ◌/◌, length};
 ghost use Rattle.chain.specs.Judgement.{verdict_of, counted_of};
 ghost use Rattle.chain.specs.Chain.{pairs, squarings_of};

@@ -1,6 +1,7 @@
 // Products in the making: steps go into a lent flat slice, first and second in turn; the numbers of steps and of values say where. Squarings are counted
 // as they are put.
 #![tactic(auto)]
+
 ghost use Rattle.std.specs.Prelude.{◌≡◌, [], ◌∷◌, ◌++◌};
 ghost use Rattle.products.specs.Product.{ordered, times, squared};
 ghost use Rattle.products.specs.Inner.{steps_in, product_in, MoreRoom, StepsRoom, StepsStored, Emitted};

@@ -1,5 +1,6 @@
 // The number of steps of what a method makes of a sheet, and its ceiling, by the method's number.
 #![tactic(auto)]
+
 ghost use Rattle.std.specs.Prelude.{◌≡◌, ◌*◌, ◌≤◌, length};
 ghost use Rattle.chain.specs.Chain.{most_columns};
 ghost use Rattle.chain.specs.Verdict.{fine};

@@ -1,5 +1,6 @@
 // Rows of two kinds made into one: each row of the first, and behind it the row of the second with its numbers raised.
 #![tactic(auto)]
+
 ghost use Rattle.std.specs.Prelude.{◌≡◌, ◌+◌, get_or};
 ghost use Rattle.rows.specs.Inner.{RowsOver};
 ghost use Rattle.raising.specs.Inner.{RaiseAsked, Raised};

@@ -1,5 +1,6 @@
 // A file's bytes and a bit position in them together: the next field, and the next fields of one width.
 #![tactic(auto)]
+
 ghost use Rattle.std.specs.Prelude.{◌≡◌};
 ghost use Rattle.bits.specs.Inner.{FieldRoom, FieldTaken};
 ghost use Rattle.fields.specs.Inner.{FieldsRoom, FieldsTaken};

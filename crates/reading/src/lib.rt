@@ -1,5 +1,6 @@
 // The file of a chain, read.
 #![tactic(auto)]
+
 ghost use Rattle.std.specs.Prelude.{◌≡◌, ◌+◌, ◌*◌, ◌/◌, length};
 ghost use Rattle.chain.specs.Judgement.{verdict_of, counted_of};
 ghost use Rattle.chain.specs.Chain.{steps_rule, outputs_rule, squarings_of};

@@ -1,5 +1,6 @@
 // A chain received: checked against its sheet, then run.
 #![tactic(auto)]
+
 ghost use Rattle.chain.specs.Chain.{pairs};
 ghost use Rattle.answers.specs.Answers.{ran_of};
 ghost use Rattle.receive.specs.Inner.{Received};

@@ -1,5 +1,6 @@
 // Residues: the product of two numbers modulo a third, without a division.
 #![tactic(auto)]
+
 ghost use Rattle.std.specs.Prelude.{◌≡◌, ◌*◌, ◌/◌, ◌^◌, ◌<◌};
 ghost use Rattle.residue.specs.Residue.{times_mod};
 ghost use Rattle.residue.specs.Inner.{inverse_of, TimesAsked};

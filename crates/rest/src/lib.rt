@@ -1,5 +1,6 @@
 // A chain judged from its steps on, by a call that is lent cells for its values: the steps, 12, then 5.
 #![tactic(auto)]
+
 ghost use Rattle.std.specs.Prelude.{◌≡◌, ◌/◌, length};
 ghost use Rattle.chain.specs.Verdict.{fine, ◌then◌};
 ghost use Rattle.chain.specs.Chain.{pairs, squarings_of};

@@ -1,5 +1,6 @@
 // Products of rows of places, made in front of the slice in which the rows stand.
 #![tactic(auto)]
+
 ghost use Rattle.std.specs.Prelude.{◌+◌};
 ghost use Rattle.std.proofs.Math.Seq.{slice};
 ghost use Rattle.products.specs.Product.{made};

@@ -1,6 +1,7 @@
 // The run of a chain over residues, in what the flat form and the form over step structs share: what is found before and after the steps, and the
 // values that stand before the first of them.
 #![tactic(auto)]
+
 ghost use Rattle.std.specs.Prelude.{◌≡◌, ◌∷◌, ◌+◌, ◌%◌, ◌≤◌, ◌<◌, length};
 ghost use Rattle.chain.specs.Verdict.{◌then◌};
 ghost use Rattle.chain.specs.Judgement.{verdict_of};

@@ -1,5 +1,6 @@
 // The run of a chain whose steps are lent flat.
 #![tactic(auto)]
+
 ghost use Rattle.std.specs.Prelude.{◌≡◌, ◌+◌, length, take};
 ghost use Rattle.chain.specs.Judgement.{counted_of};
 ghost use Rattle.chain.specs.Written.{over};

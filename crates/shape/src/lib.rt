@@ -1,5 +1,6 @@
 // The sizes of a chain, judged: 1 for p or q out of range, 4 for too many steps.
 #![tactic(auto)]
+
 ghost use Rattle.std.specs.Prelude.{◌≡◌};
 ghost use Rattle.chain.specs.Chain.{sizes_rule, length_rule, shape_rule};
 ghost use Rattle.chain.specs.Judgement.{verdict_of};

@@ -1,5 +1,6 @@
 // Sheets: the number of amounts, and an amount by its payslip and column.
 #![tactic(auto)]
+
 ghost use Rattle.std.specs.Prelude.{◌≡◌, ◌+◌, ◌*◌, ◌<◌, length};
 ghost use Rattle.chain.specs.Judgement.{verdict_of};
 ghost use Rattle.chain.specs.Inner.{SizesLow};

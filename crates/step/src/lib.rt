@@ -1,5 +1,6 @@
 // A step, judged: 9, 10, 11; or counted, if it is legal.
 #![tactic(auto)]
+
 ghost use Rattle.std.specs.Prelude.{◌≡◌};
 ghost use Rattle.chain.specs.Chain.{by, step_rule};
 ghost use Rattle.chain.specs.Judgement.{verdict_of};

@@ -1,5 +1,6 @@
 // Method 1, Straus, or Brauer for one column: its definitions and laws, and what counting and emitting both look at.
 #![tactic(auto)]
+
 ghost use Rattle.std.specs.Prelude.{◌≡◌, ◌+◌, ◌*◌, ◌≤◌, length};
 ghost use Rattle.digits.specs.Range.{or_to};
 ghost use Rattle.sheet.specs.Sheet.{amount};

@@ -1,5 +1,6 @@
 // Method 1, Straus: the number of steps and its ceiling, without making the steps.
 #![tactic(auto)]
+
 ghost use Rattle.methods.specs.Inner.{QuoteOf, QuoteWithin};
 ghost use Rattle.straus.specs.Straus.{straus_payslip_count, straus_payslip_ceiling, straus_method};
 ghost use Rattle.straus.specs.Inner.{StrausAsked, PayslipAsked};

@@ -12,7 +12,8 @@ use Rattle.products.specs.declared.Progress.{Progress}
 use Rattle.products.proofs.Sound.{Begins, begins_own, begins_on, begins_rise}
 use Rattle.products.proofs.Product.{times_begins, squared_begins}
 use Rattle.products.proofs.Emitted.{emitted_own, emits_room, emits_on}
-use Rattle.straus.specs.Straus.{straus_digits, horner, straus_payslip}
+use Rattle.straus.specs.Straus.{straus_digits, horner, straus_payslip, digit_vector, bases}
+use Rattle.tables.specs.Table.{entry}
 
 -- squared k times, then times y
 module _ (p k : ℕ) (n : Progress) (v y : ℕ) (cells : List ℕ) where
@@ -77,7 +78,7 @@ module _ (p k : ℕ) (e : ℕ → ℕ) (J : ℕ) where
 
 -- a payslip only appends steps
 pub payslip_begins : (p : ℕ) (amounts : List ℕ) (k i : ℕ) (before : List Step) → Begins before (straus_payslip p amounts k i before).steps
-payslip_begins p amounts k i before = digits_begin p k _ (straus_digits p amounts k i) before 0 (straus_digits p amounts k i) (omega arith)
+payslip_begins p amounts k i before = digits_begin p k (λ j. entry k (bases p) (p + 1) (digit_vector p amounts k i j)) (straus_digits p amounts k i) before 0 (straus_digits p amounts k i) (omega arith)
 
 pub digit_fits : (k d digits : ℕ) → k * (digits - 1) < 32 → d < digits → k * (digits - (d + 1)) < 32
 digit_fits k d digits room h =

@@ -1,5 +1,6 @@
 // Method 1, Straus: the chain's table, then its payslips.
 #![tactic(auto)]
+
 ghost use Rattle.std.specs.Prelude.{◌≡◌, ◌+◌, ◌*◌, ◌^◌, ◌≤◌, ◌<◌, length};
 ghost use Rattle.chain.specs.Chain.{most_columns};
 ghost use Rattle.chain.specs.Written.{over};

@@ -1,5 +1,6 @@
 // The sizes of the groups and of their tables, and where a group's parts stand.
 #![tactic(auto)]
+
 ghost use Rattle.std.specs.Prelude.{◌≡◌, ◌+◌, ◌-◌, ◌*◌, ◌^◌, ◌≤◌, ◌<◌};
 ghost use Rattle.tables.specs.Table.{entry};
 ghost use Rattle.groups.specs.Groups.{group, group_size, most_inputs, most_members, table_steps, tables_count};

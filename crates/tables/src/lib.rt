@@ -1,5 +1,6 @@
 // Tables of products of some inputs, made in rising number.
 #![tactic(auto)]
+
 ghost use Rattle.std.specs.Prelude.{◌≡◌, ◌++◌, ◌+◌, ◌-◌, ◌*◌, ◌^◌, ◌<◌, length};
 ghost use Rattle.products.specs.Inner.{steps_in, WithRoom, MoreRoom, StepsRoom, StepsStored};
 ghost use Rattle.tables.specs.Table.{entry, lowest, table_next, table};

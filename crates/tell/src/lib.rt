@@ -1,6 +1,7 @@
 // How the answers of the entry points cross the C interface: the refusal's number is returned, 0 for none, and eight words are written: the values that
 // the call answers, or the refusal's place, and zeros.
 #![tactic(auto)]
+
 ghost use Rattle.std.specs.Prelude.{[], ◌∷◌};
 ghost use Rattle.chain.specs.Verdict.{done};
 ghost use Rattle.answers.specs.Answers.{counts_in};

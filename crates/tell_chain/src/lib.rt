@@ -1,5 +1,6 @@
 // How what is done with chains answers across the C interface: the check, the run and the pool.
 #![tactic(auto)]
+
 ghost use Rattle.answers.specs.Answers.{verified_of, ran_of, pooled_of};
 ghost use Rattle.tell.specs.Inner.{ToldAs};
 

@@ -1,5 +1,6 @@
 // How what is done with files answers across the C interface: their extent, read, and the chooser.
 #![tactic(auto)]
+
 ghost use Rattle.answers.specs.Answers.{measured_of, read_of, choice_of};
 ghost use Rattle.tell.specs.Told.{choice_answer};
 ghost use Rattle.tell.specs.Inner.{ToldAs};

@@ -1,6 +1,7 @@
 // How what the sheet's sender calls answers across the C interface: the ceiling, compile, write, the whole path, and the
 // fields of a sheet, read or written.
 #![tactic(auto)]
+
 ghost use Rattle.answers.specs.Answers.{quoted_of, compiled_of, written_of, figured_of, transferred_of};
 ghost use Rattle.tell.specs.Inner.{ToldAs};
 

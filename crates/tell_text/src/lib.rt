@@ -1,5 +1,6 @@
 // How what a text answers crosses the C interface: the refusal's number is returned, 0 for none, and eight words are written.
 #![tactic(auto)]
+
 ghost use Rattle.places.specs.Inner.{ReadTold};
 
 use places::Read;

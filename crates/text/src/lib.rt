@@ -1,5 +1,6 @@
 // The numbers of a text, by any parting.
 #![tactic(auto)]
+
 ghost use Rattle.std.specs.Prelude.{◌≡◌, ◌+◌, ◌^◌, ◌<◌, ◌≤◌, length};
 ghost use Rattle.text.specs.Text.{fault_of, plain_kind, word_kind, free_kind, field_kind, kind_of, end_kind, parted, closed, padded, grown, begun, lengthened, effect_of, read_text};
 ghost use Rattle.text.specs.Inner.{kind_at, FoundTo};

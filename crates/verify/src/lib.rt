@@ -1,5 +1,6 @@
 // The check of a chain against a sheet, in what the flat form and the form over step structs share: what is found before the steps, and the earlier of two places.
 #![tactic(auto)]
+
 ghost use Rattle.std.specs.Prelude.{◌≡◌};
 ghost use Rattle.chain.specs.Judgement.{verdict_of};
 ghost use Rattle.verify.specs.Verify.{earlier};

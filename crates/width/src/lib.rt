@@ -1,5 +1,6 @@
 // How wide the numbers of a file are.
 #![tactic(auto)]
+
 ghost use Rattle.std.specs.Prelude.{◌≡◌};
 ghost use Rattle.width.specs.Cases.{width_by_cases};
 

@@ -1,5 +1,6 @@
 // The file of a chain, written.
 #![tactic(auto)]
+
 ghost use Rattle.std.specs.Prelude.{◌≡◌, ◌/◌, length};
 ghost use Rattle.chain.specs.Tests.{◌<?◌};
 ghost use Rattle.chain.specs.Verdict.{◌then◌, refuse_if};

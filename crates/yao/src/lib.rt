@@ -1,5 +1,6 @@
 // Method 2, Yao: its definitions and laws, and how often a column is squared.
 #![tactic(auto)]
+
 ghost use Rattle.std.specs.Prelude.{◌+◌, ◌-◌, ◌*◌, ◌≤◌};
 ghost use Rattle.digits.specs.Inner.{Bounded};
 ghost use Rattle.yao.specs.Inner.{squarings_most};

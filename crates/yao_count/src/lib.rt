@@ -1,5 +1,6 @@
 // Method 2, Yao: the number of steps and its ceiling, without making the steps.
 #![tactic(auto)]
+
 ghost use Rattle.std.specs.Prelude.{◌+◌, ◌*◌, ◌≤◌, ◌<◌};
 ghost use Rattle.chain.specs.Chain.{most_columns};
 ghost use Rattle.digits.specs.Range.{sum_to};

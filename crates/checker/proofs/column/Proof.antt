@@ -16,10 +16,7 @@ same_length c = search rules
 
 returns : tie.Need-returns
 returns c =
-    let b = c.before.before in
-    let k = b.before.before.before.before in
-    let start = k.before.before.before.before in
-    start_summed _ _ _ start.requires.column (pairs start.args.steps.now) _ _ _ k.start.ensures b.sum.ensures
+    start_summed _ _ _ c.requires.column (pairs c.args.steps.now) _ _ _ c.start.ensures c.sum.ensures
 
 pub column_spec : {M : Type 1} → statement M
 column_spec = tie.close (tie.spec start-requires sum-requires same_length returns)

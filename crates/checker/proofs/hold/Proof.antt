@@ -29,19 +29,17 @@ column-requires c κs = search rules
 
 take-up-requires : tie.Need-take_up-found-requires invariant-loop decreases-loop
 take-up-requires c κs =
-    let b = c.before.before.before in
-    let l = b.loop-c in
-    let start = b.before.before.before.before.before.before.before in
+    let l = c.loop-c in
     record {
-      column = b.loop-c-test.true;
-      amounts_fit = start.requires.amounts_fit;
+      column = c.loop-c-test.true;
+      amounts_fit = c.requires.amounts_fit;
       outputs_within = λ i h. omega (
         arith,
-        outputs_low (start.args.p + length (pairs start.args.steps.now)) 1 start.args.outputs.now start.requires.chain_sound.outputs_fine i h,
-        length_pairs start.args.steps.now,
-        b.column-place.auto.1.1.1.0,
+        outputs_low (c.args.p + length (pairs c.args.steps.now)) 1 c.args.outputs.now c.requires.chain_sound.outputs_fine i h,
+        length_pairs c.args.steps.now,
+        c.column-place.auto.scratch,
         l.invariant.1,
-        start.requires.chain_sound.steps_sound.room,
+        c.requires.chain_sound.steps_sound.room,
       );
     }
 
@@ -53,14 +51,12 @@ loop-less c = search rules
 
 loop-again : tie.Need-loop-c-preserved invariant-loop decreases-loop
 loop-again c =
-    let b = c.before.before.before.before in
-    let l = b.loop-c in
-    let start = b.before.before.before.before.before.before.before in
-    let top = ap (λ (n : ℕ). start.args.p + n + 1) (sym (length_pairs start.args.steps.now)) in (
+    let l = c.loop-c in
+    let top = ap (λ (n : ℕ). c.args.p + n + 1) (sym (length_pairs c.args.steps.now)) in (
       search rules,
-      b.column-place.auto.1.1.1.0 ∙ l.invariant.1,
-      held_next _ _ (pairs start.args.steps.now) _ _ _ _ _ _ _ start.requires.chain_sound.outputs_fine b.column-place.ensures c.take_up-found.ensures l.invariant.2,
-      summed_past _ _ _ (pairs start.args.steps.now) _ _ _ top b.column-place.ensures ∙ l.invariant.3,
+      c.column-place.auto.scratch ∙ l.invariant.1,
+      held_next _ _ (pairs c.args.steps.now) _ _ _ _ _ _ _ c.requires.chain_sound.outputs_fine c.column-place.ensures c.take_up-found.ensures l.invariant.2,
+      summed_past _ _ _ (pairs c.args.steps.now) _ _ _ top c.column-place.ensures ∙ l.invariant.3,
     )
 
 same_length : tie.Need-shape_of-scratch invariant-loop decreases-loop

@@ -39,18 +39,16 @@ mul-plus c = search (rules, within)
 
 slice-read-plus : tie.Need-bounds-scratch-a invariant-loop decreases-loop
 slice-read-plus c =
-    let l = c.before.before.before.before.before in
     let t = c.loop-s-test.true in
-    first_within _ _ _ _ _ c.step_at-x.ensures t l.requires.steps_fine l.loop-s.invariant.2
+    first_within _ _ _ _ _ c.step_at-x.ensures t c.requires.steps_fine c.loop-s.invariant.2
 
 mul-plus-2 : tie.Need-offset_bounds-scratch-b invariant-loop decreases-loop
 mul-plus-2 c = search (rules, within)
 
 slice-read-plus-2 : tie.Need-bounds-scratch-b invariant-loop decreases-loop
 slice-read-plus-2 c =
-    let l = c.before.before.before.before.before.before in
     let t = c.loop-s-test.true in
-    second_within _ _ _ _ _ c.step_at-x.ensures t l.requires.steps_fine l.loop-s.invariant.2
+    second_within _ _ _ _ _ c.step_at-x.ensures t c.requires.steps_fine c.loop-s.invariant.2
 
 plus-requires : tie.Need-plus-e-requires invariant-loop decreases-loop
 plus-requires c κs = search rules
@@ -66,13 +64,11 @@ same_length c = search rules
 
 returns : tie.Need-returns-then-e invariant-loop decreases-loop
 returns c =
-    let b = c.before.before.before.before.before.before in
-    let l = b.before.before in
-    let start = l.requires in
+    let start = c.requires in
     record {
       place =
-          sum_bad _ _ _ _ _ _ _ _ (record { there = b.loop-s-test.true; legal = start.steps_fine; room = start.room }) b.step_at-x.ensures
-          c.plus-e.ensures l.loop-s.invariant.3 c.if-e.true l.loop-s.invariant.4;
+          sum_bad _ _ _ _ _ _ _ _ (record { there = c.loop-s-test.true; legal = start.steps_fine; room = start.room }) c.step_at-x.ensures
+          c.plus-e.ensures c.loop-s.invariant.3 c.if-e.true c.loop-s.invariant.4;
       cells = search sums_stopped;
     }
 
@@ -99,15 +95,13 @@ loop-less c = search rules
 
 loop-again : tie.Need-loop-s-preserved invariant-loop decreases-loop
 loop-again c =
-    let b = c.before.before.before.before.before.before in
-    let l = b.before.before in
-    let start = l.requires in (
+    let start = c.requires in (
       search rules,
       simp length-set (search rules),
       simp length-set (search rules),
       search fill_on,
-      sum_on _ _ _ _ _ _ _ _ (record { there = b.loop-s-test.true; legal = start.steps_fine; room = start.room }) b.step_at-x.ensures
-          c.plus-e.ensures l.loop-s.invariant.3 c.if-e.false l.loop-s.invariant.4,
+      sum_on _ _ _ _ _ _ _ _ (record { there = c.loop-s-test.true; legal = start.steps_fine; room = start.room }) c.step_at-x.ensures
+          c.plus-e.ensures c.loop-s.invariant.3 c.if-e.false c.loop-s.invariant.4,
     )
 
 same-length-2 : tie.Need-shape_of-scratch invariant-loop decreases-loop

@@ -16,22 +16,22 @@ use Rattle.checker.proofs.verify.Statement.{statement}
 use Rattle.checker.proofs.verify.Tie as tie
 
 -- nothing was found before the scratch is used
-first : (c : tie.In-Fine-2)
+first : (c : tie.In-Fine)
     → let a = c.args in
     fine ≡ fitting_rule a.p (pairs a.steps.now) a.outputs.now a.amounts.now (length a.scratch.now)
 first c = found_fine _ _ _ c.judge.ensures _ c.in-Fine.is
 
 -- and the squarings are counted
-counted : (c : tie.In-Fine-2) → c.in-Fine.squarings ≡ squarings_of (pairs c.args.steps.now)
+counted : (c : tie.In-Fine) → c.in-Fine.squarings ≡ squarings_of (pairs c.args.steps.now)
 counted c = found_number _ _ _ c.judge.ensures _ c.in-Fine.is
 
 -- what that says of the arguments
-fits : (c : tie.In-Fine-2)
+fits : (c : tie.In-Fine)
     → let a = c.args in
     Fitting a.p (pairs a.steps.now) a.outputs.now a.amounts.now (length a.scratch.now)
 fits c = fitting _ _ _ _ _ (sym (first c))
 
-room : (c : tie.In-Fine-2)
+room : (c : tie.In-Fine)
     → let a = c.args in
     a.p + length a.steps.now / 2 < length a.scratch.now
 room c = let a = c.args in omega (arith, (fits c).room, length_pairs a.steps.now)
@@ -52,9 +52,8 @@ hold-requires c κs =
 
 counts-of-requires : tie.Need-counts_of-requires
 counts-of-requires c κs =
-    let k = c.before.before.before.before in
-    let steps = k.args.steps.now in
-    omega (arith, counted k, squarings_few (pairs steps), length_pairs steps)
+    let steps = c.args.steps.now in
+    omega (arith, counted c.before.before.before.before, squarings_few (pairs steps), length_pairs steps)
 
 add-finish : tie.Need-overflow_add-p
 add-finish c = omega (arith, room c.before.before.before.before.before)
@@ -74,16 +73,13 @@ returns c =
 
 returns-2 : tie.Need-returns-in-Fine
 returns-2 c =
-    let k = c.before.before in
-    let h = k.before.before.before.before.before in
-    let m = h.before.before in
-    let a = m.args in
-    let e = first m in
+    let a = c.args in
+    let e = first c.before.before.before.before.before.before.before.before.before in
     let n = sym (length_pairs a.steps.now) in
     let top = ap (λ (n : ℕ). a.p + n + 1) n in
-    let told = k.counts_of.ensures ∙ counts_are (pairs a.steps.now) _ _ n (counted m) in (
-      late_answer _ (pairs a.steps.now) _ _ a.scratch.now e _ _ _ _ _ _ k.finish.ensures told h.hold-found.ensures.verdict,
-      late_scratch _ (pairs a.steps.now) _ _ a.scratch.now e _ _ _ _ _ _ k.finish.ensures top h.hold-found.ensures.past,
+    let told = c.counts_of.ensures ∙ counts_are (pairs a.steps.now) _ _ n (counted c.before.before.before.before.before.before.before.before.before) in (
+      late_answer _ (pairs a.steps.now) _ _ a.scratch.now e _ _ _ _ _ _ c.finish.ensures told c.hold-found.ensures.verdict,
+      late_scratch _ (pairs a.steps.now) _ _ a.scratch.now e _ _ _ _ _ _ c.finish.ensures top c.hold-found.ensures.past,
     )
 
 pub verify_spec : {M : Type 1} → statement M

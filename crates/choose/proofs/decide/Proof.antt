@@ -31,13 +31,12 @@ judge-file-requires c κs = enough _ _ _ _ _ _ (first c.before.before.before)
 
 judge-file-requires-2 : tie.Need-judge_file-y-requires
 judge-file-requires-2 c κs =
-    let j = c.before.before.before.before.before.before.before.before.before in
-    let k = j.judge_file-x.auto.steps in
-    let e = enough _ _ _ _ _ _ (first j.before.before.before.before) in
+    let k = c.judge_file-x.auto in
+    let e = enough _ _ _ _ _ _ (first c.before.before.before.before.before.before.before.before.before.before.before.before.before) in
     record {
-      pairs_enough = omega (arith, e.pairs_enough, k.0);
-      outputs_enough = omega (arith, e.outputs_enough, k.1.0);
-      numbers_enough = omega (arith, e.numbers_enough, k.1.1.0);
+      pairs_enough = omega (arith, e.pairs_enough, k.steps);
+      outputs_enough = omega (arith, e.outputs_enough, k.outputs);
+      numbers_enough = omega (arith, e.numbers_enough, k.numbers);
     }
 
 better-requires : tie.Need-better-requires
@@ -57,11 +56,9 @@ same-length-3 c = search rules
 
 returns-2 : tie.Need-returns-in-Fine
 returns-2 c =
-    let y = c.before.before.before.before.before.before.before in
-    let x = y.before.before.before.before.before.before.before.before.before.before in
     c.better.ensures
-    ∙ choice_made _ _ _ _ _ _ _ _ x.judge_file-x.result y.judge_file-y.result (first x.before.before.before.before) x.judge_file-x.ensures
-    y.judge_file-y.ensures
+    ∙ choice_made _ _ _ _ _ _ _ _ c.judge_file-x.result c.judge_file-y.result (first c.before.before.before.before.before.before.before.before.before.before.before.before.before.before.before.before.before.before.before.before.before) c.judge_file-x.ensures
+    c.judge_file-y.ensures
 
 pub decide_spec : {M : Type 1} → statement M
 decide_spec =

@@ -20,17 +20,13 @@ enum-known-columns : tie.Need-enum_known-columns
 enum-known-columns c = search rules
 
 -- what the file that was read tells
-read_file : (c : tie.In-Chain-2)
-    → let r = c.before.before.before.before.before in
-    let s = r.before.before.before.before.before.before.before.before in
-    let g = c.columns-1.given.0 in
-    Good edition1 s.args.bytes.now r.read.new.steps r.read.new.outputs g.0 g.1.0 g.1.1.0.steps
+read_file : (c : tie.In-Chain)
+    → let g = c.in-Chain in
+    Good edition1 c.args.bytes.now c.read.new.steps c.read.new.outputs g.columns g.payslips g.counts.steps
 read_file c =
-    let r = c.before.before.before.before.before in
-    let s = r.before.before.before.before.before.before.before.before in
-    let a = s.args in
-    let e = r.read.ensures in
-    read_good edition1 a.bytes.now a.steps.now a.outputs.now s.requires.pairs_enough s.requires.outputs_enough _ (answer_clause e) _ _ _
+    let a = c.args in
+    let e = c.read.ensures in
+    read_good edition1 a.bytes.now a.steps.now a.outputs.now c.requires.pairs_enough c.requires.outputs_enough _ (answer_clause e) _ _ _
     c.in-Chain.is _ _ (first_slice_clause e) (second_slice_clause e)
 
 same_length : tie.Need-shape_of-steps-then-columns-p
@@ -72,7 +68,7 @@ slice-reshare-prefix-verify-2 c =
 slice-aggregate-verify-2 : tie.Need-slice_bounds-verify-end-in-Chain-3
 slice-aggregate-verify-2 c =
     let e = c.if-payslips-q.false in
-    sym (length-take-le _ _ (omega (arith, (read_file c.before.before.before.before).taken.outputs_room)))
+    sym (length-take-le _ _ (omega (arith, (read_file c.before.before.before).taken.outputs_room)))
 
 verify-requires : tie.Need-verify-requires
 verify-requires c κs = search rules
@@ -91,14 +87,11 @@ same-length-6 c = search rules
 
 returns-3 : tie.Need-returns-in-Refused
 returns-3 c =
-    let n = c in
-    let r = n.before.before.before.before.before in
-    let s = r.before.before.before.before.before.before.before.before in
-    let a = s.args in
+    let a = c.args in
     refusal_says _ _ _ _ _ _
     (unread _ _ _ _ _ _
-    (read_refused edition1 a.bytes.now a.steps.now a.outputs.now s.requires.pairs_enough s.requires.outputs_enough _ (answer_clause r.read.ensures) _ _
-    n.in-Refused.is))
+    (read_refused edition1 a.bytes.now a.steps.now a.outputs.now c.requires.pairs_enough c.requires.outputs_enough _ (answer_clause c.read.ensures) _ _
+    c.in-Refused.is))
 
 same-length-7 : tie.Need-shape_of-steps-in-Refused-verify
 same-length-7 c = search rules
@@ -111,12 +104,8 @@ same-length-9 c = search rules
 
 returns-4 : tie.Need-returns-in-Refused-verify
 returns-4 c =
-    let v = c.before.before.before in
-    let e = v.before.before.before.before.before in
-    let k = e.before in
-    let s = k.before.before.before.before.before.before.before.before.before.before.before.before in
     refusal_says _ _ _ _ _ _
-    (not_held _ _ _ _ _ _ _ _ _ (read_file k) e.if-columns-p.false e.if-payslips-q.false _ s.requires.numbers_enough _ (answer_clause v.verify.ensures) _ _
+    (not_held _ _ _ _ _ _ _ _ _ (read_file c.before.before.before.before.before.before.before.before) c.if-columns-p.false c.if-payslips-q.false _ c.requires.numbers_enough _ (answer_clause c.verify.ensures) _ _
     c.in-Refused-verify.is)
 
 same-length-10 : tie.Need-shape_of-steps-in-Passed
@@ -130,15 +119,11 @@ same-length-12 c = search rules
 
 returns-5 : tie.Need-returns-in-Passed
 returns-5 c =
-    let v = c.before.before.before in
-    let e = v.before.before.before.before.before in
-    let k = e.before in
-    let s = k.before.before.before.before.before.before.before.before.before.before.before.before in
     record {
       verdict =
-          all_held _ _ _ _ _ _ _ _ _ (read_file k) e.if-columns-p.false e.if-payslips-q.false _ s.requires.numbers_enough _ (answer_clause v.verify.ensures) _
+          all_held _ _ _ _ _ _ _ _ _ (read_file c.before.before.before.before.before.before.before.before) c.if-columns-p.false c.if-payslips-q.false _ c.requires.numbers_enough _ (answer_clause c.verify.ensures) _
           c.in-Passed.is;
-      count = λ f. (read_file k).taken.long;
+      count = λ f. (read_file c.before.before.before.before.before.before.before.before).taken.long;
     }
 
 pub judge_file_spec : {M : Type 1} → statement M

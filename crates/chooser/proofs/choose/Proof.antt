@@ -42,8 +42,7 @@ same-length-3 c = search rules
 
 returns : tie.Need-returns-in-First
 returns c =
-    let d = c.before.before.before.before.before.before.before in
-    handed _ _ _ _ _ (chosen d ∙ ap choice_of c.in-First.is) (refl, (refl, refl))
+    handed _ _ _ _ _ (chosen c.before.before.before.before.before.before.before ∙ ap choice_of c.in-First.is) (refl, (refl, refl))
 
 same-length-4 : tie.Need-shape_of-steps-in-Second
 same-length-4 c = search rules
@@ -56,8 +55,7 @@ same-length-6 c = search rules
 
 returns-2 : tie.Need-returns-in-Second
 returns-2 c =
-    let d = c.before.before.before.before.before.before.before in
-    handed _ _ _ _ _ (chosen d ∙ ap choice_of c.in-Second.is) (refl, (refl, refl))
+    handed _ _ _ _ _ (chosen c.before.before.before.before.before.before.before ∙ ap choice_of c.in-Second.is) (refl, (refl, refl))
 
 same-length-7 : tie.Need-shape_of-steps-in-Neither
 same-length-7 c = search rules
@@ -70,9 +68,7 @@ same-length-9 c = search rules
 
 returns-3 : tie.Need-returns-in-Neither
 returns-3 c =
-    let k = c in
-    let d = k.before.before.before.before.before.before.before.before in
-    handed _ _ _ _ _ (chosen d ∙ ap choice_of k.k-1.given.1) (refl, (refl, refl))
+    handed _ _ _ _ _ (chosen c.before.before.before.before.before.before.before ∙ ap choice_of c.in-Neither.is) (refl, (refl, refl))
 
 pub choose_spec : {M : Type 1} → statement M
 choose_spec =

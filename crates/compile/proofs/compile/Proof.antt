@@ -22,31 +22,24 @@ enum-known-n c = search rules
 
 returns : tie.Need-returns-then-steps-n
 returns c =
-    let n = c.before in
-    let j = n.before.before in
-    let a = j.args in
-    few_pairs a.p a.q a.amounts.now a.method a.k _ (answer_clause j.judge_accepted.ensures) a.steps.now a.outputs.now _ n.in-Fine.is c.if-steps-n.true
+    let a = c.args in
+    few_pairs a.p a.q a.amounts.now a.method a.k _ (answer_clause c.judge_accepted.ensures) a.steps.now a.outputs.now _ c.in-Fine.is c.if-steps-n.true
 
 returns-2 : tie.Need-returns-then-outputs-q
 returns-2 c =
-    let n = c.before.before in
-    let j = n.before.before in
-    let a = j.args in
-    few_outputs a.p a.q a.amounts.now a.method a.k _ (answer_clause j.judge_accepted.ensures) a.steps.now a.outputs.now _ n.in-Fine.is c.if-outputs-q.true
+    let a = c.args in
+    few_outputs a.p a.q a.amounts.now a.method a.k _ (answer_clause c.judge_accepted.ensures) a.steps.now a.outputs.now _ c.in-Fine.is c.if-outputs-q.true
 
 slice-aggregate-emit : tie.Need-slice_bounds-emit-end
 slice-aggregate-emit c = search rules
 
 emit-requires : tie.Need-emit-made-requires
 emit-requires c κs =
-    let e = c.before.before.before in
-    let n = e.before.before in
-    let j = n.before.before in
-    let counted = was_counted _ _ _ _ _ _ (answer_clause j.judge_accepted.ensures) [] [] _ n.in-Fine.is in
-    let fits = sym (was_accepted _ _ _ _ _ _ (answer_clause j.judge_accepted.ensures) [] [] _ n.in-Fine.is) in
+    let counted = was_counted _ _ _ _ _ _ (answer_clause c.judge_accepted.ensures) [] [] _ c.in-Fine.is in
+    let fits = sym (was_accepted _ _ _ _ _ _ (answer_clause c.judge_accepted.ensures) [] [] _ c.in-Fine.is) in
     record {
-      asked = record { accepted = fits; measured = only_slice_clause j.judge_accepted.ensures fits };
-      room = record { steps_fit = omega (arith, counted, e.if-steps-n.false); outputs_fit = e.if-outputs-q.false };
+      asked = record { accepted = fits; measured = only_slice_clause c.judge_accepted.ensures fits };
+      room = record { steps_fit = omega (arith, counted, c.if-steps-n.false); outputs_fit = c.if-outputs-q.false };
     }
 
 counts-of-requires : tie.Need-counts_of-requires
@@ -54,10 +47,8 @@ counts-of-requires c κs = omega (arith, squarings_within c.emit-made.ensures)
 
 returns-3 : tie.Need-returns-in-Refused
 returns-3 c =
-    let n = c in
-    let j = n.before.before in
-    let a = j.args in
-    compile_refused a.p a.q a.amounts.now a.method a.k _ (answer_clause j.judge_accepted.ensures) a.steps.now a.outputs.now _ _ n.in-Refused.is
+    let a = c.args in
+    compile_refused a.p a.q a.amounts.now a.method a.k _ (answer_clause c.judge_accepted.ensures) a.steps.now a.outputs.now _ _ c.in-Refused.is
 
 same_length : tie.Need-shape_of-steps
 same_length c = search rules
@@ -67,13 +58,9 @@ same-length-2 c = search rules
 
 returns-4 : tie.Need-returns-else-outputs-q
 returns-4 c =
-    let w = c.before.before.before.before.before in
-    let e = w.before.before.before.before in
-    let n = e.before.before in
-    let j = n.before.before in
-    let a = j.args in
-    compiled a.p a.q a.amounts.now a.method a.k _ (answer_clause j.judge_accepted.ensures) a.steps.now a.outputs.now _ n.in-Fine.is
-    e.if-steps-n.false e.if-outputs-q.false _ _ _ _ w.emit-made.ensures c.counts_of.ensures
+    let a = c.args in
+    compiled a.p a.q a.amounts.now a.method a.k _ (answer_clause c.judge_accepted.ensures) a.steps.now a.outputs.now _ c.in-Fine.is
+    c.if-steps-n.false c.if-outputs-q.false _ _ _ _ c.emit-made.ensures c.counts_of.ensures
 
 pub compile_spec : {M : Type 1} → statement M
 compile_spec =

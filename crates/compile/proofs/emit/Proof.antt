@@ -26,18 +26,18 @@ room s m is =
 emit-requires : tie.Need-emit-requires
 emit-requires c κs =
     let s = c.before.before.before.before.before.before.before in
-    record { asked = first_asks (given s).ranges-2 (omega arith); room = room s _ (is_straus _ _ _ _ _ (omega arith)) }
+    record { asked = first_asks (given s).ranges (omega arith); room = room s _ (is_straus _ _ _ _ _ (omega arith)) }
 
 emit-requires-2 : tie.Need-emit-requires-in-2
 emit-requires-2 c κs =
     let s = c.before.before.before.before.before.before.before in
-    record { asked = other_asks (given s).ranges-2 s.requires.asked.measured (λ e. omega arith); room = room s _ (is_yao _ _ _ _ _ (omega arith)) }
+    record { asked = other_asks (given s).ranges c.requires.asked.measured (λ e. omega arith); room = room s _ (is_yao _ _ _ _ _ (omega arith)) }
 
 emit-requires-3 : tie.Need-emit-requires-in_default
 emit-requires-3 c κs =
     let s = c.before.before.before.before.before.before.before in
     record {
-      asked = other_asks (given s).ranges-2 s.requires.asked.measured (λ e. omega arith);
+      asked = other_asks (given s).ranges c.requires.asked.measured (λ e. omega arith);
       room = room s _ (is_partition _ _ _ _ _ (λ e. omega arith) (λ e. omega arith));
     }
 

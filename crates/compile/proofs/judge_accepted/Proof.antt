@@ -32,8 +32,7 @@ same_length c = search rules
 returns : tie.Need-returns-in-Refused
 unfolding counted_by
 returns c =
-    let t = c.before.before.before in
-    stopped _ _ _ _ (quote_refused _ _ _ _ _ _ (answer_clause t.judge_quote.ensures) _ _ c.in-Refused.is)
+    stopped _ _ _ _ (quote_refused _ _ _ _ _ _ (answer_clause c.judge_quote.ensures) _ _ c.in-Refused.is)
 
 same-length-2 : tie.Need-shape_of-largest-in-Refused-judge_length
 same-length-2 c = search rules
@@ -41,23 +40,17 @@ same-length-2 c = search rules
 returns-2 : tie.Need-returns-in-Refused-judge_length
 unfolding counted_by
 returns-2 c =
-    let l = c.before in
-    let n = l.before in
-    let t = n.before.before.before in
     stopped _ _ _ _
-    (too_long _ _ _ _ _ _ (answer_clause t.judge_quote.ensures) _ _ n.in-Steps.is _ l.judge_length.ensures _ _ c.in-Refused-judge_length.is)
+    (too_long _ _ _ _ _ _ (answer_clause c.judge_quote.ensures) _ _ c.in-Steps.is _ c.judge_length.ensures _ _ c.in-Refused-judge_length.is)
 
 same-length-3 : tie.Need-shape_of-largest-in-Fine
 same-length-3 c = search rules
 
 returns-3 : tie.Need-returns-in-Fine
 returns-3 c =
-    let l = c.before in
-    let n = l.before in
-    let t = n.before.before.before in
-    let told = answer_clause t.judge_quote.ensures in (
-      all_accepted _ _ _ _ _ _ told _ _ n.in-Steps.is _ l.judge_length.ensures c.in-Fine.is,
-      λ e. only_slice_clause t.judge_quote.ensures (sym (quote_passed _ _ _ _ _ _ told _ _ n.in-Steps.is)),
+    let told = answer_clause c.judge_quote.ensures in (
+      all_accepted _ _ _ _ _ _ told _ _ c.in-Steps.is _ c.judge_length.ensures c.in-Fine.is,
+      λ e. only_slice_clause c.judge_quote.ensures (sym (quote_passed _ _ _ _ _ _ told _ _ c.in-Steps.is)),
     )
 
 pub judge_accepted_spec : {M : Type 1} → statement M

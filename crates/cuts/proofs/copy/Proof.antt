@@ -19,8 +19,7 @@ room c = copy_room _ _ _ _ c.requires _ _ _ c.loop-i.invariant c.loop-i-test.tru
 
 loop-again : tie.Need-loop-i-preserved invariant-loop decreases-loop
 loop-again c =
-    let turn = c.before in
-    copy_more _ _ _ _ turn.requires _ _ _ turn.loop-i.invariant turn.loop-i-test.true
+    copy_more _ _ _ _ c.requires _ _ _ c.loop-i.invariant c.loop-i-test.true
 
 pub copy_spec : {M : Type 1} → statement M
 copy_spec =

@@ -21,15 +21,13 @@ places c = there _ _ _ _ _ _ c.requires.asked _ _ _ _ c.loop-j.invariant c.loop-
 
 -- where it ends fits the places of what it is cut into
 fit : (c : tie.After-cut_row-ends invariant-loop decreases-loop)
-    → let turn = c.before.before.before.before in
-    let args = turn.args in
-    let j = turn.loop-j.j in
+    → let args = c.args in
+    let j = c.loop-j.j in
     let e = c.cut_row-ends.result in
     let new = c.cut_row-ends.new.s in
     (e.keys < 2 ^ 32) × (e.rest < 2 ^ 32) × (args.keys + j + 1 < length new) × (args.rest + j + 1 < length new)
 fit c =
-    let turn = c.before.before.before.before in
-    ends_fit _ _ _ _ _ _ turn.requires.asked _ _ _ _ turn.loop-j.invariant turn.loop-j-test.true _ _ _ c.cut_row-ends.ensures
+    ends_fit _ _ _ _ _ _ c.requires.asked _ _ _ _ c.loop-j.invariant c.loop-j-test.true _ _ _ c.cut_row-ends.ensures
 
 loop-holds : tie.Need-loop-j-init invariant-loop decreases-loop
 loop-holds c = let pre = c.requires in none_cut _ _ _ _ _ _ pre.asked pre.keys_first_lem pre.rest_first_lem
@@ -42,14 +40,11 @@ cast_t c = omega (arith, c.slice_known-in-loop-j-2-1.given (c.args.at + c.loop-j
 
 cut-row-requires : tie.Need-cut_row-ends-requires invariant-loop decreases-loop
 cut-row-requires c κs =
-    let turn = c.before.before.before in
-    row_asked _ _ _ _ _ _ turn.requires.asked _ _ _ _ turn.loop-j.invariant turn.loop-j-test.true
+    row_asked _ _ _ _ _ _ c.requires.asked _ _ _ _ c.loop-j.invariant c.loop-j-test.true
 
 loop-again : tie.Need-loop-j-preserved invariant-loop decreases-loop
 loop-again c =
-    let row = c.before.before in
-    let turn = row.before.before.before.before in
-    more_cut _ _ _ _ _ _ turn.requires.asked _ _ _ _ turn.loop-j.invariant turn.loop-j-test.true _ _ _ row.cut_row-ends.ensures
+    more_cut _ _ _ _ _ _ c.requires.asked _ _ _ _ c.loop-j.invariant c.loop-j-test.true _ _ _ c.cut_row-ends.ensures
 
 returns : tie.Need-returns invariant-loop decreases-loop
 returns c = all_cut _ _ _ _ _ _ c.requires.asked _ _ _ _ c.loop-j.invariant c.loop-j-test.false _ refl refl

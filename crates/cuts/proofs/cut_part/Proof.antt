@@ -7,27 +7,22 @@ use Rattle.cuts.proofs.cut_part.Tie as tie
 
 cut-run-requires : tie.Need-cut_run-k-requires
 cut-run-requires c κs =
-    let last = c.before in
-    let pre = last.requires in
+    let pre = c.requires in
     let low = left_low _ _ _ _ _ _ _ _ pre in
-    rw last.last_key-top.ensures
+    rw c.last_key-top.ensures
     (run_asked _ _ _ _ _ _ _ _ pre _ _ (omega (arith, low, pre.room.order)) (omega (arith, low, pre.room.order)) (omega (arith, low, pre.room.order))
     (omega (arith, low, pre.room.order, taken_are _ _ _ _ _ _ _ _ pre)))
 
 copy-requires : tie.Need-copy-r-requires
 copy-requires c κs =
-    let run = c.before.before.before in
-    let pre = run.requires in
+    let pre = c.requires in
     let low = left_low _ _ _ _ _ _ _ _ pre in
     copy_asked _ _ _ _ _ _ _ _ pre _ _ _ (omega (arith, low, pre.room.order)) (omega (arith, low, pre.room.order)) (omega (arith, low, pre.room.order))
-    run.cut_run-k.ensures.apart.size
+    c.cut_run-k.ensures.apart.size
 
 returns : tie.Need-returns
 returns c =
-    let copy = c.before.before in
-    let run = copy.before.before.before.before in
-    let last = run.before.before in
-    part_cut _ _ _ _ _ _ _ _ last.requires _ _ (rw last.last_key-top.ensures at run.cut_run-k.ensures) _ _ copy.copy-r.ensures
+    part_cut _ _ _ _ _ _ _ _ c.requires _ _ (rw c.last_key-top.ensures at c.cut_run-k.ensures) _ _ c.copy-r.ensures
 
 pub cut_part_spec : {M : Type 1} → statement M
 cut_part_spec =

@@ -14,42 +14,32 @@ decreases-loop s₀ from to a b keys rest i₀ k₀ r₀ s i k r = to - i
 
 div-part : tie.Need-nonzero_div-part invariant-loop decreases-loop
 div-part c =
-    let turn = c.before in
-    some _ _ _ _ _ _ _ turn.requires _ _ _ _ turn.loop-i.invariant turn.loop-i-test.true
+    some _ _ _ _ _ _ _ c.requires _ _ _ _ c.loop-i.invariant c.loop-i-test.true
 
 add-run-end : tie.Need-overflow_add-part invariant-loop decreases-loop
 add-run-end c =
-    let turn = c.before.before in
-    omega (arith, part_small _ _ _ _ _ _ _ turn.requires _ _ _ _ turn.loop-i.invariant turn.loop-i-test.true)
+    omega (arith, part_small _ _ _ _ _ _ _ c.requires _ _ _ _ c.loop-i.invariant c.loop-i-test.true)
 
 mul-run-end : tie.Need-overflow_mul-part invariant-loop decreases-loop
 mul-run-end c =
-    let turn = c.before.before in
-    record { fits = limit_low _ _ _ _ _ _ _ turn.requires _ _ _ _ turn.loop-i.invariant turn.loop-i-test.true }
+    record { fits = limit_low _ _ _ _ _ _ _ c.requires _ _ _ _ c.loop-i.invariant c.loop-i-test.true }
 
 cut-part-requires : tie.Need-cut_part-ends-requires invariant-loop decreases-loop
 cut-part-requires c κs =
-    let run = c.before in
-    let turn = run.before.before.before in
-    part_asked _ _ _ _ _ _ _ turn.requires _ _ _ _ turn.loop-i.invariant turn.loop-i-test.true _ run.run_end-e.ensures
+    part_asked _ _ _ _ _ _ _ c.requires _ _ _ _ c.loop-i.invariant c.loop-i-test.true _ c.run_end-e.ensures
 
 loop-less : tie.Need-loop-i-smaller invariant-loop decreases-loop
 loop-less c =
-    let run = c.before.before.before.before in
-    let turn = run.before.before.before in
     omega (
       arith,
-      turn.loop-i-test.true,
-      run_some _ _ _ _ _ _ _ turn.requires _ _ _ _ turn.loop-i.invariant turn.loop-i-test.true _ run.run_end-e.ensures,
+      c.loop-i-test.true,
+      run_some _ _ _ _ _ _ _ c.requires _ _ _ _ c.loop-i.invariant c.loop-i-test.true _ c.run_end-e.ensures,
     )
 
 loop-again : tie.Need-loop-i-preserved invariant-loop decreases-loop
 loop-again c =
-    let part = c.before.before in
-    let run = part.before.before in
-    let turn = run.before.before.before in
-    row_more _ _ _ _ _ _ _ turn.requires _ _ _ _ turn.loop-i.invariant turn.loop-i-test.true _ run.run_end-e.ensures _ _ _
-    part.cut_part-ends.ensures
+    row_more _ _ _ _ _ _ _ c.requires _ _ _ _ c.loop-i.invariant c.loop-i-test.true _ c.run_end-e.ensures _ _ _
+    c.cut_part-ends.ensures
 
 pub cut_row_spec : {M : Type 1} → statement M
 cut_row_spec =

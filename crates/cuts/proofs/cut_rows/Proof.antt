@@ -7,8 +7,7 @@ use Rattle.cuts.proofs.cut_rows.Tie as tie
 
 returns : tie.Need-returns
 returns c =
-    let cut = c.before.before in
-    rows_done _ _ _ _ _ _ cut.requires _ _ cut.cut_each.ensures
+    rows_done _ _ _ _ _ _ c.requires _ _ c.cut_each.ensures
 
 pub cut_rows_spec : {M : Type 1} → statement M
 cut_rows_spec =

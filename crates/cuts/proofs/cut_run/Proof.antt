@@ -21,18 +21,15 @@ room c = keys_room _ _ _ _ _ _ _ c.requires _ _ _ c.loop-i.invariant c.loop-i-te
 
 key-requires : tie.Need-key-requires invariant-loop decreases-loop
 key-requires c κs =
-    let turn = c.before in
-    key_asked _ _ _ _ _ _ _ turn.requires _ _ _ turn.loop-i.invariant turn.loop-i-test.true
+    key_asked _ _ _ _ _ _ _ c.requires _ _ _ c.loop-i.invariant c.loop-i-test.true
 
 loop-less : tie.Need-loop-i-smaller invariant-loop decreases-loop
 loop-less c =
-    let turn = c.before.before in
-    omega (arith, inside turn, turn.loop-i-test.true, turn.requires.some)
+    omega (arith, inside c.before, c.loop-i-test.true, c.requires.some)
 
 loop-again : tie.Need-loop-i-preserved invariant-loop decreases-loop
 loop-again c =
-    let turn = c.before.before in
-    keys_more _ _ _ _ _ _ _ turn.requires _ _ _ turn.loop-i.invariant turn.loop-i-test.true _ c.key.ensures
+    keys_more _ _ _ _ _ _ _ c.requires _ _ _ c.loop-i.invariant c.loop-i-test.true _ c.key.ensures
 
 returns : tie.Need-returns invariant-loop decreases-loop
 returns c = keys_all _ _ _ _ _ _ _ c.requires _ _ _ c.loop-i.invariant c.loop-i-test.false
@@ -40,6 +37,6 @@ returns c = keys_all _ _ _ _ _ _ _ c.requires _ _ _ c.loop-i.invariant c.loop-i-
 pub cut_run_spec : {M : Type 1} → statement M
 cut_run_spec =
     tie.close
-    (tie.spec invariant-loop decreases-loop (λ c. keys_none _ _ _ _ _ _ _) (λ c. omega (arith, inside c.before)) key-requires
-    (λ c. omega (arith, room c.before.before)) (λ c. room c.before.before) (λ c. omega (arith, room c.before.before))
-    (λ c. omega (arith, inside c.before.before)) loop-less loop-again (λ c. c.loop-i.invariant.laid.apart.size) returns)
+    (tie.spec invariant-loop decreases-loop (λ c. keys_none _ _ _ _ _ _ _) (λ c. omega (arith, inside c)) key-requires
+    (λ c. omega (arith, room c.before)) (λ c. room c.before) (λ c. omega (arith, room c.before))
+    (λ c. omega (arith, inside c.before)) loop-less loop-again (λ c. c.loop-i.invariant.laid.apart.size) returns)

@@ -36,9 +36,8 @@ returns c =
 
 loop-again : tie.Need-loop-e-preserved invariant-loop decreases-loop
 loop-again c =
-    let b = c.before.before.before in
-    let a = b.args in
-    (search rules, search rules, more a.s.now a.i a.limit b.loop-e.e b.loop-e.invariant.2 (omega (arith, c.if-limit-s.false)))
+    let a = c.args in
+    (search rules, search rules, more a.s.now a.i a.limit c.loop-e.e c.loop-e.invariant.2 (omega (arith, c.if-limit-s.false)))
 
 returns-2 : tie.Need-returns invariant-loop decreases-loop
 returns-2 c =

@@ -37,9 +37,7 @@ loop-less c = search rules
 
 loop-again : tie.Need-loop-r-preserved invariant-loop decreases-loop
 loop-again c =
-    let fronted = c.before.before in
-    let start = fronted.before.before.before in
-    let more = cut_on _ _ _ _ _ start.loop-r.invariant.2 _ _ refl refl refl (search rules) fronted.front.ensures (search rules) in
+    let more = cut_on _ _ _ _ _ c.loop-r.invariant.2 _ _ refl refl refl (search rules) c.front.ensures (search rules) in
     (simp length-set (search rules), simp length-set (search rules), more)
 
 same_length : tie.Need-shape_of-cells invariant-loop decreases-loop

@@ -23,47 +23,38 @@ loop-holds c = (search rules, search rules, entered_none _ _ _ _ _ refl refl ref
 
 amount-requires : tie.Need-amount-requires invariant-loop decreases-loop
 amount-requires c κs =
-    let s = c.before.before.before.before.before.before in
-    amount_there _ _ _ _ _ s.requires.inside (search rules) s.requires.grouped.sheet.amounts_are
+    amount_there _ _ _ _ _ c.requires.inside (search rules) c.requires.grouped.sheet.amounts_are
 
 raised-requires : tie.Need-raised-x-requires invariant-loop decreases-loop
 raised-requires c κs =
-    let start = c.before.before.before in
-    omega (arith, start.loop-col.invariant.2.short, start.requires.grouped.cuts.few)
+    omega (arith, c.loop-col.invariant.2.short, c.requires.grouped.cuts.few)
 
 add-t12 : tie.Need-overflow_add-row invariant-loop decreases-loop
 add-t12 c =
-    let raised = c.before in
-    let start = raised.before.before.before.before in
-    let few = start.requires.grouped.cuts.few in
-    let low = behind_low raised.amount.result start.loop-col.r.held (omega arith) (omega (arith, few, start.loop-col.invariant.2.short)) in
-    omega (arith, row_low _ _ _ _ _ _ _ start.loop-col.invariant.2 few, raised.raised-x.ensures, low)
+    let few = c.requires.grouped.cuts.few in
+    let low = behind_low c.amount.result c.loop-col.r.held (omega arith) (omega (arith, few, c.loop-col.invariant.2.short)) in
+    omega (arith, row_low _ _ _ _ _ _ _ c.loop-col.invariant.2 few, c.raised-x.ensures, low)
 
 mul-t13 : tie.Need-offset_bounds-bits-col invariant-loop decreases-loop
 mul-t13 c = search rules
 
 shared-slice-read-t11 : tie.Need-bounds-bits-col invariant-loop decreases-loop
 shared-slice-read-t11 c =
-    let start = c.before.before.before.before.before.before in
-    let s = start.before.before.before.before in
-    omega (arith, grouped_long s.requires.grouped)
+    omega (arith, grouped_long c.requires.grouped)
 
 cast-t15 : tie.Need-overflow_cast-row invariant-loop decreases-loop
 cast-t15 c = omega (arith, c.shared_slice_known-in-loop-col-1.given c.loop-col.col)
 
 add-t16 : tie.Need-overflow_add-row-in-loop-col invariant-loop decreases-loop
 add-t16 c =
-    let start = c.before.before.before.before.before.before.before in
-    omega (arith, c.shared_slice_known-in-loop-col-1.given start.loop-col.col, start.loop-col.invariant.2.short, start.requires.grouped.cuts.few)
+    omega (arith, c.shared_slice_known-in-loop-col-1.given c.loop-col.col, c.loop-col.invariant.2.short, c.requires.grouped.cuts.few)
 
 cut-parts-requires : tie.Need-cut_parts-r-requires invariant-loop decreases-loop
 cut-parts-requires c κs =
-    let start = c.before.before.before.before.before.before.before.before in
-    let s = start.before.before.before.before in
-    let is = grouped_at s.requires.grouped start.loop-col.col (search rules) in
-    let few = grouped_few s.requires.grouped in
-    let fits = row_fits _ _ _ _ _ _ _ start.loop-col.invariant.2 _ (search rules) is few s.requires.room start.loop-col.invariant.1 in
-    (s.requires.grouped.cuts.some, s.requires.grouped.cuts.few, fits)
+    let is = grouped_at c.requires.grouped c.loop-col.col (search rules) in
+    let few = grouped_few c.requires.grouped in
+    let fits = row_fits _ _ _ _ _ _ _ c.loop-col.invariant.2 _ (search rules) is few c.requires.room c.loop-col.invariant.1 in
+    (c.requires.grouped.cuts.some, c.requires.grouped.cuts.few, fits)
 
 add-col : tie.Need-overflow_add-col invariant-loop decreases-loop
 add-col c = search rules
@@ -73,21 +64,16 @@ loop-less c = search rules
 
 loop-again : tie.Need-loop-col-preserved invariant-loop decreases-loop
 loop-again c =
-    let cut = c.before.before in
-    let raised = c.before.before.before.before.before.before.before in
-    let start = raised.before.before.before.before in
-    let s = start.before.before.before.before in
-    let is = grouped_at s.requires.grouped start.loop-col.col (search rules) in
-    let entered = entered_on _ _ _ _ _ _ _ start.loop-col.invariant.2 _ _ _ (search rules) s.requires.inside raised.amount.ensures raised.raised-x.ensures is in
-    (search rules, search rules, entered _ _ _ refl refl refl cut.cut_parts-r.ensures)
+    let is = grouped_at c.requires.grouped c.loop-col.col (search rules) in
+    let entered = entered_on _ _ _ _ _ _ _ c.loop-col.invariant.2 _ _ _ (search rules) c.requires.inside c.amount.ensures c.raised-x.ensures is in
+    (search rules, search rules, entered _ _ _ refl refl refl c.cut_parts-r.ensures)
 
 same_length : tie.Need-shape_of-cells invariant-loop decreases-loop
 same_length c = search rules
 
 returns : tie.Need-returns invariant-loop decreases-loop
 returns c =
-    let start = c.before.before in
-    entered_end _ _ _ _ _ _ _ start.loop-col.invariant.2 (search rules) (search rules)
+    entered_end _ _ _ _ _ _ _ c.loop-col.invariant.2 (search rules) (search rules)
 
 pub enter_columns_spec : {M : Type 1} → statement M
 enter_columns_spec =

@@ -13,46 +13,37 @@ enter-columns-requires c κs = search rules
 
 cast-cells : tie.Need-overflow_cast-cells
 cast-cells c =
-    let entered = c.before.before.before.before.before in
-    let s = entered.before.before.before.before.before in
-    Fits-under _ _ (2 ^ most_members) (row_low _ _ _ _ _ _ _ entered.enter_columns-r.ensures s.requires.grouped.cuts.few) tt
+    Fits-under _ _ (2 ^ most_members) (row_low _ _ _ _ _ _ _ c.enter_columns-r.ensures c.requires.grouped.cuts.few) tt
 
 mul-cells : tie.Need-offset_bounds-cells-g
 mul-cells c =
-    let entered = c.before.before.before.before.before in
-    let s = entered.before.before.before.before.before in
-    let few = grouped_few s.requires.grouped in
-    let G = grouped_count s.requires.grouped in
-    omega (arith, part_cell _ _ _ _ _ _ entered.enter_columns-r.ensures G (search rules) few)
+    let few = grouped_few c.requires.grouped in
+    let G = grouped_count c.requires.grouped in
+    omega (arith, part_cell _ _ _ _ _ _ c.enter_columns-r.ensures G (search rules) few)
 
 slice-write-cells : tie.Need-bounds-cells-g
 slice-write-cells c =
-    let entered = c.before.before.before.before.before in
-    let s = entered.before.before.before.before.before in
-    let few = grouped_few s.requires.grouped in
-    let G = grouped_count s.requires.grouped in
-    let inside = part_cell _ _ _ _ _ _ entered.enter_columns-r.ensures G (search rules) few in
-    omega (arith, s.requires.room)
+    let few = grouped_few c.requires.grouped in
+    let G = grouped_count c.requires.grouped in
+    let inside = part_cell _ _ _ _ _ _ c.enter_columns-r.ensures G (search rules) few in
+    omega (arith, c.requires.room)
 
 same_length : tie.Need-shape_of-cells-then-r-ne0
 same_length c = search rules
 
 returns : tie.Need-returns-then-r-ne0
 returns c =
-    let entered = c.before.before.before.before.before in
-    let s = entered.before.before.before.before.before in
-    let few = grouped_few s.requires.grouped in
-    let G = grouped_count s.requires.grouped in
-    part_last _ _ _ _ _ _ entered.enter_columns-r.ensures G (search rules) few s.requires.room
+    let few = grouped_few c.requires.grouped in
+    let G = grouped_count c.requires.grouped in
+    part_last _ _ _ _ _ _ c.enter_columns-r.ensures G (search rules) few c.requires.room
 
 same-length-2 : tie.Need-shape_of-cells-else-r-ne0
 same-length-2 c = search rules
 
 returns-2 : tie.Need-returns-else-r-ne0
 returns-2 c =
-    let entered = c.before.before.before.before in
-    let G = grouped_count entered.requires.grouped in
-    row_end _ _ _ _ _ _ entered.enter_columns-r.ensures G (search rules)
+    let G = grouped_count c.requires.grouped in
+    row_end _ _ _ _ _ _ c.enter_columns-r.ensures G (search rules)
 
 pub number_parts_spec : {M : Type 1} → statement M
 number_parts_spec =

@@ -21,11 +21,9 @@ enum-known-count c = search rules
 
 slice-reshare-prefix-read : tie.Need-slice_bounds-read-end
 slice-reshare-prefix-read c =
-    let n = c in
-    let w = n.before.before.before in
-    let a = w.args in
-    write_room edition1 a.p (pairs a.steps.now) a.outputs.now a.bytes.now _ (answer_clause w.write.ensures) _ n.in-Bytes.is _
-    (only_slice_clause w.write.ensures)
+    let a = c.args in
+    write_room edition1 a.p (pairs a.steps.now) a.outputs.now a.bytes.now _ (answer_clause c.write.ensures) _ c.in-Bytes.is _
+    (only_slice_clause c.write.ensures)
 
 slice-aggregate-read : tie.Need-slice_bounds-read-end-in-Bytes
 slice-aggregate-read c = sym (length-take-le _ _ (slice-reshare-prefix-read c))
@@ -38,10 +36,9 @@ same_length c = search rules
 
 returns : tie.Need-returns-in-Refused
 returns c =
-    let w = c.before.before.before in
-    let a = w.args in
-    not_written a.p (pairs a.steps.now) a.outputs.now a.bytes.now a.received.now a.results.now _ (answer_clause w.write.ensures) _
-    (only_slice_clause w.write.ensures)
+    let a = c.args in
+    not_written a.p (pairs a.steps.now) a.outputs.now a.bytes.now a.received.now a.results.now _ (answer_clause c.write.ensures) _
+    (only_slice_clause c.write.ensures)
     _ _ c.in-Refused.is
 
 same-length-2 : tie.Need-shape_of-bytes-in-Bytes
@@ -55,13 +52,10 @@ same-length-4 c = search rules
 
 returns-2 : tie.Need-returns-in-Bytes
 returns-2 c =
-    let r = c.before.before.before.before in
-    let n = r.before.before.before in
-    let w = n.before.before.before.before in
-    let a = w.args in
-    then_read a.p (pairs a.steps.now) a.outputs.now a.bytes.now a.received.now a.results.now _ (answer_clause w.write.ensures) _
-    (only_slice_clause w.write.ensures)
-    _ n.count-1.given.1 _ _ _ (answer_clause r.read.ensures) (first_slice_clause r.read.ensures) (second_slice_clause r.read.ensures)
+    let a = c.args in
+    then_read a.p (pairs a.steps.now) a.outputs.now a.bytes.now a.received.now a.results.now _ (answer_clause c.write.ensures) _
+    (only_slice_clause c.write.ensures)
+    _ c.in-Bytes.is _ _ _ (answer_clause c.read.ensures) (first_slice_clause c.read.ensures) (second_slice_clause c.read.ensures)
 
 pub dispatch_spec : {M : Type 1} → statement M
 dispatch_spec =

@@ -19,8 +19,7 @@ cast-lessened c = omega (arith, c.shared_slice_known-in-loop-col-1.given c.loop-
 
 cast-cells : tie.Need-overflow_cast-cells invariant-loop decreases-loop
 cast-cells c =
-    let start = c.before.before.before in
-    omega (arith, c.lessened.ensures, c.shared_slice_known-in-loop-col-1.given start.loop-col.col)
+    omega (arith, c.lessened.ensures, c.shared_slice_known-in-loop-col-1.given c.loop-col.col)
 
 pub count_squarings_spec : {M : Type 1} → statement M
 count_squarings_spec =

@@ -6,28 +6,22 @@ use Rattle.group_tables.proofs.make_groups.Tie as tie
 
 number-inputs-requires : tie.Need-number_inputs-requires
 number-inputs-requires c κs =
-    let s = c.before.before.before.before in
-    inputs_room s.requires
+    inputs_room c.requires
 
 make-squarings-requires : tie.Need-make_squarings-first-requires
 make-squarings-requires c κs =
-    let s = c.before.before.before.before.before.before.before.before in
-    record { asked = (inputs_room s.requires).columns; room = squares_room s.requires }
+    record { asked = (inputs_room c.requires).columns; room = squares_room c.requires }
 
 slice-reshare-prefix-make-tables : tie.Need-slice_bounds-make_tables-end
 slice-reshare-prefix-make-tables c = search rules
 
 slice-aggregate-make-tables : tie.Need-slice_bounds-make_tables-end-2
 slice-aggregate-make-tables c =
-    let numbered = c.before.before.before.before.before.before.before in
-    let s = numbered.before.before.before.before in
-    listed_long s.requires numbered.number_inputs.ensures
+    listed_long c.requires c.number_inputs.ensures
 
 make-tables-requires : tie.Need-make_tables-requires
 make-tables-requires c κs =
-    let numbered = c.before.before.before.before.before.before.before.before in
-    let s = numbered.before.before.before.before in
-    tables_room s.requires numbered.number_inputs.ensures c.make_squarings-first.ensures
+    tables_room c.requires c.number_inputs.ensures c.make_squarings-first.ensures
 
 same_length : tie.Need-shape_of-members
 same_length c = search rules
@@ -37,10 +31,8 @@ same-length-2 c = search rules
 
 returns : tie.Need-returns
 returns c =
-    let numbered = c.before.before.before.before.before.before.before.before.before.before.before in
-    let s = numbered.before.before.before.before in
     let squared = c.make_squarings-first.ensures in
-    groups_made s.requires numbered.number_inputs.ensures squared c.make_tables.ensures
+    groups_made c.requires c.number_inputs.ensures squared c.make_tables.ensures
 
 pub make_groups_spec : {M : Type 1} → statement M
 make_groups_spec =

@@ -16,26 +16,21 @@ array-share-prefix-counts c = search rules
 
 slice-aggregate-square-columns : tie.Need-slice_bounds-square_columns-end
 slice-aggregate-square-columns c =
-    let counted = c.before.before in
-    counted_long counted.args.bits.now _ _ counted.count_squarings.ensures
+    counted_long c.args.bits.now _ _ c.count_squarings.ensures
 
 square-columns-requires : tie.Need-square_columns-requires
 square-columns-requires c κs =
-    let counted = c.before.before.before in
-    let s = counted.before.before.before.before in
-    let long = counted_long s.args.bits.now _ _ counted.count_squarings.ensures in
-    let same = counted_squarings s.args.bits.now _ _ counted.count_squarings.ensures in
-    record { asked = omega (arith, s.requires.asked); room = rw same s.requires.room }
+    let long = counted_long c.args.bits.now _ _ c.count_squarings.ensures in
+    let same = counted_squarings c.args.bits.now _ _ c.count_squarings.ensures in
+    record { asked = omega (arith, c.requires.asked); room = rw same c.requires.room }
 
 same_length : tie.Need-shape_of-steps
 same_length c = search rules
 
 returns : tie.Need-returns
 returns c =
-    let squared = c.before.before in
-    let counted = c.before.before.before.before.before.before in
-    let same = counted_squarings counted.args.bits.now _ _ counted.count_squarings.ensures in
-    rw same at squared.square_columns.ensures
+    let same = counted_squarings c.args.bits.now _ _ c.count_squarings.ensures in
+    rw same at c.square_columns.ensures
 
 pub make_squarings_spec : {M : Type 1} → statement M
 make_squarings_spec =

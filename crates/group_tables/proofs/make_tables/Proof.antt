@@ -22,36 +22,27 @@ decreases-loop s members steps₀ end₀ g₀ steps end g = s.groups - g
 
 loop-holds : tie.Need-loop-g-init invariant-loop decreases-loop
 loop-holds c =
-    let s = c.before.before in
-    (search rules, search rules, stored_own s.args.steps.now s.args.progress s.requires.room.so_far)
+    (search rules, search rules, stored_own c.args.steps.now c.args.progress c.requires.room.so_far)
 
 mul-from : tie.Need-overflow_mul-from invariant-loop decreases-loop
 mul-from c =
-    let start = c.before.before.before in
-    let s = start.before.before.before in
-    let a = s.args in
-    let inside = group_inside a.s.c a.s.inputs start.loop-g.g a.s.groups s.requires.cuts.some s.requires.cuts.groups_are (search rules) in
-    omega (arith, s.requires.cuts.inputs_few)
+    let a = c.args in
+    let inside = group_inside a.s.c a.s.inputs c.loop-g.g a.s.groups c.requires.cuts.some c.requires.cuts.groups_are (search rules) in
+    omega (arith, c.requires.cuts.inputs_few)
 
 group-size-requires : tie.Need-group_size-requires invariant-loop decreases-loop
 group-size-requires c κs =
-    let start = c.before.before.before in
-    let s = start.before.before.before in
-    let a = s.args in
-    let inside = group_inside a.s.c a.s.inputs start.loop-g.g a.s.groups s.requires.cuts.some s.requires.cuts.groups_are (search rules) in
+    let a = c.args in
+    let inside = group_inside a.s.c a.s.inputs c.loop-g.g a.s.groups c.requires.cuts.some c.requires.cuts.groups_are (search rules) in
     inside
 
 add-to : tie.Need-overflow_add-to invariant-loop decreases-loop
 add-to c =
-    let start = c.before.before.before.before in
-    let s = start.before.before.before in
-    omega (arith, ends_few s.args.s s.requires.cuts s.args.members.now s.requires.long start.loop-g.g _ (search rules) c.group_size.ensures)
+    omega (arith, ends_few c.args.s c.requires.cuts c.args.members.now c.requires.long c.loop-g.g _ (search rules) c.group_size.ensures)
 
 mul-make-table : tie.Need-offset_bounds-members-from invariant-loop decreases-loop
 mul-make-table c =
-    let start = c.before.before.before.before in
-    let s = start.before.before.before in
-    omega (arith, ends_few s.args.s s.requires.cuts s.args.members.now s.requires.long start.loop-g.g _ (search rules) c.group_size.ensures)
+    omega (arith, ends_few c.args.s c.requires.cuts c.args.members.now c.requires.long c.loop-g.g _ (search rules) c.group_size.ensures)
 
 sub-make-table : tie.Need-slice_bounds-make_table-count invariant-loop decreases-loop
 sub-make-table c = search rules
@@ -61,19 +52,14 @@ part-make-table-start c = search rules
 
 part-make-table-end : tie.Need-slice_bounds-make_table-end invariant-loop decreases-loop
 part-make-table-end c =
-    let start = c.before.before.before.before in
-    let s = start.before.before.before in
-    omega (arith, ends s.args.s s.requires.cuts s.args.members.now s.requires.long start.loop-g.g _ (search rules) c.group_size.ensures)
+    omega (arith, ends c.args.s c.requires.cuts c.args.members.now c.requires.long c.loop-g.g _ (search rules) c.group_size.ensures)
 
 make-table-requires : tie.Need-make_table-end-requires invariant-loop decreases-loop
 make-table-requires c κs =
-    let sized = c.before.before in
-    let start = sized.before.before.before.before in
-    let s = start.before.before.before in
-    let is = sized.group_size.ensures in
+    let is = c.group_size.ensures in
     record {
-      asked = table_asked s.requires start.loop-g.g (search rules) is start.loop-g.invariant.2;
-      room = table_room s.requires start.loop-g.g (search rules) is start.loop-g.invariant.2;
+      asked = table_asked c.requires c.loop-g.g (search rules) is c.loop-g.invariant.2;
+      room = table_room c.requires c.loop-g.g (search rules) is c.loop-g.invariant.2;
     }
 
 add-g : tie.Need-overflow_add-g invariant-loop decreases-loop
@@ -84,22 +70,17 @@ loop-less c = search rules
 
 loop-again : tie.Need-loop-g-preserved invariant-loop decreases-loop
 loop-again c =
-    let made = c.before.before in
-    let sized = c.before.before.before.before.before in
-    let start = sized.before.before.before.before in
-    let s = start.before.before.before in
-    let is = sized.group_size.ensures in
-    let more = table_on s.requires start.loop-g.g (search rules) is start.loop-g.invariant.2 in
-    (search rules, search rules, more made.make_table-end.ensures)
+    let is = c.group_size.ensures in
+    let more = table_on c.requires c.loop-g.g (search rules) is c.loop-g.invariant.2 in
+    (search rules, search rules, more c.make_table-end.ensures)
 
 same_length : tie.Need-shape_of-steps invariant-loop decreases-loop
 same_length c = search rules
 
 returns : tie.Need-returns invariant-loop decreases-loop
 returns c =
-    let start = c.before.before in
-    let a = start.args in
-    tables_end a.s a.members.now (steps_in a.steps.now a.progress.steps) start.loop-g.g start.loop-g.invariant.2 (search rules) (search rules)
+    let a = c.args in
+    tables_end a.s a.members.now (steps_in a.steps.now a.progress.steps) c.loop-g.g c.loop-g.invariant.2 (search rules) (search rules)
 
 pub make_tables_spec : {M : Type 1} → statement M
 make_tables_spec =

@@ -35,26 +35,20 @@ cast-n c = omega (arith, c.shared_slice_known-in-loop-col-1.given c.loop-col.col
 
 number-column-requires : tie.Need-number_column-requires invariant-loop decreases-loop
 number-column-requires c κs =
-    let start = c.before.before.before in
-    let s = start.before.before.before in
-    let room = number_room s.requires start.loop-col.col start.loop-col.invariant.2 start.loop-col.invariant.3 (search rules) in
-    let cells = column_room s.requires start.loop-col.col start.loop-col.invariant.2 start.loop-col.invariant.3 (search rules) in
-    (omega (arith, s.requires.columns), room, cells start.loop-col.cells start.loop-col.invariant.1)
+    let room = number_room c.requires c.loop-col.col c.loop-col.invariant.2 c.loop-col.invariant.3 (search rules) in
+    let cells = column_room c.requires c.loop-col.col c.loop-col.invariant.2 c.loop-col.invariant.3 (search rules) in
+    (omega (arith, c.requires.columns), room, cells c.loop-col.cells c.loop-col.invariant.1)
 
 add_at : tie.Need-overflow_add-at invariant-loop decreases-loop
 add_at c =
-    let start = c.before.before.before.before.before.before in
-    let s = start.before.before.before in
-    omega (arith, column_few s.requires start.loop-col.col start.loop-col.invariant.2 start.loop-col.invariant.3 (search rules))
+    omega (arith, column_few c.requires c.loop-col.col c.loop-col.invariant.2 c.loop-col.invariant.3 (search rules))
 
 lessened-requires : tie.Need-lessened-first-requires invariant-loop decreases-loop
 lessened-requires c κs = search rules
 
 add-first : tie.Need-overflow_add-first invariant-loop decreases-loop
 add-first c =
-    let start = c.before.before.before.before.before.before.before in
-    let s = start.before.before.before in
-    let few = first_number s.requires start.loop-col.col start.loop-col.invariant.2 start.loop-col.invariant.3 (search rules) in
+    let few = first_number c.requires c.loop-col.col c.loop-col.invariant.2 c.loop-col.invariant.3 (search rules) in
     omega (arith, c.lessened-first.ensures)
 
 add-col : tie.Need-overflow_add-col invariant-loop decreases-loop
@@ -65,12 +59,9 @@ loop-less c = search rules
 
 loop-again : tie.Need-loop-col-preserved invariant-loop decreases-loop
 loop-again c =
-    let numbered = c.before.before.before in
-    let start = numbered.before.before.before.before in
-    let s = start.before.before.before in
-    let on = column_on s.requires start.loop-col.col start.loop-col.invariant.2 start.loop-col.invariant.3 (search rules) in
-    let next = first_on s.requires start.loop-col.col start.loop-col.invariant.2 start.loop-col.invariant.3 (search rules) c.lessened-first.ensures in
-    let more = inputs_on s.requires start.loop-col.col start.loop-col.invariant.2 start.loop-col.invariant.3 (search rules) start.loop-col.invariant.4 numbered.number_column.ensures in
+    let on = column_on c.requires c.loop-col.col c.loop-col.invariant.2 c.loop-col.invariant.3 (search rules) in
+    let next = first_on c.requires c.loop-col.col c.loop-col.invariant.2 c.loop-col.invariant.3 (search rules) c.lessened-first.ensures in
+    let more = inputs_on c.requires c.loop-col.col c.loop-col.invariant.2 c.loop-col.invariant.3 (search rules) c.loop-col.invariant.4 c.number_column.ensures in
     (search rules, search rules, on, next, more)
 
 same_length : tie.Need-shape_of-cells invariant-loop decreases-loop
@@ -78,9 +69,7 @@ same_length c = search rules
 
 returns : tie.Need-returns invariant-loop decreases-loop
 returns c =
-    let start = c.before in
-    let s = start.before.before.before in
-    inputs_end s.args.bits.now s.args.cells.now start.loop-col.col start.loop-col.invariant.4 start.loop-col.invariant.0 c.loop-col-test.false
+    inputs_end c.args.bits.now c.args.cells.now c.loop-col.col c.loop-col.invariant.4 c.loop-col.invariant.0 c.loop-col-test.false
 
 pub number_inputs_spec : {M : Type 1} → statement M
 number_inputs_spec =

@@ -32,8 +32,7 @@ lessened-requires c κs = search rules
 
 add-s : tie.Need-overflow_add-s invariant-loop decreases-loop
 add-s c =
-    let start = c.before.before.before in
-    omega (arith, c.lessened-s.ensures, start.requires.each start.loop-col.col)
+    omega (arith, c.lessened-s.ensures, c.requires.each c.loop-col.col)
 
 add-col : tie.Need-overflow_add-col invariant-loop decreases-loop
 add-col c = search rules
@@ -43,13 +42,11 @@ loop-less c = search rules
 
 loop-again : tie.Need-loop-col-preserved invariant-loop decreases-loop
 loop-again c =
-    let start = c.before.before.before in
-    (search rules, search sum_on, omega (arith, c.lessened-s.ensures, start.requires.each start.loop-col.col))
+    (search rules, search sum_on, omega (arith, c.lessened-s.ensures, c.requires.each c.loop-col.col))
 
 returns : tie.Need-returns invariant-loop decreases-loop
 returns c =
-    let start = c.before in
-    let all = sum-end _ start.loop-col.col _ _ start.loop-col.invariant.0 c.loop-col-test.false start.loop-col.invariant.1 in
+    let all = sum-end _ c.loop-col.col _ _ c.loop-col.invariant.0 c.loop-col-test.false c.loop-col.invariant.1 in
     record { is = all; low = search rules }
 
 pub column_sum_spec : {M : Type 1} → statement M

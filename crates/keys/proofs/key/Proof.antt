@@ -18,23 +18,19 @@ sub-power c =
 
 sub-power-2 : tie.Need-overflow_sub-limit-in-loop-i invariant-loop decreases-loop
 sub-power-2 c =
-    let turn = c.before in
-    omega (arith, weighed_below _ _ _ _ _ turn.requires _ _ turn.loop-i.invariant turn.loop-i-test.true)
+    omega (arith, weighed_below _ _ _ _ _ c.requires _ _ c.loop-i.invariant c.loop-i-test.true)
 
 power-requires : tie.Need-power-k-requires invariant-loop decreases-loop
 power-requires c κs =
-    let turn = c.before in
-    weighed_near _ _ _ _ _ turn.requires _ _ turn.loop-i.invariant turn.loop-i-test.true
+    weighed_near _ _ _ _ _ c.requires _ _ c.loop-i.invariant c.loop-i-test.true
 
 sub-k : tie.Need-overflow_sub-k invariant-loop decreases-loop
 sub-k c =
-    let turn = c.before.before in
-    rw c.power-k.ensures (weighed_more _ _ _ _ _ turn.requires _ _ turn.loop-i.invariant turn.loop-i-test.true)
+    rw c.power-k.ensures (weighed_more _ _ _ _ _ c.requires _ _ c.loop-i.invariant c.loop-i-test.true)
 
 loop-again : tie.Need-loop-i-preserved invariant-loop decreases-loop
 loop-again c =
-    let turn = c.before.before in
-    rw c.power-k.ensures (weighed_on _ _ _ _ _ turn.requires _ _ turn.loop-i.invariant turn.loop-i-test.true)
+    rw c.power-k.ensures (weighed_on _ _ _ _ _ c.requires _ _ c.loop-i.invariant c.loop-i-test.true)
 
 returns : tie.Need-returns invariant-loop decreases-loop
 returns c = weighed_all _ _ _ _ _ _ _ c.loop-i.invariant c.loop-i-test.false

@@ -19,13 +19,11 @@ div-to c = rw c.power-size.ensures (pow_pos c.args.a)
 
 cast-to : tie.Need-overflow_cast-to
 cast-to c =
-    let start = c.before.before in
-    rw c.power-size.ensures (Fits-under _ _ (2 ^ 32) (omega (arith, factor _ start.args.a start.requires.some start.requires.small)) tt)
+    rw c.power-size.ensures (Fits-under _ _ (2 ^ 32) (omega (arith, factor _ c.args.a c.requires.some c.requires.small)) tt)
 
 add-to : tie.Need-overflow_add-to
 add-to c =
-    let start = c.before.before in
-    rw c.power-size.ensures (Fits-under _ _ (2 ^ 32) (factor _ start.args.a start.requires.some start.requires.small) tt)
+    rw c.power-size.ensures (Fits-under _ _ (2 ^ 32) (factor _ c.args.a c.requires.some c.requires.small) tt)
 
 mul-to : tie.Need-overflow_mul-to
 mul-to c = rw c.power-size.ensures (Fits-under _ _ (2 ^ 32) c.requires.small tt)
@@ -38,13 +36,11 @@ rem-lay-weight c = rw c.power-size.ensures (pow_pos c.args.a)
 
 sub-lay-weight-2 : tie.Need-overflow_sub-size-2
 sub-lay-weight-2 c =
-    let start = c.before.before.before in
-    rw c.power-size.ensures (omega (arith, mod-lt start.args.key (pow_pos start.args.a)))
+    rw c.power-size.ensures (omega (arith, mod-lt c.args.key (pow_pos c.args.a)))
 
 lay-weight-requires : tie.Need-lay_weight-requires
 lay-weight-requires c κs =
-    let start = c.before.before.before in
-    rw c.power-size.ensures (record { below = own _ start.args.a; few = start.requires.few; small = start.requires.small; room = start.requires.room })
+    rw c.power-size.ensures (record { below = own _ c.args.a; few = c.requires.few; small = c.requires.small; room = c.requires.room })
 
 returns : tie.Need-returns
 returns c = rw c.power-size.ensures at c.lay_weight.ensures

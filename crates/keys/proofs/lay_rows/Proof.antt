@@ -32,46 +32,39 @@ add-key c =
 
 slice-read-key : tie.Need-bounds-s-keys invariant-loop decreases-loop
 slice-read-key c =
-    let turn = c.before in
-    let asked = turn.requires.0 in
-    omega (arith, asked.before, asked.room, turn.loop-j.invariant.apart.size, turn.loop-j-test.true)
+    let asked = c.requires.0 in
+    omega (arith, asked.before, asked.room, c.loop-j.invariant.apart.size, c.loop-j-test.true)
 
 lay-clump-requires : tie.Need-lay_clump-e-requires invariant-loop decreases-loop
 lay-clump-requires c κs =
-    let turn = c.before.before in
-    row_asked _ _ _ _ _ turn.requires.0 _ _ _ turn.loop-j.invariant turn.loop-j-test.true _ refl
+    row_asked _ _ _ _ _ c.requires.0 _ _ _ c.loop-j.invariant c.loop-j-test.true _ refl
 
 cast-s : tie.Need-overflow_cast-s invariant-loop decreases-loop
 cast-s c =
-    let turn = c.before.before.before.before.before in
-    let asked = turn.requires.0 in
-    let inv = turn.loop-j.invariant in
-    let end = row_end _ _ _ _ _ asked _ _ _ inv turn.loop-j-test.true _ refl _ _ c.lay_clump-e.ensures in
-    let room = row_room _ _ _ _ _ asked _ _ _ inv turn.loop-j-test.true _ refl in
+    let asked = c.requires.0 in
+    let inv = c.loop-j.invariant in
+    let end = row_end _ _ _ _ _ asked _ _ _ inv c.loop-j-test.true _ refl _ _ c.lay_clump-e.ensures in
+    let room = row_room _ _ _ _ _ asked _ _ _ inv c.loop-j-test.true _ refl in
     Fits-under _ _ (2 ^ 32) (omega (arith, end, room, inv.apart.size, asked.fits)) tt
 
 add-s : tie.Need-overflow_add-s invariant-loop decreases-loop
 add-s c =
-    let turn = c.before.before.before.before.before in
-    let asked = turn.requires.0 in
-    Fits-under _ _ (2 ^ 32) (omega (arith, asked.room, asked.fits, turn.loop-j-test.true)) tt
+    let asked = c.requires.0 in
+    Fits-under _ _ (2 ^ 32) (omega (arith, asked.room, asked.fits, c.loop-j-test.true)) tt
 
 add-s-2 : tie.Need-overflow_add-s-in-loop-j invariant-loop decreases-loop
 add-s-2 c =
-    let turn = c.before.before.before.before.before in
-    let asked = turn.requires.0 in
-    Fits-under _ _ (2 ^ 32) (omega (arith, asked.room, asked.fits, turn.loop-j-test.true)) tt
+    let asked = c.requires.0 in
+    Fits-under _ _ (2 ^ 32) (omega (arith, asked.room, asked.fits, c.loop-j-test.true)) tt
 
 slice-write-s : tie.Need-bounds-s-to invariant-loop decreases-loop
 slice-write-s c =
-    let turn = c.before.before.before.before.before in
-    let asked = turn.requires.0 in
-    omega (arith, asked.room, c.lay_clump-e.auto.s, turn.loop-j.invariant.apart.size, turn.loop-j-test.true)
+    let asked = c.requires.0 in
+    omega (arith, asked.room, c.lay_clump-e.auto.s, c.loop-j.invariant.apart.size, c.loop-j-test.true)
 
 loop-again : tie.Need-loop-j-preserved invariant-loop decreases-loop
 loop-again c =
-    let turn = c.before.before.before.before.before in
-    row_on _ _ _ _ _ turn.requires.0 _ _ _ turn.loop-j.invariant turn.loop-j-test.true _ refl _ _ c.lay_clump-e.ensures
+    row_on _ _ _ _ _ c.requires.0 _ _ _ c.loop-j.invariant c.loop-j-test.true _ refl _ _ c.lay_clump-e.ensures
 
 returns : tie.Need-returns invariant-loop decreases-loop
 returns c =

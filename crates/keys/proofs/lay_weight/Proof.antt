@@ -17,33 +17,27 @@ power-requires c κs = omega (arith, c.requires.few, c.loop-i.invariant.high, c.
 
 sub-s : tie.Need-overflow_sub-s invariant-loop decreases-loop
 sub-s c =
-    let turn = c.before.before in
-    omega (arith, turn.requires.below, turn.loop-i.invariant.high, turn.loop-i-test.true)
+    omega (arith, c.requires.below, c.loop-i.invariant.high, c.loop-i-test.true)
 
 sub-s-2 : tie.Need-overflow_sub-s-then-own-w invariant-loop decreases-loop
 sub-s-2 c =
-    let turn = c.before.before in
-    omega (arith, turn.requires.below, turn.loop-i.invariant.high, turn.loop-i-test.true)
+    omega (arith, c.requires.below, c.loop-i.invariant.high, c.loop-i-test.true)
 
 cast-s : tie.Need-overflow_cast-s invariant-loop decreases-loop
 cast-s c =
-    let turn = c.before.before in
-    Fits-under _ _ (2 ^ 32) (omega (arith, turn.requires.small)) tt
+    Fits-under _ _ (2 ^ 32) (omega (arith, c.requires.small)) tt
 
 slice-write-s : tie.Need-bounds-s-e invariant-loop decreases-loop
 slice-write-s c =
-    let turn = c.before.before in
-    members_room _ _ _ _ _ turn.requires _ _ _ _ turn.loop-i.invariant turn.loop-i-test.true _ c.power-own.ensures c.if-own-w.true
+    members_room _ _ _ _ _ c.requires _ _ _ _ c.loop-i.invariant c.loop-i-test.true _ c.power-own.ensures c.if-own-w.true
 
 loop-again : tie.Need-loop-i-preserved-then-own-w invariant-loop decreases-loop
 loop-again c =
-    let turn = c.before.before in
-    members_on _ _ _ _ _ turn.requires _ _ _ _ turn.loop-i.invariant turn.loop-i-test.true _ c.power-own.ensures c.if-own-w.true
+    members_on _ _ _ _ _ c.requires _ _ _ _ c.loop-i.invariant c.loop-i-test.true _ c.power-own.ensures c.if-own-w.true
 
 loop-again-2 : tie.Need-loop-i-preserved invariant-loop decreases-loop
 loop-again-2 c =
-    let turn = c.before.before in
-    members_pass _ _ _ _ _ turn.requires _ _ _ _ turn.loop-i.invariant turn.loop-i-test.true _ c.power-own.ensures
+    members_pass _ _ _ _ _ c.requires _ _ _ _ c.loop-i.invariant c.loop-i-test.true _ c.power-own.ensures
     c.if-own-w.false
 
 returns : tie.Need-returns invariant-loop decreases-loop

@@ -6,21 +6,18 @@ use Rattle.level.proofs.cut_level.Tie as tie
 
 rank-requires : tie.Need-rank-clumps-requires
 rank-requires c κs =
-    let start = c.before.before.before.before.before.before.before.before in
-    rw c.key_count-size.ensures (rank_asked _ _ _ _ _ _ _ start.requires _ _ c.cut_rows-ends.ensures)
+    rw c.key_count-size.ensures (rank_asked _ _ _ _ _ _ _ c.requires _ _ c.cut_rows-ends.ensures)
 
 lay-clumps-requires : tie.Need-lay_clumps-end-requires
 lay-clumps-requires c κs =
-    let start = c.before.before.before.before.before.before.before.before.before.before.before.before in
     let size = c.key_count-size.ensures in
-    rw size (clumps_asked _ _ _ _ _ _ _ start.requires _ _ c.cut_rows-ends.ensures _ _ (rw size at c.rank-clumps.ensures))
+    rw size (clumps_asked _ _ _ _ _ _ _ c.requires _ _ c.cut_rows-ends.ensures _ _ (rw size at c.rank-clumps.ensures))
 
 returns : tie.Need-returns
 returns c =
-    let start = c.before.before.before.before.before.before.before.before.before.before.before.before.before.before.before in
     let size = c.key_count-size.ensures in
     rw size
-    (level_cut _ _ _ _ _ _ _ start.requires _ _ c.cut_rows-ends.ensures _ _ (rw size at c.rank-clumps.ensures) _ _
+    (level_cut _ _ _ _ _ _ _ c.requires _ _ c.cut_rows-ends.ensures _ _ (rw size at c.rank-clumps.ensures) _ _
     (rw size at c.lay_clumps-end.ensures))
 
 pub cut_level_spec : {M : Type 1} → statement M

@@ -18,8 +18,7 @@ few n a some most small =
 
 mul-result : tie.Need-overflow_mul-result
 mul-result c =
-    let start = c.before in
-    rw c.power.ensures (Fits-under _ _ (2 ^ 33) (few start.args.n start.args.a start.requires.0 start.requires.1 start.requires.2) tt)
+    rw c.power.ensures (Fits-under _ _ (2 ^ 33) (few c.args.n c.args.a c.requires.0 c.requires.1 c.requires.2) tt)
 
 returns : tie.Need-returns
 returns c = ap (λ (x : ℕ). group_count c.args.a c.args.n * x) c.power.ensures

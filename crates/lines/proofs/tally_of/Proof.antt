@@ -20,8 +20,7 @@ shared-slice-read-b c = search rules
 
 count-requires : tie.Need-count-so_far-requires invariant-loop decreases-loop
 count-requires c κs =
-    let l = c.before.before in
-    let s = l.loop-i.invariant.1 in
+    let s = c.loop-i.invariant.1 in
     record { low = tally_room _ _ _ _ s (search rules); gap_low = s.gap_low }
 
 blank-requires : tie.Need-blank-gap-requires invariant-loop decreases-loop
@@ -35,9 +34,7 @@ loop-less c = search rules
 
 loop-again : tie.Need-loop-i-preserved invariant-loop decreases-loop
 loop-again c =
-    let t = c.before in
-    let l = t.before.before in
-    (search rules, tally_next _ _ _ _ l.loop-i.invariant.1 _ _ l.loop-i-test.true t.count-so_far.ensures c.blank-gap.ensures)
+    (search rules, tally_next _ _ _ _ c.loop-i.invariant.1 _ _ c.loop-i-test.true c.count-so_far.ensures c.blank-gap.ensures)
 
 returns : tie.Need-returns invariant-loop decreases-loop
 returns c = tally_end _ _ _ _ c.loop-i.invariant.1 c.loop-i-test.false

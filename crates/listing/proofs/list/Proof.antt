@@ -33,23 +33,18 @@ slice-aggregate-put-chain c = search rules
 
 put-chain-requires : tie.Need-put_chain-requires
 put-chain-requires c κs =
-    let k = c.before.before in
-    let t = k.before.before.before.before.before in
-    let columns = columns_few _ _ t.measure_file.ensures.told_is _ _ _ k.in-Chain.is in
-    let payslips = payslips_few _ _ t.measure_file.ensures.told_is _ _ _ k.in-Chain.is in
-    let steps = steps_few _ _ t.measure_file.ensures.told_is _ _ _ k.in-Chain.is in
+    let columns = columns_few _ _ c.measure_file.ensures.told_is _ _ _ c.in-Chain.is in
+    let payslips = payslips_few _ _ c.measure_file.ensures.told_is _ _ _ c.in-Chain.is in
+    let steps = steps_few _ _ c.measure_file.ensures.told_is _ _ _ c.in-Chain.is in
     search rules
 
 returns : tie.Need-returns-in-Refused
 returns c =
-    let k = c.before.before in
-    listed_refused _ _ k.measure_file.ensures.told_is _ _ _ _ _ k.in-Refused.is c.put_refused.ensures
+    listed_refused _ _ c.measure_file.ensures.told_is _ _ _ _ _ c.in-Refused.is c.put_refused.ensures
 
 returns-2 : tie.Need-returns-in-Chain
 returns-2 c =
-    let k = c.before.before.before in
-    let t = k.before.before.before.before.before in
-    listed_chain _ _ t.measure_file.ensures.told_is _ _ _ k.in-Chain.is t.measure_file.new.table _ _ _ t.measure_file.ensures.holds
+    listed_chain _ _ c.measure_file.ensures.told_is _ _ _ c.in-Chain.is c.measure_file.new.table _ _ _ c.measure_file.ensures.holds
     c.put_chain.ensures
 
 pub list_spec : {M : Type 1} → statement M

@@ -35,24 +35,21 @@ column-requires c κs = search rules
 
 gather-requires : tie.Need-gather-requires invariant-loop decreases-loop
 gather-requires c κs =
-    let b = c.before.before.before.before in
-    let l = b.before.before.before in
-    let s = l.before.before.before.before in
     record {
-      column_low = omega (arith, b.loop-c-test.true, s.requires.chain_sound.steps_sound.p_low);
+      column_low = omega (arith, c.loop-c-test.true, c.requires.chain_sound.steps_sound.p_low);
       figures_able =
           record {
-            figures_fit = s.requires.outputs_few;
+            figures_fit = c.requires.outputs_few;
             outputs_within = λ i h. omega (
               arith,
-              outputs_low (s.args.p + length (pairs s.args.steps.now)) 1 s.args.outputs.now s.requires.chain_sound.outputs_fine i h,
-              length_pairs s.args.steps.now,
-              b.column-place.auto.1.1.1.0,
-              l.loop-c.invariant.1,
-              s.requires.chain_sound.steps_sound.room,
+              outputs_low (c.args.p + length (pairs c.args.steps.now)) 1 c.args.outputs.now c.requires.chain_sound.outputs_fine i h,
+              length_pairs c.args.steps.now,
+              c.column-place.auto.scratch,
+              c.loop-c.invariant.1,
+              c.requires.chain_sound.steps_sound.room,
             );
           };
-      table_whole = l.loop-c.invariant.2 ∙ s.requires.table_whole;
+      table_whole = c.loop-c.invariant.2 ∙ c.requires.table_whole;
     }
 
 earlier-requires : tie.Need-earlier-large-requires invariant-loop decreases-loop
@@ -65,19 +62,15 @@ loop-less : tie.Need-loop-c-smaller invariant-loop decreases-loop
 loop-less c = search rules
 
 loop-again : tie.Need-loop-c-preserved invariant-loop decreases-loop
-loop-again c =
-    let g = c.before.before.before in
-    let b = g.before.before.before.before.before in
-    let l = b.before.before.before in
-    let s = l.before.before.before.before in (
-      search rules,
-      b.column-place.auto.1.1.1.0 ∙ l.loop-c.invariant.1,
-      g.gather.auto.table ∙ l.loop-c.invariant.2,
-      earliest_next l.loop-c.c (large_in s.args.p (pairs s.args.steps.now)) _ _ _ c.earlier-large.ensures l.loop-c.invariant.3 b.column-place.ensures.place,
-      filled_on s.args.p l.loop-c.c (pairs s.args.steps.now) s.args.outputs.now _ _ _ _ _ _ _ s.requires.chain_sound.outputs_fine
-          s.requires.outputs_few (omega (arith, b.loop-c-test.true, s.requires.chain_sound.steps_sound.p_low)) (l.loop-c.invariant.2 ∙ s.requires.table_whole)
-          c.earlier-large.ensures b.column-place.ensures l.loop-c.invariant.4 g.gather.ensures,
-    )
+loop-again c = (
+  search rules,
+  c.column-place.auto.scratch ∙ c.loop-c.invariant.1,
+  c.gather.auto.table ∙ c.loop-c.invariant.2,
+  earliest_next c.loop-c.c (large_in c.args.p (pairs c.args.steps.now)) _ _ _ c.earlier-large.ensures c.loop-c.invariant.3 c.column-place.ensures.place,
+  filled_on c.args.p c.loop-c.c (pairs c.args.steps.now) c.args.outputs.now _ _ _ _ _ _ _ c.requires.chain_sound.outputs_fine
+      c.requires.outputs_few (omega (arith, c.loop-c-test.true, c.requires.chain_sound.steps_sound.p_low)) (c.loop-c.invariant.2 ∙ c.requires.table_whole)
+      c.earlier-large.ensures c.column-place.ensures c.loop-c.invariant.4 c.gather.ensures,
+)
 
 same_length : tie.Need-shape_of-scratch-then-large-ne0 invariant-loop decreases-loop
 same_length c = search rules

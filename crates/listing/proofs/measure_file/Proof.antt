@@ -26,16 +26,13 @@ enum-known-p : tie.Need-enum_known-p
 enum-known-p c = search rules
 
 -- what the file that was read tells
-read_file : (c : tie.In-Chain-2)
-    → let r = c.before.before.before.before.before in
-    Good edition1 r.args.bytes.now r.read.new.steps r.read.new.outputs
+read_file : (c : tie.In-Chain)
+    → Good edition1 c.args.bytes.now c.read.new.steps c.read.new.outputs
     c.in-Chain.p c.in-Chain.q c.in-Chain.counts.steps
 read_file c =
-    let r = c.before.before.before.before.before in
-    let s = r.before.before.before.before.before.before.before.before.before in
-    let a = s.args in
-    let e = r.read.ensures in
-    read_good edition1 a.bytes.now a.steps.now a.outputs.now (omega (arith, s.requires.steps_whole)) (omega (arith, s.requires.outputs_whole)) _ (answer_clause e) _ _ _
+    let a = c.args in
+    let e = c.read.ensures in
+    read_good edition1 a.bytes.now a.steps.now a.outputs.now (omega (arith, c.requires.steps_whole)) (omega (arith, c.requires.outputs_whole)) _ (answer_clause e) _ _ _
     c.in-Chain.is _ _ (first_slice_clause e) (second_slice_clause e)
 
 mul-measure : tie.Need-overflow_mul-counts
@@ -51,13 +48,11 @@ slice-reshare-prefix-measure-2 : tie.Need-slice_bounds-measure-end-in-Chain-2
 slice-reshare-prefix-measure-2 c = (read_file c.before).taken.outputs_room
 
 slice-aggregate-measure-2 : tie.Need-slice_bounds-measure-end-in-Chain-3
-slice-aggregate-measure-2 c = sym (length-take-le _ _ (read_file c.before.before).taken.outputs_room)
+slice-aggregate-measure-2 c = sym (length-take-le _ _ (read_file c.before).taken.outputs_room)
 
 measure-requires : tie.Need-measure-requires
 measure-requires c κs =
-    let k = c.before.before.before.before in
-    let s = k.before.before.before.before.before.before.before.before.before.before.before.before.before in
-    let t = read_file k in
+    let t = read_file c.before.before.before in
     record {
       chain_sound =
           record {
@@ -65,12 +60,12 @@ measure-requires c κs =
                 record {
                   p_low = columns_few _ _ _ _ _ _ t;
                   steps_fine = steps_fine _ _ _ _ _ _ t;
-                  room = omega (arith, room _ _ _ _ _ _ t, s.requires.scratch_whole);
+                  room = omega (arith, room _ _ _ _ _ _ t, c.requires.scratch_whole);
                 };
             outputs_fine = outputs_fine _ _ _ _ _ _ t;
           };
       outputs_few = outputs_few _ _ _ _ _ _ t;
-      table_whole = s.requires.table_whole;
+      table_whole = c.requires.table_whole;
     }
 
 enum-known-number-2 : tie.Need-enum_known-number-in-Refused-measure
@@ -87,14 +82,11 @@ same-length-2 c = search rules
 
 returns-2 : tie.Need-returns-in-Refused
 returns-2 c =
-    let n = c in
-    let r = n.before.before.before.before.before in
-    let s = r.before.before.before.before.before.before.before.before.before in
-    let a = s.args in
+    let a = c.args in
     listing_refused _ _ _ _
-    (unread _ r.if-bytes-gt-MOST_BYTES.false _ _
-    (read_refused edition1 a.bytes.now a.steps.now a.outputs.now (omega (arith, s.requires.steps_whole)) (omega (arith, s.requires.outputs_whole)) _
-    (answer_clause r.read.ensures) _ _ n.in-Refused.is))
+    (unread _ c.if-bytes-gt-MOST_BYTES.false _ _
+    (read_refused edition1 a.bytes.now a.steps.now a.outputs.now (omega (arith, c.requires.steps_whole)) (omega (arith, c.requires.outputs_whole)) _
+    (answer_clause c.read.ensures) _ _ c.in-Refused.is))
 
 same-length-3 : tie.Need-shape_of-steps-in-Refused-measure
 same-length-3 c = search rules
@@ -110,11 +102,8 @@ same-length-6 c = search rules
 
 returns-3 : tie.Need-returns-in-Refused-measure
 returns-3 c =
-    let m = c.before.before.before.before.before in
-    let k = m.before.before.before.before.before in
-    let r = k.before.before.before.before.before.before in
     listing_refused _ _ _ _
-    (measured _ _ _ _ _ _ (read_file k) r.if-bytes-gt-MOST_BYTES.false _ (told_refused_lem _ _ _ _ m.measure.ensures.told_is c.in-Refused-measure.is))
+    (measured _ _ _ _ _ _ (read_file c.before.before.before.before.before.before.before.before.before) c.if-bytes-gt-MOST_BYTES.false _ (told_refused_lem _ _ _ _ c.measure.ensures.told_is c.in-Refused-measure.is))
 
 same-length-7 : tie.Need-shape_of-steps-in-Fine
 same-length-7 c = search rules
@@ -130,14 +119,11 @@ same-length-10 c = search rules
 
 returns-4 : tie.Need-returns-in-Fine
 returns-4 c =
-    let m = c.before.before.before.before.before in
-    let k = m.before.before.before.before.before in
-    let r = k.before.before.before.before.before.before in
     let passed = c.in-Fine.is in
-    let a = r.args in
-    let told = read_counts edition1 a.bytes.now a.steps.now a.outputs.now _ (answer_clause r.read.ensures) _ _ _ k.p-1.given.1 in
-    listing_done _ _ _ _ _ _ (read_file k) r.if-bytes-gt-MOST_BYTES.false _ _ told (told_fine _ _ m.measure.ensures.told_is passed)
-    (m.measure.ensures.holds (ap verdict_of passed))
+    let a = c.args in
+    let told = read_counts edition1 a.bytes.now a.steps.now a.outputs.now _ (answer_clause c.read.ensures) _ _ _ c.in-Chain.is in
+    listing_done _ _ _ _ _ _ (read_file c.before.before.before.before.before.before.before.before.before) c.if-bytes-gt-MOST_BYTES.false _ _ told (told_fine _ _ c.measure.ensures.told_is passed)
+    (c.measure.ensures.holds (ap verdict_of passed))
 
 pub measure_file_spec : {M : Type 1} → statement M
 measure_file_spec =

@@ -23,11 +23,9 @@ decreases-loop i p table at text₀ end₀ c₀ text end c = p - c
 
 -- the amount at hand is of 32 bits
 amount_low : (c : tie.After-shared_slice_known-in-loop-c-1 invariant-loop decreases-loop)
-    → let l = c.before.before in
-    get_or l.args.table.now (64 * l.loop-c.c + l.args.i) 0 < 10 ^ 10
+    → get_or c.args.table.now (64 * c.loop-c.c + c.args.i) 0 < 10 ^ 10
 amount_low c =
-    let l = c.before.before in
-    omega (arith, (c.shared_slice_known-in-loop-c-1.given (64 * l.loop-c.c + l.args.i)).fits)
+    omega (arith, (c.shared_slice_known-in-loop-c-1.given (64 * c.loop-c.c + c.args.i)).fits)
 
 loop-holds : tie.Need-loop-c-init invariant-loop decreases-loop
 loop-holds c = (search rules, refl, omega arith, put_none _ _)
@@ -46,10 +44,7 @@ shared-slice-read-put-field c = search rules
 
 put-field-requires : tie.Need-put_field-end-requires invariant-loop decreases-loop
 put-field-requires c κs =
-    let k = c.before in
-    let l = k.before.before in
-    let s = l.before.before.before in
-    omega (arith, decimal_short 9 _ (amount_low k), l.loop-c.invariant.1, l.loop-c.invariant.2, k.loop-c-test.true, s.requires.room)
+    omega (arith, decimal_short 9 _ (amount_low c.before), c.loop-c.invariant.1, c.loop-c.invariant.2, c.loop-c-test.true, c.requires.room)
 
 add-c : tie.Need-overflow_add-c-in-loop-c invariant-loop decreases-loop
 add-c c = search rules
@@ -58,16 +53,12 @@ loop-less : tie.Need-loop-c-smaller invariant-loop decreases-loop
 loop-less c = search rules
 
 loop-again : tie.Need-loop-c-preserved invariant-loop decreases-loop
-loop-again c =
-    let b = c.before.before in
-    let k = b.before.before in
-    let l = k.before.before in
-    let s = l.before.before.before in (
-      search rules,
-      b.put_field-end.auto.text ∙ l.loop-c.invariant.1,
-      omega (arith, decimal_short 9 _ (amount_low k), b.put_field-end.ensures.place, l.loop-c.invariant.2),
-      put_amount _ _ (amount_in s.args.table.now s.args.i) _ _ _ _ _ (omega (arith, s.requires.room)) l.loop-c.invariant.3 b.put_field-end.ensures,
-    )
+loop-again c = (
+  search rules,
+  c.put_field-end.auto.text ∙ c.loop-c.invariant.1,
+  omega (arith, decimal_short 9 _ (amount_low c.before.before.before.before), c.put_field-end.ensures.place, c.loop-c.invariant.2),
+  put_amount _ _ (amount_in c.args.table.now c.args.i) _ _ _ _ _ (omega (arith, c.requires.room)) c.loop-c.invariant.3 c.put_field-end.ensures,
+)
 
 same_length : tie.Need-shape_of-text invariant-loop decreases-loop
 same_length c = search rules
@@ -75,8 +66,7 @@ same_length c = search rules
 returns : tie.Need-returns invariant-loop decreases-loop
 returns c =
     let l = c.loop-c in
-    let s = c.before.before.before.before in
-    let e : l.c ≡ s.args.p = omega (arith, l.invariant.0, c.loop-c-test.false) in
+    let e : l.c ≡ c.args.p = omega (arith, l.invariant.0, c.loop-c-test.false) in
     record { put = rw e at l.invariant.3; short = rw e at l.invariant.2 }
 
 pub put_amounts_spec : {M : Type 1} → statement M

@@ -16,10 +16,7 @@ same_length c = search rules
 
 returns : tie.Need-returns
 returns c =
-    let k = c.before.before in
-    let j = k.before.before.before.before in
-    let s = j.before.before.before.before in
-    put_listing _ _ _ (amount_in s.args.table.now) _ _ _ _ _ j.put_sizes-at.ensures.put k.put_payslips.ensures
+    put_listing _ _ _ (amount_in c.args.table.now) _ _ _ _ _ c.put_sizes-at.ensures.put c.put_payslips.ensures
 
 pub put_chain_spec : {M : Type 1} → statement M
 put_chain_spec = tie.close (tie.spec put-sizes-requires put-payslips-requires same_length returns)

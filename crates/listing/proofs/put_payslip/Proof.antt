@@ -14,50 +14,35 @@ add-put-decimal c = search rules
 
 put-decimal-requires : tie.Need-put_decimal-first-requires
 put-decimal-requires c κs =
-    let s = c.before.before.before in
-    omega (arith, decimal_short 1 (s.args.i + 1) (omega (arith, s.requires.inside)), s.requires.room)
+    omega (arith, decimal_short 1 (c.args.i + 1) (omega (arith, c.requires.inside)), c.requires.room)
 
 put-amounts-requires : tie.Need-put_amounts-end-requires
 put-amounts-requires c κs =
-    let k = c.before.before.before in
-    let s = k.before.before.before.before in
-    let short = decimal_short 1 (s.args.i + 1) (omega (arith, s.requires.inside)) in
+    let short = decimal_short 1 (c.args.i + 1) (omega (arith, c.requires.inside)) in
     search rules
 
 -- where the newline goes
 line_end_lem : (c : tie.After-slice_known-3-1)
     → c.put_amounts-end.result ≤ c.args.at + 178
 line_end_lem c =
-    let k = c.before.before in
-    let j = k.before.before.before.before in
-    let s = j.before.before.before.before in
-    omega (arith, decimal_short 1 (s.args.i + 1) (omega (arith, s.requires.inside)), j.put_decimal-first.ensures.place, k.put_amounts-end.ensures.short, s.requires.p_low)
+    omega (arith, decimal_short 1 (c.args.i + 1) (omega (arith, c.requires.inside)), c.put_decimal-first.ensures.place, c.put_amounts-end.ensures.short, c.requires.p_low)
 
 slice-write-text : tie.Need-bounds-text-end
 slice-write-text c =
-    let k = c.before.before in
-    let j = k.before.before.before.before in
-    let s = j.before.before.before.before in
-    omega (arith, line_end_lem c, j.put_decimal-first.auto.text, k.put_amounts-end.auto.text, s.requires.room)
+    omega (arith, line_end_lem c, c.put_decimal-first.auto.text, c.put_amounts-end.auto.text, c.requires.room)
 
 add-result : tie.Need-overflow_add-result
 add-result c =
-    let s = c.before.before.before.before.before.before.before.before.before.before in
-    omega (arith, line_end_lem c, s.requires.room, s.well_formed.1.1.1.1.0.0)
+    omega (arith, line_end_lem c, c.requires.room, c.well_formed.1.1.1.1.0.0)
 
 same_length : tie.Need-shape_of-text
 same_length c =
-    let k = c.before.before in
-    let j = k.before.before.before.before in
-    simp length-set (k.put_amounts-end.auto.text ∙ j.put_decimal-first.auto.text)
+    simp length-set (c.put_amounts-end.auto.text ∙ c.put_decimal-first.auto.text)
 
 returns : tie.Need-returns
 returns c =
-    let k = c.before.before in
-    let j = k.before.before.before.before in
-    let s = j.before.before.before.before in
     record {
-      put = put_line _ _ _ _ _ _ _ _ j.put_decimal-first.ensures k.put_amounts-end.ensures.put (omega (arith, line_end_lem c, s.requires.room));
+      put = put_line _ _ _ _ _ _ _ _ c.put_decimal-first.ensures c.put_amounts-end.ensures.put (omega (arith, line_end_lem c, c.requires.room));
       short = omega (arith, line_end_lem c);
     }
 

@@ -32,15 +32,12 @@ loop-less : tie.Need-loop-i-smaller invariant-loop decreases-loop
 loop-less c = search rules
 
 loop-again : tie.Need-loop-i-preserved invariant-loop decreases-loop
-loop-again c =
-    let b = c.before.before in
-    let l = b.before.before.before in
-    let s = l.before.before.before in (
-      search rules,
-      b.put_payslip-end.auto.text ∙ l.loop-i.invariant.1,
-      omega (arith, b.put_payslip-end.ensures.short, l.loop-i.invariant.2),
-      put_next _ _ _ (amount_in s.args.table.now) _ _ _ _ _ (omega (arith, s.requires.room)) l.loop-i.invariant.3 b.put_payslip-end.ensures.put,
-    )
+loop-again c = (
+  search rules,
+  c.put_payslip-end.auto.text ∙ c.loop-i.invariant.1,
+  omega (arith, c.put_payslip-end.ensures.short, c.loop-i.invariant.2),
+  put_next _ c.args.p c.loop-i.i (amount_in c.args.table.now) _ _ _ _ _ (omega (arith, c.requires.room)) c.loop-i.invariant.3 c.put_payslip-end.ensures.put,
+)
 
 same_length : tie.Need-shape_of-text invariant-loop decreases-loop
 same_length c = search rules
@@ -48,8 +45,7 @@ same_length c = search rules
 returns : tie.Need-returns invariant-loop decreases-loop
 returns c =
     let l = c.loop-i in
-    let s = c.before.before.before.before in
-    let e : l.i ≡ s.args.q = omega (arith, l.invariant.0, c.loop-i-test.false) in
+    let e : l.i ≡ c.args.q = omega (arith, l.invariant.0, c.loop-i-test.false) in
     rw e at l.invariant.3
 
 pub put_payslips_spec : {M : Type 1} → statement M

@@ -9,54 +9,37 @@ use Rattle.listing.proofs.Lines.{put_refusal}
 use Rattle.listing.proofs.put_refused.Statement.{statement}
 use Rattle.listing.proofs.put_refused.Tie as tie
 
-slice-aggregate-put-word : tie.Need-slice-aggregate-put-word
-slice-aggregate-put-word c = search rules
-
 put-word-requires : tie.Need-put_word-first-requires
 put-word-requires c κs = search rules
 
 put-decimal-requires : tie.Need-put_decimal-end-requires
 put-decimal-requires c κs =
-    let k = c.before.before.before in
-    let s = k.before.before.before.before in
-    omega (arith, decimal_short 9 s.args.number (omega (arith, s.ranges.number.fits)), k.put_word-first.ensures.place, k.put_word-first.auto.text, s.requires)
+    omega (arith, decimal_short 9 c.args.number (omega (arith, c.ranges.number.fits)), c.put_word-first.ensures.place, c.put_word-first.auto.text, c.requires)
 
 -- where the newline goes
 line_end_lem : (c : tie.After-slice_known-3-1) → c.put_decimal-end.result ≤ 18
 line_end_lem c =
-    let k = c.before.before in
-    let j = k.before.before.before.before in
-    let s = j.before.before.before.before in
-    omega (arith, decimal_short 9 s.args.number (omega (arith, s.ranges.number.fits)), j.put_word-first.ensures.place, k.put_decimal-end.ensures.place)
+    omega (arith, decimal_short 9 c.args.number (omega (arith, c.ranges.number.fits)), c.put_word-first.ensures.place, c.put_decimal-end.ensures.place)
 
 slice-write-text : tie.Need-bounds-text-end
 slice-write-text c =
-    let k = c.before.before in
-    let j = k.before.before.before.before in
-    let s = j.before.before.before.before in
-    omega (arith, line_end_lem c, j.put_word-first.auto.text, k.put_decimal-end.auto.text, s.requires)
+    omega (arith, line_end_lem c, c.put_word-first.auto.text, c.put_decimal-end.auto.text, c.requires)
 
 add-result : tie.Need-overflow_add-result
 add-result c = omega (arith, line_end_lem c)
 
 same_length : tie.Need-shape_of-text
 same_length c =
-    let k = c.before.before in
-    let j = k.before.before.before.before in
-    simp length-set (k.put_decimal-end.auto.text ∙ j.put_word-first.auto.text)
+    simp length-set (c.put_decimal-end.auto.text ∙ c.put_word-first.auto.text)
 
 returns : tie.Need-returns
 returns c =
-    let k = c.before.before in
-    let j = k.before.before.before.before in
-    let s = j.before.before.before.before in
-    put_refusal _ _ _ _ _ _ j.put_word-first.ensures k.put_decimal-end.ensures (omega (arith, line_end_lem c, j.put_word-first.auto.text, s.requires))
+    put_refusal _ _ _ _ _ _ c.put_word-first.ensures c.put_decimal-end.ensures (omega (arith, line_end_lem c, c.put_word-first.auto.text, c.requires))
 
 pub put_refused_spec : {M : Type 1} → statement M
 put_refused_spec =
     tie.close
     (tie.spec
-    slice-aggregate-put-word
     put-word-requires
     put-decimal-requires
     slice-write-text

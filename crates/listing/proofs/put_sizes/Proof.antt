@@ -21,7 +21,7 @@ short s = (
 )
 
 put-decimal-requires : tie.Need-put_decimal-first-requires
-put-decimal-requires c κs = let s = c.before.before in omega (arith, (short s).0, s.requires.room)
+put-decimal-requires c κs = let s = c.before.before in omega (arith, (short s).0, c.requires.room)
 
 cast-put-field : tie.Need-overflow_cast-q
 cast-put-field c = search rules
@@ -30,7 +30,7 @@ put-field-requires : tie.Need-put_field-second-requires
 put-field-requires c κs =
     let k = c.before.before.before in
     let s = k.before.before.before in
-    omega (arith, (short s).0, (short s).1, k.put_decimal-first.ensures.place, k.put_decimal-first.auto.text, s.requires.room)
+    omega (arith, (short s).0, (short s).1, c.put_decimal-first.ensures.place, c.put_decimal-first.auto.text, c.requires.room)
 
 cast-put-field-2 : tie.Need-overflow_cast-n
 cast-put-field-2 c = search rules
@@ -40,7 +40,7 @@ put-field-requires-2 c κs =
     let k = c.before.before.before in
     let j = k.before.before.before.before in
     let s = j.before.before.before in
-    omega (arith, (short s).0, (short s).1, (short s).2, j.put_decimal-first.ensures.place, j.put_decimal-first.auto.text, k.put_field-second.ensures.place, k.put_field-second.auto.text, s.requires.room)
+    omega (arith, (short s).0, (short s).1, (short s).2, c.put_decimal-first.ensures.place, c.put_decimal-first.auto.text, c.put_field-second.ensures.place, c.put_field-second.auto.text, c.requires.room)
 
 -- where the newline goes
 line_end_lem : (c : tie.After-slice_known-4-1) → c.put_field-end.result ≤ 11
@@ -49,25 +49,18 @@ line_end_lem c =
     let j = k.before.before.before.before in
     let i = j.before.before.before.before in
     let s = i.before.before.before in
-    omega (arith, (short s).0, (short s).1, (short s).2, i.put_decimal-first.ensures.place, j.put_field-second.ensures.place, k.put_field-end.ensures.place)
+    omega (arith, (short s).0, (short s).1, (short s).2, c.put_decimal-first.ensures.place, c.put_field-second.ensures.place, c.put_field-end.ensures.place)
 
 slice-write-text : tie.Need-bounds-text-end
 slice-write-text c =
-    let k = c.before.before in
-    let j = k.before.before.before.before in
-    let i = j.before.before.before.before in
-    let s = i.before.before.before in
-    omega (arith, line_end_lem c, i.put_decimal-first.auto.text, j.put_field-second.auto.text, k.put_field-end.auto.text, s.requires.room)
+    omega (arith, line_end_lem c, c.put_decimal-first.auto.text, c.put_field-second.auto.text, c.put_field-end.auto.text, c.requires.room)
 
 add-result : tie.Need-overflow_add-result
 add-result c = omega (arith, line_end_lem c)
 
 same_length : tie.Need-shape_of-text
 same_length c =
-    let k = c.before.before in
-    let j = k.before.before.before.before in
-    let i = j.before.before.before.before in
-    simp length-set (k.put_field-end.auto.text ∙ j.put_field-second.auto.text ∙ i.put_decimal-first.auto.text)
+    simp length-set (c.put_field-end.auto.text ∙ c.put_field-second.auto.text ∙ c.put_decimal-first.auto.text)
 
 returns : tie.Need-returns
 returns c =
@@ -76,10 +69,10 @@ returns c =
     let i = j.before.before.before.before in
     let s = i.before.before.before in
     record {
-      put = put_line _ _ _ _ _ _ _ _ i.put_decimal-first.ensures
-          (put_two _ _ _ _ _ _ _ _ (omega (arith, (short s).0, i.put_decimal-first.ensures.place, i.put_decimal-first.auto.text, s.requires.room)) j.put_field-second.ensures
-          k.put_field-end.ensures)
-          (omega (arith, line_end_lem c, s.requires.room));
+      put = put_line _ _ _ _ _ _ _ _ c.put_decimal-first.ensures
+          (put_two _ _ _ _ _ _ _ _ (omega (arith, (short s).0, c.put_decimal-first.ensures.place, c.put_decimal-first.auto.text, c.requires.room)) c.put_field-second.ensures
+          c.put_field-end.ensures)
+          (omega (arith, line_end_lem c, c.requires.room));
       short = omega (arith, line_end_lem c);
     }
 

@@ -24,8 +24,7 @@ same_length c = search rules
 
 returns-2 : tie.Need-returns
 returns-2 c =
-    let k = c.before.before.before in
-    numbers_read _ _ k.is_cut.ensures _ k.if-is_cut.false _ _ _ _ k.parse-parsed.ensures c.tell_parsed.ensures
+    numbers_read _ _ c.is_cut.ensures _ c.if-is_cut.false _ _ _ _ c.parse-parsed.ensures c.tell_parsed.ensures
 
 pub read_numbers_spec : {M : Type 1} → statement M
 read_numbers_spec =

@@ -6,7 +6,7 @@ use Rattle.parameters.proofs.judge_method.Statement.{statement}
 use Rattle.parameters.proofs.judge_method.Tie as tie
 
 mul-if3 : tie.Need-overflow_mul-p
-mul-if3 c = let s = c.before.before in omega (arith, mul-le-mul_right s.args.k s.requires)
+mul-if3 c = omega (arith, mul-le-mul_right c.args.k c.requires)
 
 returns : tie.Need-returns-then-p-k-gt10
 returns c = first_wide _ _ _ (omega arith) (omega arith)

@@ -25,30 +25,21 @@ lessened-requires c κs = search rules
 
 mul-ceiling : tie.Need-overflow_mul-ceiling
 mul-ceiling c =
-    let most = c.before in
-    let s = most.before.before.before.before.before.before.before.before in
-    omega (arith, most_fits s.args.s s.args.amounts.now s.args.bits.now s.requires _ most.lessened.ensures)
+    omega (arith, most_fits c.args.s c.args.amounts.now c.args.bits.now c.requires _ c.lessened.ensures)
 
 add-ceiling : tie.Need-overflow_add-ceiling
 add-ceiling c =
-    let most = c.before in
-    let tabled = most.before.before.before.before.before in
-    let s = tabled.before.before.before in
     omega (
       arith,
-      most_fits s.args.s s.args.amounts.now s.args.bits.now s.requires _ most.lessened.ensures,
-      tabled.tables_count.ensures.low,
-      s.requires.cuts.squarings_few,
+      most_fits c.args.s c.args.amounts.now c.args.bits.now c.requires _ c.lessened.ensures,
+      c.tables_count.ensures.low,
+      c.requires.cuts.squarings_few,
     )
 
 returns : tie.Need-returns
 returns c =
-    let most = c.before in
-    let paid = most.before.before in
-    let tabled = paid.before.before.before in
-    let s = tabled.before.before.before in
-    quote_all s.args.s s.args.amounts.now s.args.bits.now s.requires _ _ _ tabled.tables_count.ensures.is paid.payslips_count.ensures.is
-    most.lessened.ensures
+    quote_all c.args.s c.args.amounts.now c.args.bits.now c.requires _ _ _ c.tables_count.ensures.is c.payslips_count.ensures.is
+    c.lessened.ensures
 
 pub chain_quote_spec : {M : Type 1} → statement M
 chain_quote_spec =

@@ -14,24 +14,20 @@ slice-reshare-prefix-joins c = search rules
 
 slice-aggregate-joins : tie.Need-slice_bounds-joins-end-2
 slice-aggregate-joins c =
-    let numbered = c.before.before.before in
-    let a = numbered.args in
-    numbers_long a.s a.amounts.now a.i _ _ numbered.number_parts.ensures
+    let a = c.args in
+    numbers_long a.s a.amounts.now a.i _ _ c.number_parts.ensures
 
 joins-requires : tie.Need-joins-requires
 joins-requires c κs =
-    let numbered = c.before.before.before in
-    let s = numbered.before.before.before.before in
-    omega (arith, numbers_long s.args.s s.args.amounts.now s.args.i _ _ numbered.number_parts.ensures, s.requires.grouped.cuts.groups_few)
+    omega (arith, numbers_long c.args.s c.args.amounts.now c.args.i _ _ c.number_parts.ensures, c.requires.grouped.cuts.groups_few)
 
 same_length : tie.Need-shape_of-cells
 same_length c = search rules
 
 returns : tie.Need-returns
 returns c =
-    let numbered = c.before.before.before.before in
-    let a = numbered.args in
-    record { is = joins_told a.s a.amounts.now a.i _ _ numbered.number_parts.ensures _ c.joins.ensures.is; low = c.joins.ensures.low }
+    let a = c.args in
+    record { is = joins_told a.s a.amounts.now a.i _ _ c.number_parts.ensures _ c.joins.ensures.is; low = c.joins.ensures.low }
 
 pub payslip_count_spec : {M : Type 1} → statement M
 payslip_count_spec =

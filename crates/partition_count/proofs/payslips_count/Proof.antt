@@ -23,14 +23,11 @@ loop-holds c = search rules
 
 payslip-count-requires : tie.Need-payslip_count-n-requires invariant-loop decreases-loop
 payslip-count-requires c κs =
-    let start = c.before.before.before in
-    let s = start.before.before.before.before in
-    record { grouped = s.requires.grouped; inside = search rules; room = omega (arith, start.loop-i.invariant.1, s.requires.room) }
+    record { grouped = c.requires.grouped; inside = search rules; room = omega (arith, c.loop-i.invariant.1, c.requires.room) }
 
 add-n : tie.Need-overflow_add-n invariant-loop decreases-loop
 add-n c =
-    let start = c.before.before.before.before.before.before in
-    omega (arith, c.payslip_count-n.ensures.low, start.loop-i.invariant.3, start.requires.grouped.sheet.q_low)
+    omega (arith, c.payslip_count-n.ensures.low, c.loop-i.invariant.3, c.requires.grouped.sheet.q_low)
 
 add-i : tie.Need-overflow_add-i invariant-loop decreases-loop
 add-i c = search rules
@@ -40,19 +37,16 @@ loop-less c = search rules
 
 loop-again : tie.Need-loop-i-preserved invariant-loop decreases-loop
 loop-again c =
-    let paid = c.before.before in
-    let start = c.before.before.before.before.before.before in
-    let on = sum_on _ start.loop-i.i _ _ paid.payslip_count-n.ensures.is start.loop-i.invariant.2 in
-    (search rules, search rules, on, omega (arith, start.loop-i.invariant.3, paid.payslip_count-n.ensures.low))
+    let on = sum_on _ c.loop-i.i _ _ c.payslip_count-n.ensures.is c.loop-i.invariant.2 in
+    (search rules, search rules, on, omega (arith, c.loop-i.invariant.3, c.payslip_count-n.ensures.low))
 
 same_length : tie.Need-shape_of-cells invariant-loop decreases-loop
 same_length c = search rules
 
 returns : tie.Need-returns invariant-loop decreases-loop
 returns c =
-    let start = c.before.before in
-    let q = start.args.s.q in
-    record { is = sum-end _ start.loop-i.i q _ (search rules) (search rules) start.loop-i.invariant.2; low = search rules }
+    let q = c.args.s.q in
+    record { is = sum-end _ c.loop-i.i q _ (search rules) (search rules) c.loop-i.invariant.2; low = search rules }
 
 pub payslips_count_spec : {M : Type 1} → statement M
 payslips_count_spec =

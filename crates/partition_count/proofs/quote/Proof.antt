@@ -17,22 +17,16 @@ array-share-prefix-bits c = search rules
 
 slice-aggregate-chain-quote : tie.Need-slice_bounds-chain_quote-end
 slice-aggregate-chain-quote c =
-    let g = c.before.before in
-    let s = g.before.before.before.before in
-    let told = sheet_grouped s.requires g.group_columns-s.ensures in
+    let told = sheet_grouped c.requires c.group_columns-s.ensures in
     sym (grouped_long told.grouped ∙ told.same_p)
 
 chain-quote-requires : tie.Need-chain_quote-requires
 chain-quote-requires c κs =
-    let g = c.before.before in
-    let s = g.before.before.before.before in
-    (sheet_grouped s.requires g.group_columns-s.ensures).grouped
+    (sheet_grouped c.requires c.group_columns-s.ensures).grouped
 
 returns : tie.Need-returns
 returns c =
-    let g = c.before.before.before in
-    let s = g.before.before.before.before in
-    quote_given (sheet_grouped s.requires g.group_columns-s.ensures) c.chain_quote.ensures
+    quote_given (sheet_grouped c.requires c.group_columns-s.ensures) c.chain_quote.ensures
 
 pub quote_spec : {M : Type 1} → statement M
 quote_spec =

@@ -17,9 +17,7 @@ array-share-prefix-bits c = search rules
 
 slice-aggregate-make-chain : tie.Need-slice_bounds-make_chain-end
 slice-aggregate-make-chain c =
-    let g = c.before.before in
-    let s = g.before.before.before.before.before.before in
-    let told = sheet_grouped s.requires.asked g.group_columns-s.ensures in
+    let told = sheet_grouped c.requires.asked c.group_columns-s.ensures in
     sym (grouped_long told.grouped ∙ told.same_p)
 
 slice-aggregate-make-chain-2 : tie.Need-slice_bounds-make_chain-end-2
@@ -30,10 +28,8 @@ slice-aggregate-make-chain-3 c = search rules
 
 make-chain-requires : tie.Need-make_chain-requires
 make-chain-requires c κs =
-    let g = c.before.before.before.before.before.before in
-    let s = g.before.before.before.before.before.before in
-    let told = sheet_grouped s.requires.asked g.group_columns-s.ensures in
-    let room = room_given told s.requires.room in
+    let told = sheet_grouped c.requires.asked c.group_columns-s.ensures in
+    let room = room_given told c.requires.room in
     record { grouped = told.grouped; members_room = search rules; cells_room = search rules; fits = room }
 
 same_length : tie.Need-shape_of-steps
@@ -44,9 +40,7 @@ same-length-2 c = search rules
 
 returns : tie.Need-returns
 returns c =
-    let g = c.before.before.before.before.before.before.before.before.before.before.before.before.before in
-    let s = g.before.before.before.before.before.before in
-    chain_given (sheet_grouped s.requires.asked g.group_columns-s.ensures) c.make_chain.ensures
+    chain_given (sheet_grouped c.requires.asked c.group_columns-s.ensures) c.make_chain.ensures
 
 pub emit_spec : {M : Type 1} → statement M
 emit_spec =

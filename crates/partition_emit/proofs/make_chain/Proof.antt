@@ -7,26 +7,22 @@ use Rattle.partition_emit.proofs.make_chain.Tie as tie
 
 make-groups-requires : tie.Need-make_groups-tables-requires
 make-groups-requires c κs =
-    let s = c.before.before.before.before.before.before.before.before in
-    begin_fits s.requires.grouped s.requires.fits _ s.requires.members_room
+    begin_fits c.requires.grouped c.requires.fits _ c.requires.members_room
 
 slice-reshare-prefix-make-payslips : tie.Need-slice_bounds-make_payslips-end
 slice-reshare-prefix-make-payslips c = search rules
 
 slice-aggregate-make-payslips : tie.Need-slice_bounds-make_payslips-end-2
 slice-aggregate-make-payslips c =
-    let grouped = c.before.before.before.before.before in
-    let s = grouped.before.before.before.before.before.before.before.before in
-    sheet_long_lem s.requires.grouped grouped.make_groups-tables.ensures
+    sheet_long_lem c.requires.grouped c.make_groups-tables.ensures
 
 make-payslips-requires : tie.Need-make_payslips-requires
 make-payslips-requires c κs =
     let grouped = c.before.before.before.before.before.before.before.before in
-    let s = grouped.before.before.before.before.before.before.before.before in
-    let are = sheet_inputs s.requires.grouped grouped.make_groups-tables.ensures in
+    let are = sheet_inputs c.requires.grouped c.make_groups-tables.ensures in
     record {
-      asked = record { grouped = s.requires.grouped; members_are = are; room = s.requires.cells_room };
-      room = slips_room s.requires.grouped s.requires.fits grouped.make_groups-tables.ensures;
+      asked = record { grouped = c.requires.grouped; members_are = are; room = c.requires.cells_room };
+      room = slips_room c.requires.grouped c.requires.fits c.make_groups-tables.ensures;
     }
 
 same_length : tie.Need-shape_of-members
@@ -43,9 +39,7 @@ same-length-4 c = search rules
 
 returns : tie.Need-returns
 returns c =
-    let grouped = c.before.before.before.before.before.before.before.before.before.before.before.before.before.before.before in
-    let s = grouped.before.before.before.before.before.before.before.before in
-    chain_whole s.requires.grouped s.requires.fits grouped.make_groups-tables.ensures c.make_payslips.ensures
+    chain_whole c.requires.grouped c.requires.fits c.make_groups-tables.ensures c.make_payslips.ensures
 
 pub make_chain_spec : {M : Type 1} → statement M
 make_chain_spec =

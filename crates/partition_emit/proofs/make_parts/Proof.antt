@@ -22,36 +22,29 @@ decreases-loop s members numbers steps₀ r₀ g₀ steps r g = s.groups - g
 
 loop-holds : tie.Need-loop-g-init invariant-loop decreases-loop
 loop-holds c =
-    let s = c.before.before.before in
-    (search rules, search rules, emitted_own _ _ _ _ _ s.requires.room)
+    (search rules, search rules, emitted_own _ _ _ _ _ c.requires.room)
 
 mul-part-value : tie.Need-offset_bounds-numbers-g invariant-loop decreases-loop
 mul-part-value c =
-    let start = c.before.before in
-    omega (arith, start.requires.asked.cuts.groups_few)
+    omega (arith, c.requires.asked.cuts.groups_few)
 
 shared-slice-read-part-value : tie.Need-bounds-numbers-g invariant-loop decreases-loop
 shared-slice-read-part-value c =
-    let start = c.before.before.before in
-    omega (arith, start.requires.asked.numbers_long)
+    omega (arith, c.requires.asked.numbers_long)
 
 part-value-requires : tie.Need-part_value-y-requires invariant-loop decreases-loop
 part-value-requires c κs =
-    let start = c.before.before.before in
-    let pre = start.requires.asked in
-    record { cuts = pre.cuts; long = pre.members_long; inside = search rules; part = pre.numbers_low start.loop-g.g (search rules) }
+    let pre = c.requires.asked in
+    record { cuts = pre.cuts; long = pre.members_long; inside = search rules; part = pre.numbers_low c.loop-g.g (search rules) }
 
 times-requires : tie.Need-times-r-requires invariant-loop decreases-loop
 times-requires c κs =
-    let valued = c.before in
-    let start = valued.before.before.before.before in
-    let s = start.before.before.before.before in
-    let a = s.args in
+    let a = c.args in
     let steps = a.steps.now in
     let before = steps_in steps a.progress.steps in
     let number = counts_of a.numbers.now in
-    let room = part_room a.s a.members.now number before steps _ _ _ start.loop-g.g _ start.loop-g.invariant.2 valued.part_value-y.ensures in
-    room a.progress s.requires.room (search rules)
+    let room = part_room a.s a.members.now number before steps _ _ _ c.loop-g.g _ c.loop-g.invariant.2 c.part_value-y.ensures in
+    room a.progress c.requires.room (search rules)
 
 add-g : tie.Need-overflow_add-g invariant-loop decreases-loop
 add-g c = search rules
@@ -61,27 +54,22 @@ loop-less c = search rules
 
 loop-again : tie.Need-loop-g-preserved invariant-loop decreases-loop
 loop-again c =
-    let timed = c.before.before in
-    let valued = c.before.before.before.before in
-    let start = valued.before.before.before.before in
-    let s = start.before.before.before.before in
-    let a = s.args in
+    let a = c.args in
     let steps = a.steps.now in
     let before = steps_in steps a.progress.steps in
     let number = counts_of a.numbers.now in
-    let more = part_on a.s a.members.now number before steps _ _ _ start.loop-g.g _ start.loop-g.invariant.2 valued.part_value-y.ensures in
-    (search rules, search rules, more _ _ _ timed.times-r.ensures)
+    let more = part_on a.s a.members.now number before steps _ _ _ c.loop-g.g _ c.loop-g.invariant.2 c.part_value-y.ensures in
+    (search rules, search rules, more _ _ _ c.times-r.ensures)
 
 same_length : tie.Need-shape_of-steps invariant-loop decreases-loop
 same_length c = search rules
 
 returns : tie.Need-returns invariant-loop decreases-loop
 returns c =
-    let start = c.before.before in
-    let a = start.args in
+    let a = c.args in
     let steps = a.steps.now in
     let number = counts_of a.numbers.now in
-    parts_end_lem a.s a.members.now number (steps_in steps a.progress.steps) steps _ _ _ start.loop-g.g start.loop-g.invariant.2 (search rules) (search rules)
+    parts_end_lem a.s a.members.now number (steps_in steps a.progress.steps) steps _ _ _ c.loop-g.g c.loop-g.invariant.2 (search rules) (search rules)
 
 pub make_parts_spec : {M : Type 1} → statement M
 make_parts_spec =

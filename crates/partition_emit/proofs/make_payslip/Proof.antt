@@ -18,21 +18,18 @@ slice-reshare-prefix-make-parts c = search rules
 
 slice-aggregate-make-parts : tie.Need-slice_bounds-make_parts-end-2
 slice-aggregate-make-parts c =
-    let numbered = c.before.before.before in
-    let a = numbered.args in
-    numbers_long a.s a.amounts.now a.i _ _ numbered.number_parts.ensures
+    let a = c.args in
+    numbers_long a.s a.amounts.now a.i _ _ c.number_parts.ensures
 
 make-parts-requires : tie.Need-make_parts-requires
 make-parts-requires c κs =
-    let numbered = c.before.before.before.before in
-    let s = numbered.before.before.before.before.before.before in
-    let a = s.args in
-    let numbers : List ℕ = take a.s.groups numbered.number_parts.new.1.1.1.1.0 in
-    let at = numbers_at a.s a.amounts.now a.i _ _ numbered.number_parts.ensures in
-    let long = numbers_long a.s a.amounts.now a.i _ _ numbered.number_parts.ensures in
-    let same = payslip_is s.requires.ready a.i numbers at (steps_in a.steps.now a.progress.steps) in
-    let ready = payslip_numbered s.requires.ready a.i numbers at (sym long) in
-    record { asked = ready; room = rw same s.requires.room }
+    let a = c.args in
+    let numbers : List ℕ = take a.s.groups c.number_parts.new.cells in
+    let at = numbers_at a.s a.amounts.now a.i _ _ c.number_parts.ensures in
+    let long = numbers_long a.s a.amounts.now a.i _ _ c.number_parts.ensures in
+    let same = payslip_is c.requires.ready a.i numbers at (steps_in a.steps.now a.progress.steps) in
+    let ready = payslip_numbered c.requires.ready a.i numbers at (sym long) in
+    record { asked = ready; room = rw same c.requires.room }
 
 same_length : tie.Need-shape_of-cells
 same_length c = search rules
@@ -42,14 +39,11 @@ same-length-2 c = search rules
 
 returns : tie.Need-returns
 returns c =
-    let made = c.before.before in
-    let numbered = c.before.before.before.before.before.before.before in
-    let s = numbered.before.before.before.before.before.before in
-    let a = s.args in
-    let numbers : List ℕ = take a.s.groups numbered.number_parts.new.1.1.1.1.0 in
-    let at = numbers_at a.s a.amounts.now a.i _ _ numbered.number_parts.ensures in
-    let same = payslip_is s.requires.ready a.i numbers at (steps_in a.steps.now a.progress.steps) in
-    rw (← same) made.make_parts.ensures
+    let a = c.args in
+    let numbers : List ℕ = take a.s.groups c.number_parts.new.cells in
+    let at = numbers_at a.s a.amounts.now a.i _ _ c.number_parts.ensures in
+    let same = payslip_is c.requires.ready a.i numbers at (steps_in a.steps.now a.progress.steps) in
+    rw (← same) c.make_parts.ensures
 
 pub make_payslip_spec : {M : Type 1} → statement M
 make_payslip_spec =

@@ -28,19 +28,18 @@ each s = payslip_begins s.args.s.p s.args.s.q s.args.amounts.now s.args.s.c
 
 loop-holds : tie.Need-loop-i-init invariant-loop decreases-loop
 loop-holds c =
-    let s = c.before.before.before.before.before.before in
-    let a = s.args in
+    let a = c.args in
     let slip = payslip_of a.s a.amounts.now in
-    (paying_start a.s.p a.s.q slip a.steps.now a.outputs.now a.progress s.requires.room, search rules)
+    (paying_start a.s.p a.s.q slip a.steps.now a.outputs.now a.progress c.requires.room, search rules)
 
 make-payslip-requires : tie.Need-make_payslip-r-requires invariant-loop decreases-loop
 make-payslip-requires c κs =
     let start = c.before.before.before.before in
     let s = start.before.before.before.before.before.before.before in
-    let a = s.args in
-    let pre = s.requires.asked in
-    let room : most_inputs ≤ length start.loop-i.cells = omega (arith, start.loop-i.invariant.1, pre.room) in
-    let after = paying_room (payslip_of a.s a.amounts.now) (each s) start.loop-i.invariant.0 s.requires.room (search rules) in
+    let a = c.args in
+    let pre = c.requires.asked in
+    let room : most_inputs ≤ length c.loop-i.cells = omega (arith, c.loop-i.invariant.1, pre.room) in
+    let after = paying_room (payslip_of a.s a.amounts.now) (each s) c.loop-i.invariant.0 c.requires.room (search rules) in
     record { ready = record { grouped = pre.grouped; members_are = pre.members_are; room = room }; inside = search rules; room = after }
 
 mul-outputs : tie.Need-offset_bounds-outputs-i invariant-loop decreases-loop
@@ -60,9 +59,9 @@ loop-again c =
     let paid = c.before.before.before.before.before in
     let start = paid.before.before.before.before.before in
     let s = start.before.before.before.before.before.before.before in
-    let a = s.args in
-    let more = paying_on (payslip_of a.s a.amounts.now) (each s) start.loop-i.invariant.0 s.requires.room (search rules) in
-    (more paid.make_payslip-r.ensures, search rules)
+    let a = c.args in
+    let more = paying_on (payslip_of a.s a.amounts.now) (each s) c.loop-i.invariant.0 c.requires.room (search rules) in
+    (more c.make_payslip-r.ensures, search rules)
 
 same_length : tie.Need-shape_of-cells invariant-loop decreases-loop
 same_length c = search rules
@@ -75,8 +74,7 @@ same-length-3 c = search rules
 
 returns : tie.Need-returns invariant-loop decreases-loop
 returns c =
-    let start = c.before.before in
-    paying_end start.loop-i.invariant.0 (search rules)
+    paying_end c.loop-i.invariant.0 (search rules)
 
 pub make_payslips_spec : {M : Type 1} → statement M
 make_payslips_spec =

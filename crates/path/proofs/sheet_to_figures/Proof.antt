@@ -22,23 +22,23 @@ use Rattle.path.proofs.sheet_to_figures.Tie as tie
 abbrev start : tie.After-compile → tie.Start
 start r = r.before.before.before.before.before.before.before.before.before.before.before.before.before
 
-abbrev compiling : tie.In-Chain-2 → tie.After-compile
-compiling c = c.before.before.before.before.before.before
+abbrev compiling : tie.In-Chain → tie.After-compile
+compiling c = c.before.before.before.before.before
 
-abbrev compiled-before : tie.After-dispatch → tie.In-Chain-2
-compiled-before d = d.before.before.before.before.before.before.before.before
+abbrev compiled_before : tie.After-dispatch → tie.In-Chain
+compiled_before d = d.before.before.before.before.before
 
-abbrev dispatching : tie.In-Chain-dispatch-2 → tie.After-dispatch
-dispatching c = c.before.before.before.before.before.before.before.before
+abbrev dispatching : tie.In-Chain-dispatch → tie.After-dispatch
+dispatching c = c.before.before.before.before.before.before.before
 
-abbrev columns-before : tie.After-receive → tie.In-Chain-dispatch-2
-columns-before e = e.before.before.before.before.before.before.before.before
+abbrev columns_before : tie.After-receive → tie.In-Chain-dispatch
+columns_before e = e.before.before.before.before.before
 
-abbrev dispatched-by : tie.After-receive → tie.After-dispatch
-dispatched-by e = dispatching (columns-before e)
+abbrev dispatched_by : tie.After-receive → tie.After-dispatch
+dispatched_by e = dispatching (columns_before e)
 
 abbrev compiled_by : tie.After-receive → tie.After-compile
-compiled_by e = compiling (compiled-before (dispatched-by e))
+compiled_by e = compiling (compiled_before (dispatched_by e))
 
 -- the slices as they were lent
 abbrev slices : tie.Start → Lent
@@ -49,11 +49,10 @@ slices s =
 -- each amount is a number of 32 bits
 low : (r : tie.After-compile) (j : ℕ) → get_or (start r).args.amounts.now j 0 ≤ most_amount
 low r j =
-    let known = r.before.before.before.before.before.before.before.before.before.before.before.before in
-    omega (arith, known.shared-slice-known.given j)
+    omega (arith, r.shared_slice_known-1.given j)
 
 -- compile found nothing, and told the count
-accepted_at : (c : tie.In-Chain-2) → let s = start (compiling c) in
+accepted_at : (c : tie.In-Chain) → let s = start (compiling c) in
     fine ≡ compiles s.args.p s.args.q s.args.amounts.now s.args.method s.args.k (slices s)
 accepted_at c =
     let r = compiling c in
@@ -61,7 +60,7 @@ accepted_at c =
     compile_passes s.args.p s.args.q s.args.amounts.now s.args.method s.args.k s.args.steps.now
     s.args.outputs.now _ (answer_clause r.compile.ensures) _ c.in-Chain.is
 
-counted_at : (c : tie.In-Chain-2) → let s = start (compiling c) in
+counted_at : (c : tie.In-Chain) → let s = start (compiling c) in
     c.in-Chain.compiled.steps ≡ count s.args.p s.args.q s.args.amounts.now s.args.method s.args.k
 counted_at c =
     let r = compiling c in
@@ -70,11 +69,11 @@ counted_at c =
     s.args.outputs.now _ (answer_clause r.compile.ensures) _ c.in-Chain.is (low r)
 
 -- the chain that compile filled
-filled_at : (c : tie.In-Chain-2)
+filled_at : (c : tie.In-Chain)
     → let r = compiling c in
     let s = start r in
     Filled s.args.p s.args.q s.args.amounts.now s.args.method s.args.k
-    r.compile.last.1.1.1.1.1.0 r.compile.last.1.1.1.1.1.1.0 c.in-Chain.compiled.steps
+    r.compile.new.steps r.compile.new.outputs c.in-Chain.compiled.steps
 filled_at c =
     let r = compiling c in
     let s = start r in
@@ -82,15 +81,15 @@ filled_at c =
     s.args.outputs.now _ (answer_clause r.compile.ensures) _ c.in-Chain.is (low r) _ _ (first_slice_clause r.compile.ensures) (second_slice_clause r.compile.ensures)
 
 -- the chain that read filled
-taken_at : (c : tie.In-Chain-dispatch-2)
+taken_at : (c : tie.In-Chain-dispatch)
     → let d = dispatching c in
-    let s = start (compiling (compiled-before d)) in
-    let g = c.columns-1.given.0 in
+    let s = start (compiling (compiled_before d)) in
+    let g = c.in-Chain-dispatch in
     ChainTaken edition1 (written s.args.p s.args.q s.args.amounts.now s.args.method s.args.k)
-    d.dispatch.last.1.1.1.1.0 d.dispatch.last.1.1.1.1.1.0 g.0 g.1.0 g.1.1.0.steps
+    d.dispatch.new.received d.dispatch.new.results g.columns g.payslips g.read.steps
 taken_at c =
     let d = dispatching c in
-    let n = compiled-before d in
+    let n = compiled_before d in
     let r = compiling n in
     let s = start r in
     let f = filled_at n in
@@ -122,7 +121,7 @@ slice-reshare-prefix-dispatch-2 : tie.Need-slice_bounds-dispatch-end-in-Chain-2
 slice-reshare-prefix-dispatch-2 c = (filled_at c.before).outputs_room
 
 slice-aggregate-dispatch-2 : tie.Need-slice_bounds-dispatch-end-in-Chain-3
-slice-aggregate-dispatch-2 c = sym (length-take-le _ _ (filled_at c.before.before).outputs_room)
+slice-aggregate-dispatch-2 c = sym (length-take-le _ _ (filled_at c.before).outputs_room)
 
 dispatch-requires : tie.Need-dispatch-requires
 dispatch-requires c κs = search rules
@@ -146,7 +145,7 @@ slice-reshare-prefix-receive-2 : tie.Need-slice_bounds-receive-end-in-Chain-disp
 slice-reshare-prefix-receive-2 c = (taken_at c.before).outputs_room
 
 slice-aggregate-receive-2 : tie.Need-slice_bounds-receive-end-in-Chain-dispatch-3
-slice-aggregate-receive-2 c = sym (length-take-le _ _ (taken_at c.before.before).outputs_room)
+slice-aggregate-receive-2 c = sym (length-take-le _ _ (taken_at c.before).outputs_room)
 
 receive-requires : tie.Need-receive-requires
 receive-requires c κs = search rules
@@ -190,7 +189,7 @@ same-length-7 c = search rules
 returns-2 : tie.Need-returns-in-Refused-dispatch
 returns-2 c =
     let d = c.before.before.before.before.before.before.before in
-    let n = compiled-before d in
+    let n = compiled_before d in
     let r = compiling n in
     let s = start r in
     let f = filled_at n in
@@ -201,19 +200,19 @@ returns-2 c =
     _ _ c.in-Refused-dispatch.is
 
 same-length-8 : tie.Need-shape_of-steps-in-Refused-receive
-same-length-8 c = (compiled_by c.before.before.before.before.before.before.before).compile.auto.1.1.1.1.1.0
+same-length-8 c = c.compile.auto.steps
 
 same-length-9 : tie.Need-shape_of-outputs-in-Refused-receive
-same-length-9 c = (compiled_by c.before.before.before.before.before.before.before).compile.auto.1.1.1.1.1.1.0
+same-length-9 c = c.compile.auto.outputs
 
 same-length-10 : tie.Need-shape_of-bytes-in-Refused-receive
-same-length-10 c = (dispatched-by c.before.before.before.before.before.before.before).dispatch.auto.1.1.1.0
+same-length-10 c = c.dispatch.auto.bytes
 
 same-length-11 : tie.Need-shape_of-received-in-Refused-receive
-same-length-11 c = (dispatched-by c.before.before.before.before.before.before.before).dispatch.auto.1.1.1.1.0
+same-length-11 c = c.dispatch.auto.received
 
 same-length-12 : tie.Need-shape_of-results-in-Refused-receive
-same-length-12 c = (dispatched-by c.before.before.before.before.before.before.before).dispatch.auto.1.1.1.1.1.0
+same-length-12 c = c.dispatch.auto.results
 
 same-length-13 : tie.Need-shape_of-scratch-in-Refused-receive
 same-length-13 c = c.receive.auto.scratch
@@ -227,9 +226,9 @@ same-length-15 c = c.receive.auto.figures
 returns-3 : tie.Need-returns-in-Refused-receive
 returns-3 c =
     let e = c.before.before.before.before.before.before.before in
-    let w = columns-before e in
+    let w = columns_before e in
     let d = dispatching w in
-    let n = compiled-before d in
+    let n = compiled_before d in
     let r = compiling n in
     let s = start r in
     let f = filled_at n in
@@ -238,26 +237,26 @@ returns-3 c =
     s.args.bases.now _ _ (first_slice_clause r.compile.ensures) (second_slice_clause r.compile.ensures)
     (accepted_at n)
     _ _ f.steps_front f.outputs_front _ _ _ _ d.dispatch.ensures
-    _ _ _ w.columns.given.1
+    _ _ _ w.in-Chain-dispatch.is
     _ (counted_at n)
     _ _ t.columns (ap pairs t.steps_front ∙ pairs_flat _) t.outputs_front
     _ _ _ _ e.receive.ensures
     _ _ c.in-Refused-receive.is
 
 same-length-16 : tie.Need-shape_of-steps-in-Multiplications
-same-length-16 c = (compiled_by c.before.before.before.before.before.before.before).compile.auto.1.1.1.1.1.0
+same-length-16 c = c.compile.auto.steps
 
 same-length-17 : tie.Need-shape_of-outputs-in-Multiplications
-same-length-17 c = (compiled_by c.before.before.before.before.before.before.before).compile.auto.1.1.1.1.1.1.0
+same-length-17 c = c.compile.auto.outputs
 
 same-length-18 : tie.Need-shape_of-bytes-in-Multiplications
-same-length-18 c = (dispatched-by c.before.before.before.before.before.before.before).dispatch.auto.1.1.1.0
+same-length-18 c = c.dispatch.auto.bytes
 
 same-length-19 : tie.Need-shape_of-received-in-Multiplications
-same-length-19 c = (dispatched-by c.before.before.before.before.before.before.before).dispatch.auto.1.1.1.1.0
+same-length-19 c = c.dispatch.auto.received
 
 same-length-20 : tie.Need-shape_of-results-in-Multiplications
-same-length-20 c = (dispatched-by c.before.before.before.before.before.before.before).dispatch.auto.1.1.1.1.1.0
+same-length-20 c = c.dispatch.auto.results
 
 same-length-21 : tie.Need-shape_of-scratch-in-Multiplications
 same-length-21 c = c.receive.auto.scratch
@@ -271,9 +270,9 @@ same-length-23 c = c.receive.auto.figures
 returns-4 : tie.Need-returns-in-Multiplications
 returns-4 c =
     let e = c.before.before.before.before.before.before.before in
-    let w = columns-before e in
+    let w = columns_before e in
     let d = dispatching w in
-    let n = compiled-before d in
+    let n = compiled_before d in
     let r = compiling n in
     let s = start r in
     let f = filled_at n in
@@ -282,7 +281,7 @@ returns-4 c =
     s.args.bases.now _ _ (first_slice_clause r.compile.ensures) (second_slice_clause r.compile.ensures)
     (accepted_at n)
     _ _ f.steps_front f.outputs_front _ _ _ _ d.dispatch.ensures
-    _ _ _ w.columns.given.1
+    _ _ _ w.in-Chain-dispatch.is
     _ (counted_at n)
     _ _ t.columns (ap pairs t.steps_front ∙ pairs_flat _) t.outputs_front
     _ _ _ _ e.receive.ensures

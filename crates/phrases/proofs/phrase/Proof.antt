@@ -20,21 +20,15 @@ phrase-start-requires-2 c κs = omega (arith, place_low c.args.number, c.phrase_
 sub-if1 : tie.Need-overflow_sub-end
 sub-if1 c = search phrase_rises
 
-returns : tie.Need-returns
+returns : tie.Need-returns-then-text-end
 returns c =
-    let ends = c.before.before in
-    let begins = ends.before in
-    let is = begins.before in
-    let long = phrase-length _ _ _ _ is.phrase_place-n.ensures begins.phrase_start-from.ensures ends.phrase_start-end.ensures in
+    let long = phrase-length _ _ _ _ c.phrase_place-n.ensures c.phrase_start-from.ensures c.phrase_start-end.ensures in
     phrase_refused _ _ (rw long at c.if-text-end.true)
-
-slice-aggregate-put-part : tie.Need-slice-aggregate-put-part
-slice-aggregate-put-part c = search rules
 
 put-part-requires : tie.Need-put_part-requires
 put-part-requires c κs = (search phrase_rises, search phrase_within, search rules)
 
-sub-t8 : tie.Need-overflow-sub-t8
+sub-t8 : tie.Need-overflow_sub-answer
 sub-t8 c = search phrase_rises
 
 same_length : tie.Need-shape_of-text
@@ -42,14 +36,9 @@ same_length c = search rules
 
 returns-2 : tie.Need-returns
 returns-2 c =
-    let put = c.before.before.before in
-    let test = put.before.before.before in
-    let ends = test.before in
-    let begins = ends.before in
-    let is = begins.before in
-    let long = phrase-length _ _ _ _ is.phrase_place-n.ensures begins.phrase_start-from.ensures ends.phrase_start-end.ensures in
-    let says = phrase_cut _ _ _ _ is.phrase_place-n.ensures begins.phrase_start-from.ensures ends.phrase_start-end.ensures in
-    phrase_told _ _ _ _ (rw long at test.if-text-end.false) long (rw says at put.put_part.ensures)
+    let long = phrase-length _ _ _ _ c.phrase_place-n.ensures c.phrase_start-from.ensures c.phrase_start-end.ensures in
+    let says = phrase_cut _ _ _ _ c.phrase_place-n.ensures c.phrase_start-from.ensures c.phrase_start-end.ensures in
+    phrase_told _ _ _ _ (rw long at c.if-text-end.false) long (rw says at c.put_part.ensures)
 
 pub phrase_spec : {M : Type 1} → statement M
 phrase_spec =
@@ -61,7 +50,6 @@ phrase_spec =
     phrase-start-requires-2
     sub-if1
     returns
-    slice-aggregate-put-part
     put-part-requires
     sub-t8
     same_length

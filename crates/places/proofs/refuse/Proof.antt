@@ -9,7 +9,7 @@ spot-of-requires : tie.Need-spot_of-spot-requires
 spot-of-requires c κs = search rules
 
 returns : tie.Need-returns
-returns c = let a = c.args in ap (λ spot. refused_at a.fault spot a.found a.wanted) c.spot_of_lem.ensures
+returns c = let a = c.args in ap (λ spot. refused_at a.fault spot a.found a.wanted) c.spot_of-spot.ensures
 
 pub refuse_spec : {M : Type 1} → statement M
 refuse_spec = tie.close (tie.spec spot-of-requires returns)

@@ -4,7 +4,6 @@ use mathlib.Core.Path.{◌≡◌}
 use Prim.Native.Nat.{◌+◌, ◌-◌, ◌≤◌}
 use native.Mathlib.Omega.{arith}
 use lib.ListN.{length}
-use borrow.Author.Tests.{ltb-true, ltb-false}
 use Rattle.places.specs.Places.{spot_of}
 use Rattle.places.proofs.Spots.{spot_left, spot_start, spot_next, spot_past, spot_reached, line_on, column_on}
 use Rattle.places.proofs.spot_of.Statement.{statement}
@@ -42,13 +41,13 @@ loop-again c =
       omega (arith, line_on _ _ _ e, l.invariant.1),
       omega (arith, column_on _ _ _ e, l.invariant.2),
       spot_next _ c.args.place _ _ _ l.invariant.3 _ c.loop-i-test.true
-          (ltb-true _ _ c.if-i-place.true) e,
+          c.if-i-place.true e,
     )
 
 returns : tie.Need-returns-else-i-place invariant-loop decreases-loop
 returns c =
     let a = c.args in
-    spot_reached a.text.now a.place _ _ _ c.loop-i.invariant.3 (ltb-false _ _ c.if-i-place.false)
+    spot_reached a.text.now a.place _ _ _ c.loop-i.invariant.3 c.if-i-place.false
 
 returns-2 : tie.Need-returns-after-loop-i invariant-loop decreases-loop
 returns-2 c =

@@ -19,22 +19,18 @@ decreases-loop to numbers count at cells₀ i₀ cells i = count - i
 
 renumber-requires : tie.Need-renumber-requires invariant-loop decreases-loop
 renumber-requires c κs =
-    let start = c.before.before.before.before.before in
-    start.requires.renumberable.low c.loop-i.i c.loop-i-test.true
+    c.requires.renumberable.low c.loop-i.i c.loop-i-test.true
 
 loop-again : tie.Need-loop-i-preserved invariant-loop decreases-loop
 loop-again c =
-    let turn = c.before.before in
-    let start = turn.before.before.before.before in
-    let there = start.requires.renumberable.there in
-    let long = length-laid start.args.to.p start.args.to.n start.args.count start.args.numbers.now there in
-    lay_more _ _ _ _ _ _ (omega (arith, long, turn.loop-i-test.true)) (omega (arith, long, start.requires.room))
-    (c.renumber.ensures ∙ number_laid _ _ _ _ _ turn.loop-i-test.true there) turn.loop-i.invariant
+    let there = c.requires.renumberable.there in
+    let long = length-laid c.args.to.p c.args.to.n c.args.count c.args.numbers.now there in
+    lay_more _ _ _ _ _ _ (omega (arith, long, c.loop-i-test.true)) (omega (arith, long, c.requires.room))
+    (c.renumber.ensures ∙ number_laid _ _ _ _ _ c.loop-i-test.true there) c.loop-i.invariant
 
 returns : tie.Need-returns invariant-loop decreases-loop
 returns c =
-    let start = c.before.before.before.before in
-    let long = length-laid start.args.to.p start.args.to.n start.args.count start.args.numbers.now start.requires.renumberable.there in
+    let long = length-laid c.args.to.p c.args.to.n c.args.count c.args.numbers.now c.requires.renumberable.there in
     lay_all _ _ _ _ _ (omega (arith, long, c.loop-i-test.false)) c.loop-i.invariant
 
 pub lay_spec : {M : Type 1} → statement M

@@ -19,10 +19,10 @@ use Rattle.pooler.proofs.pool.Tie as tie
 
 -- the two parts, against which nothing was found
 abbrev first : tie.In-Fine → Part
-first e = let s = e.before.before.before.before.before.before.before.before.before.before.args in part s.p1 (pairs s.steps1.now) s.outputs1.now
+first e = let s = e.args in part s.p1 (pairs s.steps1.now) s.outputs1.now
 
 abbrev second : tie.In-Fine → Part
-second e = let s = e.before.before.before.before.before.before.before.before.before.before.args in part s.p2 (pairs s.steps2.now) s.outputs2.now
+second e = let s = e.args in part s.p2 (pairs s.steps2.now) s.outputs2.now
 
 agreed : (e : tie.In-Fine) → fine ≡ poolable_rule (first e) (second e)
 agreed e = found_fine _ _ _ e.judge_parts.ensures _ e.in-Fine.is
@@ -53,16 +53,14 @@ add-if1 c = record { fits = omega (arith, few c) }
 
 returns : tie.Need-returns-then-steps-n1
 returns c =
-    let e = c.before in
-    refused_leaves _ _ _ _ 5 0 (steps_short _ _ _ _ (agreed e) (omega (arith, (pool_of e).count, c.if-steps-n1.true)))
+    refused_leaves _ _ _ _ 5 0 (steps_short _ _ _ _ (agreed c.before) (omega (arith, (pool_of c.before).count, c.if-steps-n1.true)))
 
 add-if2 : tie.Need-overflow_add-outputs1
 add-if2 c = record { fits = omega (arith, (both c.before).payslips) }
 
 returns-2 : tie.Need-returns-then-outputs-outputs1
 returns-2 c =
-    let e = c.before.before in
-    refused_leaves _ _ _ _ 5 0 (outputs_short _ _ _ _ (agreed e) (omega (arith, (pool_of e).payslips, c.if-outputs-outputs1.true)))
+    refused_leaves _ _ _ _ 5 0 (outputs_short _ _ _ _ (agreed c.before.before) (omega (arith, (pool_of c.before.before).payslips, c.if-outputs-outputs1.true)))
 
 cast-t22 : tie.Need-overflow_cast-to
 cast-t22 c = record { fits = omega (arith, (both c.before.before).sizes') }
@@ -78,10 +76,9 @@ mul-put-2 c = record { fits = omega (arith, few c.before.before) }
 
 put-requires : tie.Need-put-requires
 put-requires c κs =
-    let e = c.before.before.before in
-    let s = e.args in
-    let are = both e in
-    let low = few e in
+    let s = c.args in
+    let are = both c.before.before.before in
+    let low = few c.before.before.before in
     record {
       first_fits = steps_renumberable s.p1 0 _ are.sizes.p_low (omega arith) (omega (arith, low)) s.steps1.now refl are.steps_fine;
       second_fits = steps_renumberable s.p2 _ _ are.sizes'.p_low (omega (arith, low)) (omega (arith, low)) s.steps2.now refl are.steps_fine';
@@ -90,10 +87,9 @@ put-requires c κs =
 
 put-requires-2 : tie.Need-put-requires-in-Fine
 put-requires-2 c κs =
-    let e = c.before.before.before.before.before.before.before in
-    let s = e.args in
-    let are = both e in
-    let low = few e in
+    let s = c.args in
+    let are = both c.before.before.before.before.before.before.before in
+    let low = few c.before.before.before.before.before.before.before in
     record {
       first_fits =
           outputs_renumberable s.p1 0 (length (pairs s.steps1.now)) are.sizes.p_low (omega arith) (omega (arith, are.few)) s.outputs1.now
@@ -109,28 +105,23 @@ add-counts-of c = record { fits = omega (arith, few c.before.before.before.befor
 
 counts-of-requires : tie.Need-counts_of-requires
 counts-of-requires c κs =
-    let e = c.before.before.before.before.before.before.before.before.before.before in
-    omega (arith, counted e, squarings_few (pooled_steps (first e) (second e)), (pool_of e).count)
+    omega (arith, counted c.before.before.before.before.before.before.before.before.before.before, squarings_few (pooled_steps (first c.before.before.before.before.before.before.before.before.before.before) (second c.before.before.before.before.before.before.before.before.before.before)), (pool_of c.before.before.before.before.before.before.before.before.before.before).count)
 
 returns-3 : tie.Need-returns-in-Refused
 returns-3 c =
-    let judged = c.before in
     refused_leaves _ _ _ _ _ _
-    (parts_refused _ _ _ _ _ _ (found_refused _ _ _ judged.judge_parts.ensures _ _ c.in-Refused.is))
+    (parts_refused _ _ _ _ _ _ (found_refused _ _ _ c.judge_parts.ensures _ _ c.in-Refused.is))
 
 returns-4 : tie.Need-returns-else-outputs-outputs1
 returns-4 c =
-    let put-outputs = c.before.before.before in
-    let put-steps = put-outputs.before.before.before.before in
-    let room = put-steps.before.before in
-    let e = room.before.before in
-    let s = e.before.before.before.before.before.before.before.before.before.before.args in
+    let e = c.before.before.before.before.before.before.before.before.before.before.before in
+    let s = c.args in
     let pool = pool_of e in
     let told = c.counts_of.ensures ∙ counts_are (pooled_steps (first e) (second e)) _ _ pool.count (counted e) in
     pooled_leaves _ _ s.steps.now s.outputs.now _ _ _
-    (room_enough _ _ _ _ (agreed e) (omega (arith, pool.count, room.before.if1.false)) (omega (arith, pool.payslips, room.if2.false))) told
-    (put-steps.put.ensures ∙ ap (λ (l : List ℕ). over l s.steps.now) pool.steps)
-    (put-outputs.put-in-Fine.ensures ∙ ap (λ (l : List ℕ). over l s.outputs.now) pool.outputs)
+    (room_enough _ _ _ _ (agreed e) (omega (arith, pool.count, c.if-steps-n1.false)) (omega (arith, pool.payslips, c.if-outputs-outputs1.false))) told
+    (c.put.ensures ∙ ap (λ (l : List ℕ). over l s.steps.now) pool.steps)
+    (c.put-in-Fine.ensures ∙ ap (λ (l : List ℕ). over l s.outputs.now) pool.outputs)
 
 pub pool_spec : {M : Type 1} → statement M
 pool_spec =

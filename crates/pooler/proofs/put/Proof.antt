@@ -12,20 +12,16 @@ lay-requires c κs =
 
 lay-requires-2 : tie.Need-lay-requires-2
 lay-requires-2 c κs =
-    let first = c.before.before.before in
-    let asked = first.requires in
-    record { renumberable = asked.second_fits; room = omega (arith, asked.room, first.lay.auto) }
+    let asked = c.requires in
+    record { renumberable = asked.second_fits; room = omega (arith, asked.room, c.lay.auto) }
 
 same_length : tie.Need-shape_of-cells
 same_length c = search rules
 
 returns : tie.Need-returns
 returns c =
-    let second = c.before.before in
-    let first = second.before.before.before.before in
-    let start = first.before.before.before.before.before in
-    let a = start.args in
-    both_laid a.to.p a.to.n a.count1 a.count2 a.first.now a.second.now _ _ _ start.requires.first_fits.there first.lay.ensures second.lay-2.ensures
+    let a = c.args in
+    both_laid a.to.p a.to.n a.count1 a.count2 a.first.now a.second.now _ _ _ c.requires.first_fits.there c.lay.ensures c.lay-2.ensures
 
 pub put_spec : {M : Type 1} → statement M
 put_spec = tie.close (tie.spec lay-requires lay-requires-2 same_length returns)

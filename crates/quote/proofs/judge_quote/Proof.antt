@@ -56,15 +56,14 @@ measure-requires c κs =
 quote-requires : tie.Need-quote-quoted-requires
 quote-requires c κs =
     let measured = c.before.before.before in
-    record { passed = sym (passed measured.before); measured = measured.measure.ensures }
+    record { passed = sym (passed c.before.before.before.before); measured = c.measure.ensures }
 
 same_length : tie.Need-shape_of-largest
 same_length c = search rules
 
 returns-3 : tie.Need-returns
 returns-3 c =
-    let measured = c.before.before.before.before in
-    (counted _ _ _ _ _ _ (passed measured.before) c.quote-quoted.ensures, λ e. measured.measure.ensures)
+    (counted _ _ _ _ _ _ (passed c.before.before.before.before.before) c.quote-quoted.ensures, λ e. c.measure.ensures)
 
 pub judge_quote_spec : {M : Type 1} → statement M
 judge_quote_spec =

@@ -15,12 +15,12 @@ quote-requires c κs = first_asks (given c.before.before.before) (omega arith)
 quote-requires-2 : tie.Need-quote-requires-in-2
 quote-requires-2 c κs =
     let s = c.before.before.before in
-    other_asks (given s) s.requires.measured (λ e. omega arith)
+    other_asks (given s) c.requires.measured (λ e. omega arith)
 
 quote-requires-3 : tie.Need-quote-requires-in_default
 quote-requires-3 c κs =
     let s = c.before.before.before in
-    other_asks (given s) s.requires.measured (λ e. omega arith)
+    other_asks (given s) c.requires.measured (λ e. omega arith)
 
 returns : tie.Need-returns-in-1
 returns c = quoted (is_straus _ _ _ _ _ (omega arith)) c.quote.ensures

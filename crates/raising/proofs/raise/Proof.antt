@@ -23,8 +23,7 @@ low c = raise_low _ _ _ _ _ c.requires _ _ _ c.loop-i.invariant c.loop-i-test.tr
 
 loop-again : tie.Need-loop-i-preserved invariant-loop decreases-loop
 loop-again c =
-    let turn = c.before in
-    raise_more _ _ _ _ _ turn.requires _ _ _ turn.loop-i.invariant turn.loop-i-test.true
+    raise_more _ _ _ _ _ c.requires _ _ _ c.loop-i.invariant c.loop-i-test.true
 
 pub raise_spec : {M : Type 1} → statement M
 raise_spec =

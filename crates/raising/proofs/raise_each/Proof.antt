@@ -48,30 +48,21 @@ cast-u c = omega (arith, c.slice_known-in-loop-j-4-1.given (c.args.back + c.loop
 
 copy-requires : tie.Need-copy-e-requires invariant-loop decreases-loop
 copy-requires c κs =
-    let turn = c.before.before.before.before.before in
-    copy_asked _ _ _ _ _ _ turn.requires.0 _ _ _ turn.loop-j.invariant turn.loop-j-test.true
+    copy_asked _ _ _ _ _ _ c.requires.0 _ _ _ c.loop-j.invariant c.loop-j-test.true
 
 raise-requires : tie.Need-raise-e-requires invariant-loop decreases-loop
 raise-requires c κs =
-    let copied = c.before.before.before in
-    let turn = copied.before.before.before.before.before.before in
-    raise_asked _ _ _ _ _ _ turn.requires.0 _ _ _ turn.loop-j.invariant turn.loop-j-test.true _ _ copied.copy-e.ensures
+    raise_asked _ _ _ _ _ _ c.requires.0 _ _ _ c.loop-j.invariant c.loop-j-test.true _ _ c.copy-e.ensures
 
 -- where the row ends fits its place
 fit : (c : tie.After-raise-e invariant-loop decreases-loop)
-    → let turn = c.before.before.before.before.before.before.before.before.before.before in
-    (c.raise-e.result < 2 ^ 32) × (turn.args.to + turn.loop-j.j + 1 < length c.raise-e.new.s)
+    → (c.raise-e.result < 2 ^ 32) × (c.args.to + c.loop-j.j + 1 < length c.raise-e.new.s)
 fit c =
-    let copied = c.before.before.before.before in
-    let turn = copied.before.before.before.before.before.before in
-    row_fits _ _ _ _ _ _ turn.requires.0 _ _ _ turn.loop-j.invariant turn.loop-j-test.true _ _ copied.copy-e.ensures _ _ c.raise-e.ensures
+    row_fits _ _ _ _ _ _ c.requires.0 _ _ _ c.loop-j.invariant c.loop-j-test.true _ _ c.copy-e.ensures _ _ c.raise-e.ensures
 
 loop-again : tie.Need-loop-j-preserved invariant-loop decreases-loop
 loop-again c =
-    let row = c.before.before in
-    let copied = row.before.before.before.before in
-    let turn = copied.before.before.before.before.before.before in
-    row_on _ _ _ _ _ _ turn.requires.0 _ _ _ turn.loop-j.invariant turn.loop-j-test.true _ _ copied.copy-e.ensures _ _ row.raise-e.ensures
+    row_on _ _ _ _ _ _ c.requires.0 _ _ _ c.loop-j.invariant c.loop-j-test.true _ _ c.copy-e.ensures _ _ c.raise-e.ensures
 
 returns : tie.Need-returns invariant-loop decreases-loop
 returns c =

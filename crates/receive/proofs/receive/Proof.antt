@@ -23,11 +23,10 @@ same_length c = search rules
 
 returns : tie.Need-returns-in-Refused
 returns c =
-    let w = c.before.before.before in
-    let a = w.args in
+    let a = c.args in
     not_passed a.p (pairs a.steps.now) a.outputs.now a.amounts.now a.m a.bases.now a.scratch.now a.values.now
     a.figures.now _
-    (answer_clause w.verify.ensures) _ (only_slice_clause w.verify.ensures) _ _ c.in-Refused.is
+    (answer_clause c.verify.ensures) _ (only_slice_clause c.verify.ensures) _ _ c.in-Refused.is
 
 same-length-2 : tie.Need-shape_of-scratch-in-Passed
 same-length-2 c = search rules
@@ -40,13 +39,10 @@ same-length-4 c = search rules
 
 returns-2 : tie.Need-returns-in-Passed
 returns-2 c =
-    let r = c.before.before.before.before in
-    let e = r.before.before.before in
-    let w = e.before.before.before in
-    let a = w.args in
+    let a = c.args in
     then_run a.p (pairs a.steps.now) a.outputs.now a.amounts.now a.m a.bases.now a.scratch.now a.values.now
     a.figures.now _
-    (answer_clause w.verify.ensures) _ (only_slice_clause w.verify.ensures) _ e.in-Passed.is _ _ _ (answer_clause r.run.ensures) (first_slice_clause r.run.ensures) (second_slice_clause r.run.ensures)
+    (answer_clause c.verify.ensures) _ (only_slice_clause c.verify.ensures) _ c.in-Passed.is _ _ _ (answer_clause c.run.ensures) (first_slice_clause c.run.ensures) (second_slice_clause c.run.ensures)
 
 pub receive_spec : {M : Type 1} → statement M
 receive_spec =

@@ -21,36 +21,24 @@ loop-holds c = (search rules, join_none _ _ _ _ _ c.requires)
 
 row-product-requires : tie.Need-row_product-clumped-requires invariant-loop decreases-loop
 row-product-requires c κs =
-    let b = c.before in
-    let h = b.before.before in
-    clumps_asked _ _ _ _ _ h.requires _ b.loop-j-test.true _ _ h.loop-j.invariant.1
+    clumps_asked _ _ _ _ _ c.requires _ c.loop-j-test.true _ _ c.loop-j.invariant.1
 
 times-row-requires : tie.Need-times_row-both-requires invariant-loop decreases-loop
 times-row-requires c κs =
-    let first = c.before.before.before in
-    let b = first.before.before in
-    let h = b.before.before in
-    rest_asked _ _ _ _ _ h.requires _ b.loop-j-test.true _ _ h.loop-j.invariant.1 _ _ _ first.row_product-clumped.ensures
+    rest_asked _ _ _ _ _ c.requires _ c.loop-j-test.true _ _ c.loop-j.invariant.1 _ _ _ c.row_product-clumped.ensures
 
 add-s : tie.Need-overflow_add-s invariant-loop decreases-loop
 add-s c =
-    let b = c.before.before.before.before.before.before.before.before.before in
-    omega (arith, join_room _ _ _ _ _ b.requires, b.loop-j-test.true)
+    omega (arith, join_room _ _ _ _ _ c.requires, c.loop-j-test.true)
 
 mul-s : tie.Need-offset_bounds-s-to invariant-loop decreases-loop
 mul-s c =
-    let b = c.before.before.before.before.before.before.before.before.before in
-    omega (arith, join_room _ _ _ _ _ b.requires, b.loop-j-test.true)
+    omega (arith, join_room _ _ _ _ _ c.requires, c.loop-j-test.true)
 
 slice-write-s : tie.Need-bounds-s-to invariant-loop decreases-loop
 slice-write-s c =
-    let second = c.before.before.before in
-    let first = second.before.before.before.before in
-    let b = first.before.before in
-    let h = b.before.before in
-    let s = h.before.before in
-    let long = join_long _ _ _ _ _ s.requires _ b.loop-j-test.true _ _ h.loop-j.invariant.1 _ _ _ first.row_product-clumped.ensures _ _ _ second.times_row-both.ensures in
-    omega (arith, long, join_room _ _ _ _ _ s.requires, b.loop-j-test.true)
+    let long = join_long _ _ _ _ _ c.requires _ c.loop-j-test.true _ _ c.loop-j.invariant.1 _ _ _ c.row_product-clumped.ensures _ _ _ c.times_row-both.ensures in
+    omega (arith, long, join_room _ _ _ _ _ c.requires, c.loop-j-test.true)
 
 add-j : tie.Need-overflow_add-j invariant-loop decreases-loop
 add-j c = search rules
@@ -60,20 +48,15 @@ loop-less c = search rules
 
 loop-again : tie.Need-loop-j-preserved invariant-loop decreases-loop
 loop-again c =
-    let second = c.before.before.before in
-    let first = second.before.before.before.before in
-    let b = first.before.before in
-    let h = b.before.before in
-    let on = join_on _ _ _ _ _ h.requires _ b.loop-j-test.true _ _ h.loop-j.invariant.1 _ _ _ first.row_product-clumped.ensures in
-    (search rules, on _ _ _ second.times_row-both.ensures)
+    let on = join_on _ _ _ _ _ c.requires _ c.loop-j-test.true _ _ c.loop-j.invariant.1 _ _ _ c.row_product-clumped.ensures in
+    (search rules, on _ _ _ c.times_row-both.ensures)
 
 same_length : tie.Need-shape_of-s invariant-loop decreases-loop
 same_length c = c.loop-j.invariant.1.done.size
 
 returns : tie.Need-returns invariant-loop decreases-loop
 returns c =
-    let h = c.before.before in
-    join_all _ _ _ _ _ h.requires _ _ _ h.loop-j.invariant.0 c.loop-j-test.false h.loop-j.invariant.1
+    join_all _ _ _ _ _ c.requires _ _ _ c.loop-j.invariant.0 c.loop-j-test.false c.loop-j.invariant.1
 
 pub join_spec : {M : Type 1} → statement M
 join_spec =

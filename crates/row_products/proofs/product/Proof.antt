@@ -24,19 +24,17 @@ decreases-loop p values from to s₀ r₀ i₀ s r i = to - i
 -- the cells are as many as at first, and the factor is among them
 long : (c : tie.At-loop-i invariant-loop decreases-loop) → length c.loop-i.s ≡ length c.args.s.now
 long c =
-    let s = c.before.before in
-    multiplied_long _ _ _ s.args.m.value _ _ _ s.requires _ c.loop-i.invariant.0 _ _ _ c.loop-i.invariant.2
+    multiplied_long _ _ _ c.args.m.value _ _ _ c.requires _ c.loop-i.invariant.0 _ _ _ c.loop-i.invariant.2
 
 there : (c : tie.In-loop-i invariant-loop decreases-loop)
     → let now = c.loop-i in
     c.args.values + get_or now.s now.i 0 < length now.s
 there c =
-    let s = c.before.before.before in
     let v = c.loop-i.invariant in
-    multiplied_there _ _ _ s.args.m.value _ _ _ s.requires _ v.0 _ _ _ v.2 c.loop-i-test.true
+    multiplied_there _ _ _ c.args.m.value _ _ _ c.requires _ v.0 _ _ _ v.2 c.loop-i-test.true
 
 loop-holds : tie.Need-loop-i-init invariant-loop decreases-loop
-loop-holds c = let s = c.before in (search rules, s.requires.rises, multiplied_none _ _ _ s.args.m.value _ _ _ s.requires)
+loop-holds c = (search rules, c.requires.rises, multiplied_none _ _ _ c.args.m.value _ _ _ c.requires)
 
 mul-v : tie.Need-offset_bounds-s-i invariant-loop decreases-loop
 mul-v c = omega (arith, there c)
@@ -58,10 +56,8 @@ slice-read-v-2 c = there c.before.before
 
 times-requires : tie.Need-times-r-requires invariant-loop decreases-loop
 times-requires c κs =
-    let b = c.before.before.before in
-    let s = b.before.before.before in
-    let v = b.loop-i.invariant in
-    multiplied_room _ _ _ s.args.m.value _ _ _ s.requires _ v.0 _ _ _ v.2 b.loop-i-test.true
+    let v = c.loop-i.invariant in
+    multiplied_room _ _ _ c.args.m.value _ _ _ c.requires _ v.0 _ _ _ v.2 c.loop-i-test.true
 
 add-i : tie.Need-overflow_add-i invariant-loop decreases-loop
 add-i c = search rules
@@ -71,10 +67,8 @@ loop-less c = search rules
 
 loop-again : tie.Need-loop-i-preserved invariant-loop decreases-loop
 loop-again c =
-    let b = c.before.before.before.before.before.before in
-    let s = b.before.before.before in
-    let v = b.loop-i.invariant in
-    let on = multiplied_on _ _ _ s.args.m.value _ _ _ s.requires _ v.0 _ _ _ v.2 b.loop-i-test.true in
+    let v = c.loop-i.invariant in
+    let on = multiplied_on _ _ _ c.args.m.value _ _ _ c.requires _ v.0 _ _ _ v.2 c.loop-i-test.true in
     (search rules, search rules, on _ _ _ c.times-r.ensures)
 
 same_length : tie.Need-shape_of-s invariant-loop decreases-loop
@@ -82,10 +76,8 @@ same_length c = long c.before
 
 returns : tie.Need-returns invariant-loop decreases-loop
 returns c =
-    let b = c.before in
-    let s = b.before.before in
-    let v = b.loop-i.invariant in
-    multiplied_all _ _ _ s.args.m.value _ _ _ s.requires _ v.0 _ _ _ v.2 c.loop-i-test.false v.1
+    let v = c.loop-i.invariant in
+    multiplied_all _ _ _ c.args.m.value _ _ _ c.requires _ v.0 _ _ _ v.2 c.loop-i-test.false v.1
 
 pub product_spec : {M : Type 1} → statement M
 product_spec =

@@ -20,27 +20,20 @@ loop-holds c = (search rules, separate_none _ _ _ _ _ c.requires)
 
 row-product-requires : tie.Need-row_product-r-requires invariant-loop decreases-loop
 row-product-requires c κs =
-    let b = c.before in
-    let h = b.before.before in
-    separate_asked _ _ _ _ _ h.requires _ b.loop-j-test.true _ _ h.loop-j.invariant.1
+    separate_asked _ _ _ _ _ c.requires _ c.loop-j-test.true _ _ c.loop-j.invariant.1
 
 add-s : tie.Need-overflow_add-s invariant-loop decreases-loop
 add-s c =
-    let b = c.before.before.before.before.before in
-    omega (arith, b.requires.room, b.loop-j-test.true)
+    omega (arith, c.requires.room, c.loop-j-test.true)
 
 mul-s : tie.Need-offset_bounds-s-to invariant-loop decreases-loop
 mul-s c =
-    let b = c.before.before.before.before.before in
-    omega (arith, b.requires.room, b.loop-j-test.true)
+    omega (arith, c.requires.room, c.loop-j-test.true)
 
 slice-write-s : tie.Need-bounds-s-to invariant-loop decreases-loop
 slice-write-s c =
-    let b = c.before.before.before.before.before in
-    let h = b.before.before in
-    let s = h.before.before in
-    let long = separate_long _ _ _ _ _ s.requires _ b.loop-j-test.true _ _ h.loop-j.invariant.1 _ _ _ c.row_product-r.ensures in
-    omega (arith, long, s.requires.room, b.loop-j-test.true)
+    let long = separate_long _ _ _ _ _ c.requires _ c.loop-j-test.true _ _ c.loop-j.invariant.1 _ _ _ c.row_product-r.ensures in
+    omega (arith, long, c.requires.room, c.loop-j-test.true)
 
 add-j : tie.Need-overflow_add-j invariant-loop decreases-loop
 add-j c = search rules
@@ -50,9 +43,7 @@ loop-less c = search rules
 
 loop-again : tie.Need-loop-j-preserved invariant-loop decreases-loop
 loop-again c =
-    let b = c.before.before.before.before.before in
-    let h = b.before.before in
-    let on = separate_on _ _ _ _ _ h.requires _ b.loop-j-test.true _ _ h.loop-j.invariant.1 in
+    let on = separate_on _ _ _ _ _ c.requires _ c.loop-j-test.true _ _ c.loop-j.invariant.1 in
     (search rules, on _ _ _ c.row_product-r.ensures)
 
 same_length : tie.Need-shape_of-s invariant-loop decreases-loop
@@ -60,8 +51,7 @@ same_length c = c.loop-j.invariant.1.done.size
 
 returns : tie.Need-returns invariant-loop decreases-loop
 returns c =
-    let h = c.before.before in
-    separate_all _ _ _ _ _ h.requires _ _ _ h.loop-j.invariant.0 c.loop-j-test.false h.loop-j.invariant.1
+    separate_all _ _ _ _ _ c.requires _ _ _ c.loop-j.invariant.0 c.loop-j-test.false c.loop-j.invariant.1
 
 pub separately_spec : {M : Type 1} → statement M
 separately_spec =

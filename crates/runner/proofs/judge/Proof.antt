@@ -15,10 +15,9 @@ judge-rest-requires c κs = λ e. end_asked (started _ _ _ _ _ (sym c.judge_star
 -- refused before the figures
 returns : tie.Need-returns-in-Refused
 returns c =
-    let rest = c.before in
-    let steps = rest.args.steps.now in
-    let r = found_refused _ _ _ rest.judge_rest.ensures _ _ c.in-Refused.is in
-    counted_refused _ (squarings_of (pairs steps)) _ _ (run_flat _ steps _ _ _ _ _ _ _ _ rest.judge_start-begun.ensures r (stop _ _ _ _ refl))
+    let steps = c.args.steps.now in
+    let r = found_refused _ _ _ c.judge_rest.ensures _ _ c.in-Refused.is in
+    counted_refused _ (squarings_of (pairs steps)) _ _ (run_flat _ steps _ _ _ _ _ _ _ _ c.judge_start-begun.ensures r (stop _ _ _ _ refl))
 
 pub judge_spec : {M : Type 1} → statement M
 judge_spec =

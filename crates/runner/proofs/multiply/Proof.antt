@@ -40,18 +40,16 @@ mul-times c = search (rules, within)
 
 slice-read-times : tie.Need-bounds-cells-a invariant-loop decreases-loop
 slice-read-times c =
-    let l = c.before.before.before.before.before in
     let t = c.loop-s-test.true in
-    first_within _ _ _ _ _ c.step_at-x.ensures t l.requires.steps_sound.steps_fine l.loop-s.invariant.2
+    first_within _ _ _ _ _ c.step_at-x.ensures t c.requires.steps_sound.steps_fine c.loop-s.invariant.2
 
 mul-times-2 : tie.Need-offset_bounds-cells-b invariant-loop decreases-loop
 mul-times-2 c = search (rules, within)
 
 slice-read-times-2 : tie.Need-bounds-cells-b invariant-loop decreases-loop
 slice-read-times-2 c =
-    let l = c.before.before.before.before.before.before in
     let t = c.loop-s-test.true in
-    second_within _ _ _ _ _ c.step_at-x.ensures t l.requires.steps_sound.steps_fine l.loop-s.invariant.2
+    second_within _ _ _ _ _ c.step_at-x.ensures t c.requires.steps_sound.steps_fine c.loop-s.invariant.2
 
 times-requires : tie.Need-times-requires invariant-loop decreases-loop
 times-requires c κs = search rules

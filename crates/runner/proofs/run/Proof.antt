@@ -16,18 +16,18 @@ use Rattle.runner.proofs.run.Statement.{statement}
 use Rattle.runner.proofs.run.Tie as tie
 
 -- nothing was found against the run
-allowed : (c : tie.In-Fine-2)
+allowed : (c : tie.In-Fine)
     → let s = c.args in
     fine ≡ run_rule s.p (pairs s.steps.now) s.outputs.now s.m s.bases.now (length s.values.now) (length s.figures.now)
 allowed c = found_fine _ _ _ c.judge.ensures _ c.in-Fine.is
 
 -- and the squarings are counted
-counted : (c : tie.In-Fine-2)
+counted : (c : tie.In-Fine)
     → c.in-Fine.squarings ≡ squarings_of (pairs c.args.steps.now)
 counted c = found_number _ _ _ c.judge.ensures _ c.in-Fine.is
 
 -- what that says of the arguments
-acc : (c : tie.In-Fine-2)
+acc : (c : tie.In-Fine)
     → let s = c.args in
     Runnable s.p (pairs s.steps.now) s.outputs.now s.m s.bases.now (length s.values.now) (length s.figures.now)
 acc c = runnable _ _ _ _ _ _ _ (sym (allowed c))
@@ -46,18 +46,16 @@ fill-requires c κs =
 
 show-requires : tie.Need-show-requires
 show-requires c κs =
-    let filled = c.before.before.before.before in
-    let a = acc filled.before in
+    let a = acc c.before.before.before.before.before in
     record {
       figures_fit = a.figures_fit;
-      outputs_within = λ i h. omega (arith, a.outputs_within i h, a.values_fit, filled.fill.auto.1.1.1.1.0);
+      outputs_within = λ i h. omega (arith, a.outputs_within i h, a.values_fit, c.fill.auto.values);
     }
 
 counts-of-requires : tie.Need-counts_of-requires
 counts-of-requires c κs =
-    let told = c.before.before.before.before.before.before.before.before in
-    let steps = told.args.steps.now in
-    omega (arith, counted told, squarings_few (pairs steps), length_pairs steps)
+    let steps = c.args.steps.now in
+    omega (arith, counted c.before.before.before.before.before.before.before.before, squarings_few (pairs steps), length_pairs steps)
 
 returns : tie.Need-returns-in-Refused
 unfolding run_answer run_values run_figures
@@ -68,16 +66,13 @@ returns c =
 returns-2 : tie.Need-returns-in-Fine
 unfolding run_answer run_values run_figures
 returns-2 c =
-    let shown = c.before.before.before in
-    let filled = shown.before.before.before.before.before in
-    let told = filled.before in
-    let s = told.args in
-    let counts = c.counts_of.ensures ∙ counts_are (pairs s.steps.now) _ _ (sym (length_pairs s.steps.now)) (counted told) in (
-      ap (λ (l : List ℕ). done l) counts ∙ answer_done _ _ (allowed told),
+    let s = c.args in
+    let counts = c.counts_of.ensures ∙ counts_are (pairs s.steps.now) _ _ (sym (length_pairs s.steps.now)) (counted c.before.before.before.before.before.before.before.before.before) in (
+      ap (λ (l : List ℕ). done l) counts ∙ answer_done _ _ (allowed c.before.before.before.before.before.before.before.before.before),
       (
-        renewed _ _ _ _ (allowed told) filled.fill.ensures,
-        renewed _ _ s.figures.now _ (allowed told)
-            (show_all _ _ _ s.outputs.now s.figures.now _ filled.fill.ensures (outputs_are_values _ _ _ _ _ _ _ (acc told)) shown.show.ensures),
+        renewed _ _ _ _ (allowed c.before.before.before.before.before.before.before.before.before) c.fill.ensures,
+        renewed _ _ s.figures.now _ (allowed c.before.before.before.before.before.before.before.before.before)
+            (show_all _ _ _ s.outputs.now s.figures.now _ c.fill.ensures (outputs_are_values _ _ _ _ _ _ _ (acc c.before.before.before.before.before.before.before.before.before)) c.show.ensures),
       ),
     )
 

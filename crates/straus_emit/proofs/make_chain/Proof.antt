@@ -6,14 +6,11 @@ use Rattle.straus_emit.proofs.make_chain.Tie as tie
 
 make-table-requires : tie.Need-make_table-table-requires
 make-table-requires c κs =
-    let s = c.before.before.before.before.before in
-    record { asked = table_asked s.requires.asked; room = table_room s.requires.asked s.requires.room }
+    record { asked = table_asked c.requires.asked; room = table_room c.requires.asked c.requires.room }
 
 make-payslips-requires : tie.Need-make_payslips-requires
 make-payslips-requires c κs =
-    let made = c.before.before.before.before in
-    let s = made.before.before.before.before.before.before in
-    record { asked = s.requires.asked; room = after_table s.requires.asked s.requires.room made.make_table-table.ensures }
+    record { asked = c.requires.asked; room = after_table c.requires.asked c.requires.room c.make_table-table.ensures }
 
 same_length : tie.Need-shape_of-steps
 same_length c = search rules

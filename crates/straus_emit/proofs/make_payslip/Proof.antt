@@ -32,17 +32,13 @@ slice-aggregate-take-digits-2 c = search rules
 
 take-digits-requires : tie.Need-take_digits-requires
 take-digits-requires c κs =
-    let g = c.before.before.before in
-    let f = g.before.before in
-    let h = f.before.before.before in
-    let s = h.before.before.before.before.before in
-    let asked = s.requires.asked in
+    let asked = c.requires.asked in
     let few = columns_few asked.payslip in
-    let raised = h.raise_amounts.ensures in
-    let masked = f.fill_masks.ensures in
+    let raised = c.raise_amounts.ensures in
+    let masked = c.fill_masks.ensures in
     record {
-      asked = digits_asked asked _ _ _ _ raised masked _ g.digit_count-digits.ensures.places_low (search (rules, few)) (search (rules, few));
-      room = rw (payslip_is asked _ _ _ _ raised masked _ g.digit_count-digits.ensures.is _) s.requires.room;
+      asked = digits_asked asked _ _ _ _ raised masked _ c.digit_count-digits.ensures.places_low (search (rules, few)) (search (rules, few));
+      room = rw (payslip_is asked _ _ _ _ raised masked _ c.digit_count-digits.ensures.is _) c.requires.room;
     }
 
 same_length : tie.Need-shape_of-steps
@@ -50,14 +46,9 @@ same_length c = search rules
 
 returns : tie.Need-returns
 returns c =
-    let t = c.before.before in
-    let g = t.before.before.before.before in
-    let f = g.before.before in
-    let h = f.before.before.before in
-    let s = h.before.before.before.before.before in
-    let before = steps_in s.args.steps.now s.args.progress.steps in
-    let is = payslip_is s.requires.asked _ _ _ _ h.raise_amounts.ensures f.fill_masks.ensures _ g.digit_count-digits.ensures.is before in
-    rw (← is) t.take_digits.ensures
+    let before = steps_in c.args.steps.now c.args.progress.steps in
+    let is = payslip_is c.requires.asked _ _ _ _ c.raise_amounts.ensures c.fill_masks.ensures _ c.digit_count-digits.ensures.is before in
+    rw (← is) c.take_digits.ensures
 
 pub make_payslip_spec : {M : Type 1} → statement M
 make_payslip_spec =

@@ -21,12 +21,10 @@ loop-holds c = search (rules, paying_start)
 
 make-payslip-requires : tie.Need-make_payslip-r-requires invariant-loop decreases-loop
 make-payslip-requires c κs =
-    let at = c.before.before in
-    let s = at.before.before.before.before.before in
-    let asked = s.requires.asked in
+    let asked = c.requires.asked in
     record {
       asked = record { payslip = payslip_asked asked.chain (search rules); bases_are = asked.bases_are };
-      room = paying_room (straus_payslip _ _ _) (payslip_begins _ _ _) at.loop-i.invariant s.requires.room (search rules);
+      room = paying_room (straus_payslip _ _ _) (payslip_begins _ _ _) c.loop-i.invariant c.requires.room (search rules);
     }
 
 mul-outputs : tie.Need-offset_bounds-outputs-i invariant-loop decreases-loop
@@ -43,10 +41,7 @@ loop-less c = search rules
 
 loop-again : tie.Need-loop-i-preserved invariant-loop decreases-loop
 loop-again c =
-    let made = c.before.before.before in
-    let at = made.before.before.before in
-    let s = at.before.before.before.before.before in
-    paying_on (straus_payslip _ _ _) (payslip_begins _ _ _) at.loop-i.invariant s.requires.room (search rules) made.make_payslip-r.ensures
+    paying_on (straus_payslip _ _ _) (payslip_begins _ _ _) c.loop-i.invariant c.requires.room (search rules) c.make_payslip-r.ensures
 
 same_length : tie.Need-shape_of-steps invariant-loop decreases-loop
 same_length c = search rules

@@ -24,7 +24,7 @@ decreases-loop p k inputs cells masks digits steps₀ r₀ d₀ steps r d = digi
 
 -- the digit's vector is an entry of the table
 abbrev place : (e : tie.In-loop-d invariant-loop decreases-loop) → ℕ
-place e = e.before.before.before.before.before.before.args.digits - (e.before.loop.d + 1)
+place e = e.args.digits - (e.loop-d.d + 1)
 
 entry_low : (e : tie.In-loop-d invariant-loop decreases-loop)
     → let a = e.args in
@@ -59,8 +59,7 @@ add-entry c = search rules
 
 cast-entry : tie.Need-overflow_cast-p invariant-loop decreases-loop
 cast-entry c =
-    let s = c.before.before.before.before.before.before.before in
-    omega (arith, s.requires.asked.numbers, pow_pos (s.args.k * length s.args.inputs.now))
+    omega (arith, c.requires.asked.numbers, pow_pos (c.args.k * length c.args.inputs.now))
 
 entry-requires : tie.Need-entry-e-requires invariant-loop decreases-loop
 entry-requires c κs =
@@ -76,10 +75,8 @@ entry-requires c κs =
 
 take-digit-requires : tie.Need-take_digit-r-requires invariant-loop decreases-loop
 take-digit-requires c κs =
-    let e = c.before in
-    let at = e.before.before.before in
-    let s = at.before.before.before.before.before in
-    digit_room s.args.p s.args.k _ s.args.digits s.args.steps.now s.args.progress _ _ _ _ _ e.loop-d-test.true (value_is e) at.loop-d.invariant.2 s.requires.room
+    digit_room c.args.p c.args.k (λ j. entry c.args.k c.args.inputs.now (c.args.p + 1) (vector_at c.args.p c.args.cells.now c.args.masks.now (c.args.k * j)))
+    c.args.digits c.args.steps.now c.args.progress _ _ _ _ _ c.loop-d-test.true (value_is c.before) c.loop-d.invariant.2 c.requires.room
 
 add-d : tie.Need-overflow_add-d-in-loop-d invariant-loop decreases-loop
 add-d c = search rules
@@ -89,11 +86,9 @@ loop-less c = search rules
 
 loop-again : tie.Need-loop-d-preserved invariant-loop decreases-loop
 loop-again c =
-    let made = c.before.before in
-    let e = made.before.before in
-    let at = e.before.before.before in
-    let a = at.args in
-    let on = digit_on a.p a.k _ a.digits a.steps.now a.progress _ _ _ _ _ e.loop-d-test.true (value_is e) at.loop-d.invariant.2 _ _ _ made.take_digit-r.ensures in
+    let a = c.args in
+    let on = digit_on a.p a.k (λ j. entry a.k a.inputs.now (a.p + 1) (vector_at a.p a.cells.now a.masks.now (a.k * j)))
+    a.digits a.steps.now a.progress _ _ _ _ _ c.loop-d-test.true (value_is c.before.before.before.before) c.loop-d.invariant.2 _ _ _ c.take_digit-r.ensures in
     (search rules, search rules, on)
 
 same_length : tie.Need-shape_of-steps invariant-loop decreases-loop

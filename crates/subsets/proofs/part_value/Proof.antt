@@ -8,21 +8,18 @@ use Rattle.subsets.proofs.part_value.Tie as tie
 
 mul-from : tie.Need-overflow_mul-from
 mul-from c =
-    let s = c.before.before in
-    let a = s.args in
-    let inside = group_inside a.s.c a.s.inputs a.g a.s.groups s.requires.cuts.some s.requires.cuts.groups_are s.requires.inside in
-    omega (arith, s.requires.cuts.inputs_few)
+    let a = c.args in
+    let inside = group_inside a.s.c a.s.inputs a.g a.s.groups c.requires.cuts.some c.requires.cuts.groups_are c.requires.inside in
+    omega (arith, c.requires.cuts.inputs_few)
 
 group-size-requires : tie.Need-group_size-requires
 group-size-requires c κs =
-    let s = c.before.before in
-    let a = s.args in
-    group_inside a.s.c a.s.inputs a.g a.s.groups s.requires.cuts.some s.requires.cuts.groups_are s.requires.inside
+    let a = c.args in
+    group_inside a.s.c a.s.inputs a.g a.s.groups c.requires.cuts.some c.requires.cuts.groups_are c.requires.inside
 
 add-to : tie.Need-overflow_add-to
 add-to c =
-    let s = c.before.before.before in
-    omega (arith, ends_few s.args.s s.requires.cuts s.args.members.now s.requires.long s.args.g _ s.requires.inside c.group_size.ensures)
+    omega (arith, ends_few c.args.s c.requires.cuts c.args.members.now c.requires.long c.args.g _ c.requires.inside c.group_size.ensures)
 
 add_at : tie.Need-overflow_add-at
 add_at c = search rules
@@ -32,23 +29,19 @@ table-count-requires c κs = search rules
 
 mul_at : tie.Need-overflow_mul-at
 mul_at c =
-    let s = c.before.before.before.before.before in
-    Fits-under _ _ parts_end (product_fits s.args.s s.requires.cuts s.args.g _ s.requires.inside c.table_count.ensures.low) tt
+    Fits-under _ _ parts_end (product_fits c.args.s c.requires.cuts c.args.g _ c.requires.inside c.table_count.ensures.low) tt
 
 add-at-2 : tie.Need-overflow_add-at-2
 add-at-2 c =
-    let s = c.before.before.before.before.before in
-    Fits-under _ _ parts_end (sum_fits s.args.s s.requires.cuts s.args.g _ s.requires.inside c.table_count.ensures.low) tt
+    Fits-under _ _ parts_end (sum_fits c.args.s c.requires.cuts c.args.g _ c.requires.inside c.table_count.ensures.low) tt
 
 add-at-3 : tie.Need-overflow_add-at-3
 add-at-3 c =
-    let s = c.before.before.before.before.before in
-    Fits-under _ _ parts_end (number_fits s.args.s s.requires.cuts s.args.g _ s.requires.inside c.table_count.ensures.low) tt
+    Fits-under _ _ parts_end (number_fits c.args.s c.requires.cuts c.args.g _ c.requires.inside c.table_count.ensures.low) tt
 
 mul-entry : tie.Need-offset_bounds-members-from
 mul-entry c =
-    let s = c.before.before.before.before.before in
-    omega (arith, ends_few s.args.s s.requires.cuts s.args.members.now s.requires.long s.args.g _ s.requires.inside c.group_size.ensures)
+    omega (arith, ends_few c.args.s c.requires.cuts c.args.members.now c.requires.long c.args.g _ c.requires.inside c.group_size.ensures)
 
 sub-entry : tie.Need-slice_bounds-entry-count
 sub-entry c = search rules
@@ -58,28 +51,24 @@ part-entry-start c = search rules
 
 part-entry-end : tie.Need-slice_bounds-entry-end
 part-entry-end c =
-    let s = c.before.before.before.before.before in
-    omega (arith, ends s.args.s s.requires.cuts s.args.members.now s.requires.long s.args.g _ s.requires.inside c.group_size.ensures)
+    omega (arith, ends c.args.s c.requires.cuts c.args.members.now c.requires.long c.args.g _ c.requires.inside c.group_size.ensures)
 
 cast-entry : tie.Need-overflow_cast-at
 cast-entry c =
-    let s = c.before.before.before.before.before.before in
-    omega (arith, number_fits s.args.s s.requires.cuts s.args.g _ s.requires.inside c.table_count.ensures.low)
+    omega (arith, number_fits c.args.s c.requires.cuts c.args.g _ c.requires.inside c.table_count.ensures.low)
 
 entry-requires : tie.Need-entry-requires
 entry-requires c κs =
-    let s = c.before.before.before.before.before.before in
-    let a = s.args in
+    let a = c.args in
     let is = c.group_size.ensures in
-    let at = number_fits a.s s.requires.cuts a.g _ s.requires.inside c.table_count.ensures.low in
-    let number = entry_number s.requires is at in
-    record { k_some = search rules; k_low = search rules; at_some = search rules; number_low = number; inside = entry_low s.requires is }
+    let at = number_fits a.s c.requires.cuts a.g _ c.requires.inside c.table_count.ensures.low in
+    let number = entry_number c.requires is at in
+    record { k_some = search rules; k_low = search rules; at_some = search rules; number_low = number; inside = entry_low c.requires is }
 
 returns : tie.Need-returns
 returns c =
-    let s = c.before.before.before.before.before.before.before in
-    let a = s.args in
-    entry_told s.requires c.group_size.ensures c.table_count.ensures.is c.entry.ensures
+    let a = c.args in
+    entry_told c.requires c.group_size.ensures c.table_count.ensures.is c.entry.ensures
 
 pub part_value_spec : {M : Type 1} → statement M
 part_value_spec =

@@ -36,9 +36,7 @@ same_length c = search rules
 
 returns-4 : tie.Need-returns
 returns-4 c =
-    let t = c.before.before.before.before in
-    let f = t.before.before in
-    row_reads _ _ _ _ _ _ _ f.if-payslips-eq-MOST_PAYSLIPS.false _ f.field_count-fields.ensures t.if-fields-p.false _ _ t.if-amounts-filled.false c.parse.ensures
+    row_reads _ _ _ _ _ _ _ c.if-payslips-eq-MOST_PAYSLIPS.false _ c.field_count-fields.ensures c.if-fields-p.false _ _ c.if-amounts-filled.false c.parse.ensures
 
 pub read_content_spec : {M : Type 1} → statement M
 read_content_spec =

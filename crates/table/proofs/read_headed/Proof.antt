@@ -27,8 +27,7 @@ same_length c = search rules
 
 returns-3 : tie.Need-returns-then-head-eq0
 returns-3 c =
-    let t = c.before.before.before.before in
-    head_names _ _ _ _ _ t.if-p-eq0.false t.if-p-gt-MOST_COLUMNS.false _ _ t.if-head-eq0.true c.read_rows.ensures
+    head_names _ _ _ _ _ c.if-p-eq0.false c.if-p-gt-MOST_COLUMNS.false _ _ c.if-head-eq0.true c.read_rows.ensures
 
 read-rows-requires-2 : tie.Need-read_rows-requires-2
 read-rows-requires-2 c κs = search rules
@@ -38,8 +37,7 @@ same-length-2 c = search rules
 
 returns-4 : tie.Need-returns
 returns-4 c =
-    let t = c.before.before.before.before in
-    head_amounts _ _ _ _ _ t.if-p-eq0.false t.if-p-gt-MOST_COLUMNS.false _ _ t.if-head-eq0.false c.read_rows-2.ensures
+    head_amounts _ _ _ _ _ c.if-p-eq0.false c.if-p-gt-MOST_COLUMNS.false _ _ c.if-head-eq0.false c.read_rows-2.ensures
 
 pub read_headed_spec : {M : Type 1} → statement M
 read_headed_spec =

@@ -21,8 +21,7 @@ same_length c = search rules
 
 returns : tie.Need-returns
 returns c =
-    let l = c.before.before.before.before.before in
-    row_of _ _ _ _ _ _ _ _ _ _ (ap (λ n. take n l.args.line.now) l.content_length-n.ensures)
+    row_of _ _ _ _ _ _ _ _ _ _ (ap (λ n. take n c.args.line.now) c.content_length-n.ensures)
     c.read_content.ensures
 
 pub read_row_spec : {M : Type 1} → statement M

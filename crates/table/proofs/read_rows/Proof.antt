@@ -60,15 +60,12 @@ enum-known-fault c = search rules
 
 same_length : tie.Need-shape_of-amounts-in-Fault invariant-loop decreases-loop
 same_length c =
-    let r = c.before.before.before in
-    r.read_row.auto.amounts ∙ r.loop-at.invariant.3.long
+    c.read_row.auto.amounts ∙ c.loop-at.invariant.3.long
 
 returns : tie.Need-returns-in-Fault invariant-loop decreases-loop
 returns c =
-    let r = c.before.before.before in
-    let e = r.before.before.before in
-    rows_stop _ _ _ _ _ _ _ _ _ _ e.loop-at.invariant.3 _ _ _ e.loop-at-test.true e.line_end-end.ensures
-    r.read_row.ensures _ _ _ _ c.in-Fault.is
+    rows_stop _ _ _ _ _ _ _ _ _ _ c.loop-at.invariant.3 _ _ _ c.loop-at-test.true c.line_end-end.ensures
+    c.read_row.ensures _ _ _ _ c.in-Fault.is
 
 add-payslips : tie.Need-overflow_add-payslips invariant-loop decreases-loop
 add-payslips c = let w = within c.before.before.before.before.before.before in search rules
@@ -86,14 +83,12 @@ loop-less c =
 
 loop-again : tie.Need-loop-at-preserved invariant-loop decreases-loop
 loop-again c =
-    let r = c.before.before.before in
-    let e = r.before.before.before in
-    let at = e.loop-at.invariant in
-    let w = within e in (
+    let at = c.loop-at.invariant in
+    let w = within c.before.before.before.before.before.before in (
       omega (arith, w.1),
       omega (arith, w.0, at.1),
       omega (arith, w.0, at.2),
-      rows_on _ _ _ _ _ _ _ _ _ _ at.3 _ _ _ e.loop-at-test.true e.line_end-end.ensures r.read_row.ensures _ c.in-Numbers.is,
+      rows_on _ _ _ _ _ _ _ _ _ _ at.3 _ _ _ c.loop-at-test.true c.line_end-end.ensures c.read_row.ensures _ c.in-Numbers.is,
     )
 
 same-length-2 : tie.Need-shape_of-amounts-then-payslips-eq0 invariant-loop decreases-loop

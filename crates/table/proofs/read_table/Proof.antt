@@ -45,10 +45,7 @@ same_length c = search rules
 
 returns-3 : tie.Need-returns
 returns-3 c =
-    let f = c.before.before.before.before in
-    let e = f.before.before in
-    let t = e.before in
-    table_headed _ _ t.is_cut.ensures _ _ t.if-is_cut.false _ _ _ _ t.if-text-eq0.false e.line_end-end.ensures f.first_line-head.ensures
+    table_headed _ _ c.is_cut.ensures _ _ c.if-is_cut.false _ _ _ _ c.if-text-eq0.false c.line_end-end.ensures c.first_line-head.ensures
     c.read_headed.ensures
 
 pub read_table_spec : {M : Type 1} → statement M

@@ -12,5 +12,4 @@ table_spec =
     (tie.spec (λ c κs. search rules) (λ c. start_within _ _ c.mark_length-start.ensures) (λ c. start_within _ _ c.mark_length-start.ensures)
     (λ c. search rules) (λ c κs. search rules) (λ c κs. search rules) (λ c. search rules)
     (λ c.
-    let k = c.before.before.before.before in
-    body_told table_in _ _ _ _ _ _ _ _ k.mark_length-start.ensures k.read_table-read.ensures c.tell_text.ensures))
+    body_told table_in _ _ _ _ _ _ _ _ c.mark_length-start.ensures c.read_table-read.ensures c.tell_text.ensures))

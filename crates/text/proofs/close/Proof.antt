@@ -9,5 +9,5 @@ use Rattle.text.proofs.close.Tie as tie
 pub close_spec : {M : Type 1} → statement M
 close_spec =
     tie.close
-    (tie.spec (λ c. search rules) (λ c. search rules) (λ c. search rules) (λ c. case closed _ _ _ c.enum_told-1.given.1 refl)
-    (λ c. case closed _ _ _ c.making-1.given.1 refl) (λ c. case closed _ _ _ c.making-in-Padded-1.given.1 refl))
+    (tie.spec (λ c. search rules) (λ c. search rules) (λ c. search rules) (λ c. case closed _ _ _ c.in-Nothing.is refl)
+    (λ c. case closed _ _ _ c.in-Number.is refl) (λ c. case closed _ _ _ c.in-Padded.is refl))

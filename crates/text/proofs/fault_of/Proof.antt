@@ -31,25 +31,22 @@ returns-4 c = choose_yes _ _ _ _ (or_right _ _ (or_right _ _ (or_right _ _ (eq_y
 returns-5 : tie.Need-returns-then-b-eq43
 unfolding fault_of
 returns-5 c =
-    let g = c.before in
-    let no = none (eq_no _ _ g.if-b-eq39.false) (eq_no _ _ g.if-b-eq44.false) (eq_no _ _ g.if-b-eq46.false)
-    (eq_no _ _ g.if-b-eq95.false) in
+    let no = none (eq_no _ _ c.if-b-eq39.false) (eq_no _ _ c.if-b-eq44.false) (eq_no _ _ c.if-b-eq46.false)
+    (eq_no _ _ c.if-b-eq95.false) in
     choose_no _ _ _ _ no (choose_yes _ _ _ _ (or_left _ _ (eq_yes _ _ c.if-b-eq43.true)) refl)
 
 returns-6 : tie.Need-returns-then-b-eq45
 unfolding fault_of
 returns-6 c =
-    let g = c.before.before in
-    let no = none (eq_no _ _ g.if-b-eq39.false) (eq_no _ _ g.if-b-eq44.false) (eq_no _ _ g.if-b-eq46.false)
-    (eq_no _ _ g.if-b-eq95.false) in
+    let no = none (eq_no _ _ c.if-b-eq39.false) (eq_no _ _ c.if-b-eq44.false) (eq_no _ _ c.if-b-eq46.false)
+    (eq_no _ _ c.if-b-eq95.false) in
     choose_no _ _ _ _ no (choose_yes _ _ _ _ (or_right _ _ (eq_yes _ _ c.if-b-eq45.true)) refl)
 
 returns-7 : tie.Need-returns
 unfolding fault_of
 returns-7 c =
-    let g = c.before.before in
-    let no = none (eq_no _ _ g.if-b-eq39.false) (eq_no _ _ g.if-b-eq44.false) (eq_no _ _ g.if-b-eq46.false)
-    (eq_no _ _ g.if-b-eq95.false) in
+    let no = none (eq_no _ _ c.if-b-eq39.false) (eq_no _ _ c.if-b-eq44.false) (eq_no _ _ c.if-b-eq46.false)
+    (eq_no _ _ c.if-b-eq95.false) in
     choose_no _ _ _ _ no (choose_no _ _ _ _ (or_none _ _ (eq_no _ _ c.if-b-eq43.false) (eq_no _ _ c.if-b-eq45.false)) refl)
 
 pub fault_of_spec : {M : Type 1} → statement M

@@ -1,11 +1,11 @@
 -- At each turn what the whole text comes to is what the bytes that are left come to, after the numbers that stand whole.
 use borrow.Author.Rules.{rules}
-use mathlib.Core.Logic.{⊎_elim}
 use Prim.Native.Nat.{◌+◌, ◌-◌, ◌≤◌}
 use native.Mathlib.Omega.{arith}
 use lib.ListN.{length}
 use Rattle.text.proofs.Reading.{Reads, reads_start, reads_end, reads_room, reads_stop, on_becomes, on_ends}
 use Rattle.text.proofs.parse.Statement.{statement}
+use Rattle.text.proofs.parse.Lts.{in-Becomes, in-Ends}
 use Rattle.text.proofs.parse.Tie as tie
 
 abbrev invariant-loop : tie.invariant-loop-i
@@ -31,11 +31,10 @@ enum-known-x c = search rules
 
 slice-write-numbers : tie.Need-bounds-numbers-from invariant-loop decreases-loop
 slice-write-numbers c =
-    let y = c.before in
-    let l = y.loop-i in
+    let l = c.loop-i in
     let low =
-    reads_room _ _ _ _ _ _ _ _ _ l.invariant.1 y.loop-i-test.true _ _ y.kind_at-kind.ensures y.effect_of.ensures _ c.in-Ends.is in
-    omega (arith, l.invariant.1.long, y.requires, low)
+    reads_room _ _ _ _ _ _ _ _ _ l.invariant.1 c.loop-i-test.true _ _ c.kind_at-kind.ensures c.effect_of.ensures _ c.in-Ends.is in
+    omega (arith, l.invariant.1.long, c.requires, low)
 
 add-numbers : tie.Need-overflow_add-numbers invariant-loop decreases-loop
 add-numbers c = let h = slice-write-numbers c in search rules
@@ -57,9 +56,8 @@ same_length c = c.loop-i.invariant.1.long
 
 returns : tie.Need-returns-in-Faulty invariant-loop decreases-loop
 returns c =
-    let y = c.before in
-    let l = y.loop-i in
-    reads_stop _ _ _ _ _ _ _ _ _ l.invariant.1 y.loop-i-test.true _ _ y.kind_at-kind.ensures y.effect_of.ensures _ _ _ c.in-Faulty.is
+    let l = c.loop-i in
+    reads_stop _ _ _ _ _ _ _ _ _ l.invariant.1 c.loop-i-test.true _ _ c.kind_at-kind.ensures c.effect_of.ensures _ _ _ c.in-Faulty.is
 
 add-i : tie.Need-overflow_add-i invariant-loop decreases-loop
 add-i c = search rules
@@ -69,15 +67,16 @@ loop-less c = search rules
 
 loop-again : tie.Need-loop-i-preserved invariant-loop decreases-loop
 loop-again c =
-    let y = c.before in
-    let l = y.loop-i in
-    let at = y.loop-i-test.true in
-    let room = y.requires in (
+    let l = c.loop-i in
+    let at = c.loop-i-test.true in
+    let room = c.requires in (
       search rules,
-      ⊎_elim
-          (λ w. on_becomes _ _ _ _ _ _ _ _ _ l.invariant.1 at _ _ y.kind_at-kind.ensures y.effect_of.ensures _ _ _ _ w.1.given.1 w.3 w.4 w.5)
-          (λ w. on_ends _ _ _ _ _ _ _ _ _ l.invariant.1 at _ _ y.kind_at-kind.ensures y.effect_of.ensures _ _ _ _ w.1.given.1 room w.3 w.4 w.5)
-          c.match-effect_of.branch,
+      elim c.match-effect_of.branch [
+        | in-Becomes w ↦
+            on_becomes _ _ _ _ _ _ _ _ _ l.invariant.1 at _ _ c.kind_at-kind.ensures c.effect_of.ensures _ _ _ _ w.in-Becomes.is w.numbers-is w.made-is w.making-is
+        | in-Ends w ↦
+            on_ends _ _ _ _ _ _ _ _ _ l.invariant.1 at _ _ c.kind_at-kind.ensures c.effect_of.ensures _ _ _ _ w.in-Ends.is room w.numbers-is w.made-is w.making-is
+      ],
     )
 
 same-length-2 : tie.Need-shape_of-numbers invariant-loop decreases-loop

@@ -9,5 +9,5 @@ use Rattle.text.proofs.part.Tie as tie
 pub part_spec : {M : Type 1} → statement M
 part_spec =
     tie.close
-    (tie.spec (λ c. search rules) (λ c. search rules) (λ c. search rules) (λ c. case parted _ _ _ c.enum_told-1.given.1 refl)
-    (λ c. case parted _ _ _ c.making-1.given.1 refl) (λ c. case parted _ _ _ c.making-in-Padded-1.given.1 refl))
+    (tie.spec (λ c. search rules) (λ c. search rules) (λ c. search rules) (λ c. case parted _ _ _ c.in-Nothing.is refl)
+    (λ c. case parted _ _ _ c.in-Number.is refl) (λ c. case parted _ _ _ c.in-Padded.is refl))

@@ -10,9 +10,8 @@ use Rattle.yao_emit.proofs.emit.Tie as tie
 measured : (c : tie.After-measure_digits) → let s = c.args in
     Measured s.p s.q s.amounts.now s.k c.measure_digits.new.cells
 measured c =
-    let known = c.before.before.before.before in
-    let asked = known.requires.asked in
-    columns_measured _ _ _ _ _ _ _ (search rules) (λ j. (known.shared_slice_known-2-1.given j).fits) asked.largest (search rules) c.measure_digits.ensures
+    let asked = c.requires.asked in
+    columns_measured _ _ _ _ _ _ _ (search rules) (λ j. (c.shared_slice_known-2-1.given j).fits) asked.largest (search rules) c.measure_digits.ensures
 
 slice-aggregate-measure-digits : tie.Need-slice_bounds-measure_digits-end
 slice-aggregate-measure-digits c = search rules
@@ -40,16 +39,13 @@ slice-aggregate-make-chain-2 c = filled-length _ _ _ _ c.all_squarings.ensures
 
 make-chain-requires : tie.Need-make_chain-requires
 make-chain-requires c κs =
-    let squared = c.before.before.before.before.before in
-    let told = squared.before.before.before.before in
-    let s = told.before.before.before.before.before.before in
     record {
       asked =
           record {
-            chain = record { ranges = s.requires.asked.ranges; measured = measured told };
-            counts_are = filled_front _ _ s.args.p _ squared.all_squarings.ensures;
+            chain = record { ranges = c.requires.asked.ranges; measured = measured c.before.before.before.before.before.before.before.before.before };
+            counts_are = filled_front _ _ c.args.p _ c.all_squarings.ensures;
           };
-      room = s.requires.room;
+      room = c.requires.room;
     }
 
 same_length : tie.Need-shape_of-steps

@@ -24,9 +24,7 @@ loop-holds c = search (rules, gathering)
 
 mul-power-at : tie.Need-overflow_mul-column invariant-loop decreases-loop
 mul-power-at c =
-    let at = c.before.before.before in
-    let s = at.before.before in
-    Fits-under _ _ 32 (digit_reach s.args.column at.loop-i.i s.requires.asked (search rules)) tt
+    Fits-under _ _ 32 (digit_reach c.args.column c.loop-i.i c.requires.asked (search rules)) tt
 
 power-at-requires : tie.Need-power_at-power-requires invariant-loop decreases-loop
 power-at-requires c κs = search (rules, power_place)
@@ -44,16 +42,11 @@ loop-less : tie.Need-loop-i-smaller invariant-loop decreases-loop
 loop-less c = search rules
 
 loop-again : tie.Need-loop-i-preserved invariant-loop decreases-loop
-loop-again c =
-    let gathered = c.before.before in
-    let taken = gathered.before.before in
-    let powered = taken.before in
-    let at = powered.before.before.before.before in
-    let s = at.before.before in (
-      search rules,
-      search rules,
-      powers_on s.args.column _ _ _ _ _ _ _ at.loop-i.invariant.2 _ _ taken.digit.ensures powered.power_at-power.ensures _ _ _ gathered.gather_one-r.ensures,
-    )
+loop-again c = (
+  search rules,
+  search rules,
+  powers_on c.args.column _ _ _ _ _ _ _ c.loop-i.invariant.2 _ _ c.digit.ensures c.power_at-power.ensures _ _ _ c.gather_one-r.ensures,
+)
 
 same_length : tie.Need-shape_of-steps invariant-loop decreases-loop
 same_length c = search rules

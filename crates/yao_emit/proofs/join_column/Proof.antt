@@ -6,27 +6,21 @@ use Rattle.yao_emit.proofs.join_column.Tie as tie
 
 sweep-column-requires : tie.Need-sweep_column-s-requires
 sweep-column-requires c κs =
-    let start = c.before.before.before in
-    let s = start.args in
-    record { asked = start.requires.asked; room = sweep_room s.column s.steps.now s.m.progress s.m.value start.requires.room }
+    let s = c.args in
+    record { asked = c.requires.asked; room = sweep_room s.column s.steps.now s.m.progress s.m.value c.requires.room }
 
 times-requires : tie.Need-times-requires
 times-requires c κs =
-    let swept = c.before.before.before.before in
-    let start = swept.before.before.before.before in
-    let s = start.args in
-    join_room s.column s.steps.now s.m.progress s.m.value start.requires.room _ _ _ _ swept.sweep_column-s.ensures
+    let s = c.args in
+    join_room s.column s.steps.now s.m.progress s.m.value c.requires.room _ _ _ _ c.sweep_column-s.ensures
 
 same_length : tie.Need-shape_of-steps
 same_length c = search rules
 
 returns : tie.Need-returns
 returns c =
-    let timed = c.before.before in
-    let swept = timed.before.before.before.before.before in
-    let start = swept.before.before.before.before in
-    let s = start.args in
-    join_on s.column s.steps.now s.m.progress s.m.value start.requires.room _ _ _ _ swept.sweep_column-s.ensures _ _ _ timed.times.ensures
+    let s = c.args in
+    join_on s.column s.steps.now s.m.progress s.m.value c.requires.room _ _ _ _ c.sweep_column-s.ensures _ _ _ c.times.ensures
 
 pub join_column_spec : {M : Type 1} → statement M
 join_column_spec = tie.close (tie.spec sweep-column-requires times-requires same_length returns)

@@ -6,14 +6,11 @@ use Rattle.yao_emit.proofs.make_chain.Tie as tie
 
 square-columns-requires : tie.Need-square_columns-squared-requires
 square-columns-requires c κs =
-    let s = c.before.before.before.before.before.before in
-    record { asked = counts_few s.requires.asked; room = squarings_room s.requires.asked s.requires.room }
+    record { asked = counts_few c.requires.asked; room = squarings_room c.requires.asked c.requires.room }
 
 make-payslips-requires : tie.Need-make_payslips-requires
 make-payslips-requires c κs =
-    let squared = c.before.before.before.before in
-    let s = squared.before.before.before.before.before.before.before in
-    record { asked = s.requires.asked.chain; room = after_squarings s.requires.asked s.requires.room squared.square_columns-squared.ensures }
+    record { asked = c.requires.asked.chain; room = after_squarings c.requires.asked c.requires.room c.square_columns-squared.ensures }
 
 same_length : tie.Need-shape_of-steps
 same_length c = search rules

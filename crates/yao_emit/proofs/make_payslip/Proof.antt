@@ -43,17 +43,14 @@ amount-requires c κs = search amount_there
 
 join-column-requires : tie.Need-join_column-r-requires invariant-loop decreases-loop
 join-column-requires c κs =
-    let amounted = c.before in
-    let at = amounted.before.before.before in
-    let start = at.before.before.before.before in
-    let s = start.args in
-    let chain = start.requires.asked.chain in
-    let is = column_is s.p s.q s.amounts.now s.k s.columns.now chain.decreases at.loop-c.c (search rules) in
+    let s = c.args in
+    let chain = c.requires.asked.chain in
+    let is = column_is s.p s.q s.amounts.now s.k s.columns.now chain.measured c.loop-c.c (search rules) in
     record {
-      asked = reaches _ chain.ranges (column_few _ _ _ _ chain.decreases.narrow (search rules)) (search rules) at.loop-c.invariant.2;
+      asked = reaches _ chain.ranges (column_few _ _ _ _ chain.measured.narrow (search rules)) (search rules) c.loop-c.invariant.2;
       room =
-          column_room s.p s.q s.amounts.now s.k s.i (steps_in s.steps.now s.progress.steps) s.steps.now _ _ _ at.loop-c.c at.loop-c.first _
-          amounted.amount.result at.loop-c.invariant.4 at.loop-c.invariant.1 is amounted.amount.ensures _ start.requires.room (search rules);
+          column_room s.p s.q s.amounts.now s.k s.i (steps_in s.steps.now s.progress.steps) s.steps.now _ _ _ c.loop-c.c c.loop-c.first _
+          c.amount.result c.loop-c.invariant.4 c.loop-c.invariant.1 is c.amount.ensures _ c.requires.room (search rules);
     }
 
 squarings-of-requires : tie.Need-squarings_of-first-requires invariant-loop decreases-loop
@@ -70,18 +67,14 @@ loop-less c = search rules
 
 loop-again : tie.Need-loop-c-preserved invariant-loop decreases-loop
 loop-again c =
-    let joined = c.before.before.before in
-    let amounted = joined.before.before in
-    let at = amounted.before.before.before in
-    let start = at.before.before.before.before in
-    let s = start.args in
-    let is = column_is s.p s.q s.amounts.now s.k s.columns.now start.requires.asked.chain.measured at.loop-c.c (search rules) in (
+    let s = c.args in
+    let is = column_is s.p s.q s.amounts.now s.k s.columns.now c.requires.asked.chain.measured c.loop-c.c (search rules) in (
       search rules,
       search first_on,
       search rules,
       search rules,
-      column_on s.p s.q s.amounts.now s.k s.i (steps_in s.steps.now s.progress.steps) s.steps.now _ _ _ at.loop-c.c at.loop-c.first _
-          amounted.amount.result at.loop-c.invariant.4 at.loop-c.invariant.1 is amounted.amount.ensures _ _ _ joined.join_column-r.ensures,
+      column_on s.p s.q s.amounts.now s.k s.i (steps_in s.steps.now s.progress.steps) s.steps.now _ _ _ c.loop-c.c c.loop-c.first _
+          c.amount.result c.loop-c.invariant.4 c.loop-c.invariant.1 is c.amount.ensures _ _ _ c.join_column-r.ensures,
     )
 
 same_length : tie.Need-shape_of-steps invariant-loop decreases-loop
@@ -89,10 +82,9 @@ same_length c = search rules
 
 returns : tie.Need-returns invariant-loop decreases-loop
 returns c =
-    let at = c.before in
-    let s = at.args in
-    columns_end s.p s.q s.amounts.now s.k s.i (steps_in s.steps.now s.progress.steps) s.steps.now _ _ _ at.loop-c.c
-    at.loop-c.invariant.0 (search rules) at.loop-c.invariant.4
+    let s = c.args in
+    columns_end s.p s.q s.amounts.now s.k s.i (steps_in s.steps.now s.progress.steps) s.steps.now _ _ _ c.loop-c.c
+    c.loop-c.invariant.0 (search rules) c.loop-c.invariant.4
 
 pub make_payslip_spec : {M : Type 1} → statement M
 make_payslip_spec =

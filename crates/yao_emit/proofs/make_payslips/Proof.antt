@@ -33,7 +33,7 @@ make-payslip-requires : tie.Need-make_payslip-r-requires invariant-loop decrease
 make-payslip-requires c κs =
     let at = c.before.before in
     let s = at.before.before.before.before.before in
-    record { asked = search rules; room = paying_room (slip s) (begins s) at.loop-i.invariant s.requires.room (search rules) }
+    record { asked = search rules; room = paying_room (slip s) (begins s) c.loop-i.invariant c.requires.room (search rules) }
 
 mul-outputs : tie.Need-offset_bounds-outputs-i invariant-loop decreases-loop
 mul-outputs c = search rules
@@ -52,7 +52,7 @@ loop-again c =
     let made = c.before.before.before in
     let at = made.before.before.before in
     let s = at.before.before.before.before.before in
-    paying_on (slip s) (begins s) at.loop-i.invariant s.requires.room (search rules) made.make_payslip-r.ensures
+    paying_on (slip s) (begins s) c.loop-i.invariant c.requires.room (search rules) c.make_payslip-r.ensures
 
 same_length : tie.Need-shape_of-steps invariant-loop decreases-loop
 same_length c = search rules

@@ -42,28 +42,25 @@ sub-gather-powers c = search rules
 
 gather-powers-requires : tie.Need-gather_powers-b-requires invariant-loop decreases-loop
 gather-powers-requires c κs =
-    let start = c.before.before.before in
-    let told = start.power-top in
-    let s = start.args in
-    let i = start.loop-i.i in
+    let told = c.power-top in
+    let s = c.args in
+    let i = c.loop-i.i in
     record {
-      asked = start.requires.asked;
+      asked = c.requires.asked;
       room =
           b_room s.column (steps_in s.steps.now s.progress.steps) s.steps.now _ _ _ _ i
-          start.loop-i.invariant.2 (told.result - (i + 1)) (ap (λ (t : ℕ). t - (i + 1)) told.ensures) (2 ^ s.column.k - 1) _ start.requires.room
+          c.loop-i.invariant.2 (told.result - (i + 1)) (ap (λ (t : ℕ). t - (i + 1)) told.ensures) (2 ^ s.column.k - 1) _ c.requires.room
           (omega (arith, told.ensures));
     }
 
 times-requires : tie.Need-times-a-requires invariant-loop decreases-loop
 times-requires c κs =
-    let gathered = c.before.before.before.before in
-    let start = gathered.before.before.before.before in
-    let told = start.power-top in
-    let s = start.args in
-    let i = start.loop-i.i in
+    let told = c.power-top in
+    let s = c.args in
+    let i = c.loop-i.i in
     a_room s.column (steps_in s.steps.now s.progress.steps) s.steps.now _ _ _ _ i
-    start.loop-i.invariant.2 (told.result - (i + 1)) (ap (λ (t : ℕ). t - (i + 1)) told.ensures) _ _ _ gathered.gather_powers-b.ensures (2 ^ s.column.k - 1) _
-    start.requires.room (omega (arith, told.ensures))
+    c.loop-i.invariant.2 (told.result - (i + 1)) (ap (λ (t : ℕ). t - (i + 1)) told.ensures) _ _ _ c.gather_powers-b.ensures (2 ^ s.column.k - 1) _
+    c.requires.room (omega (arith, told.ensures))
 
 add-i : tie.Need-overflow_add-i-in-loop-i-2 invariant-loop decreases-loop
 add-i c = search rules
@@ -73,17 +70,14 @@ loop-less c = search rules
 
 loop-again : tie.Need-loop-i-preserved invariant-loop decreases-loop
 loop-again c =
-    let timed = c.before.before.before in
-    let gathered = timed.before.before.before.before.before in
-    let start = gathered.before.before.before.before in
-    let told = start.power-top in
-    let s = start.args in
-    let i = start.loop-i.i in (
+    let told = c.power-top in
+    let s = c.args in
+    let i = c.loop-i.i in (
       search rules,
       search rules,
       a_on s.column (steps_in s.steps.now s.progress.steps) s.steps.now _ _ _ _ i
-          start.loop-i.invariant.2 (told.result - (i + 1)) (ap (λ (t : ℕ). t - (i + 1)) told.ensures) _ _ _ gathered.gather_powers-b.ensures _ _ _
-          timed.times-a.ensures,
+          c.loop-i.invariant.2 (told.result - (i + 1)) (ap (λ (t : ℕ). t - (i + 1)) told.ensures) _ _ _ c.gather_powers-b.ensures _ _ _
+          c.times-a.ensures,
     )
 
 same_length : tie.Need-shape_of-steps invariant-loop decreases-loop
@@ -91,10 +85,9 @@ same_length c = search rules
 
 returns : tie.Need-returns invariant-loop decreases-loop
 returns c =
-    let start = c.before in
-    let s = start.args in
-    sweep_end s.column (steps_in s.steps.now s.progress.steps) _ _ _ _ _ start.loop-i.i _
-    start.power-top.ensures start.loop-i.invariant.0 c.loop-i-test.false start.loop-i.invariant.2
+    let s = c.args in
+    sweep_end s.column (steps_in s.steps.now s.progress.steps) _ _ _ _ _ c.loop-i.i _
+    c.power-top.ensures c.loop-i.invariant.0 c.loop-i-test.false c.loop-i.invariant.2
 
 pub sweep_column_spec : {M : Type 1} → statement M
 sweep_column_spec =

@@ -1,2 +1,0 @@
-pub mod Reader
-pub mod Reading

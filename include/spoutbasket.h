@@ -1,6 +1,6 @@
 /* Spoutbasket: payslip sheets compiled into multiplication chains, their files, their check and their control figures.
  *
- * Link libspoutbasket.a, which `rt staticlib spoutbasket` writes, or the shared object that `make` makes of it. The library allocates nothing and keeps
+ * Link libspoutbasket.a, which `rt lib` in crates/spoutbasket writes, or the shared object that `make` makes of it. The library allocates nothing and keeps
  * nothing between calls; any number of threads may call it at once, each with its own slices.
  *
  * A slice is a pointer and the number of its cells. Steps lie flat, first and second operand in turn, so n steps are 2n cells; an odd last cell

@@ -68,10 +68,7 @@ pub fn show(outputs: &[u32], values: &[u32], figures: &mut [u32])
     requires { FiguresAble outputs.now (length values.now) (length figures.old) }
     ensures { figures.new ≡ over (pick values.now outputs.now) figures.old }
 {
-    let mut j: usize = 0;
-    while j < outputs.len() {
-        let v = outputs[j] as usize;
-        figures[j] = values[v];
-        j += 1;
+    for (j, v) in outputs.iter().enumerate() {
+        figures[j] = values[*v as usize];
     }
 }

@@ -7,14 +7,11 @@ use native.Mathlib.Omega.{arith}
 use lib.ListN.{length, get_or}
 use Rattle.chain.specs.Tests.{◌=?◌}
 use Rattle.chain.specs.Verdict.{Verdict, fine, refused, done, refusal}
-use Rattle.chain.specs.Judgement.{counted_of}
 use Rattle.chain.specs.Chain.{by, step_rule, one, how_many, is_squaring, is_other, squarings_of, products_of, counts}
 use Rattle.chain.specs.Inner.{counted_by, SquaringCounted}
 use Rattle.chain.specs.declared.Step.{Step}
-use Rattle.chain.specs.declared.Counted.{Counted}
-use Rattle.chain.specs.declared.Counted.TheVariants.{Fine, Refused}
 use Rattle.chain.proofs.Rules.{eq_yes, eq_no, ne_yes, ne_no, is_eq, not_eq, answer_refused, answer_done}
-use Rattle.chain.proofs.Told.{verdict_in, told, told_values_lem}
+use Rattle.chain.proofs.Told.{told, told_values_lem}
 use Rattle.chain.proofs.Steps.{step_legal}
 
 -- a step is one or the other
@@ -85,20 +82,17 @@ module _ (v : Verdict) (number : ℕ) where
   counted_done k e f = ap (λ (x : ℕ). done (x ∷ [])) f ∙ answer_done v _ e
 
   -- and what a callee's answer tells of them
-  module _ (j : Counted) (e : counted_of j ≡ counted_by v number) where
-    verdict_told : verdict_in (counted_of j) ≡ v
+  pub found_refused : (n s : ℕ) → refusal n s ≡ counted_by v number → refused n s ≡ v
+  unfolding counted_by
+  found_refused n s e = told _ _ _ e
+
+  module _ (k : ℕ) (e : done (k ∷ []) ≡ counted_by v number) where
+    pub found_fine : fine ≡ v
     unfolding counted_by
-    verdict_told = told _ _ _ e
+    found_fine = told _ _ _ e
 
-    pub found_refused : (n s : ℕ) → j ≡ Refused n s → refused n s ≡ v
-    found_refused n s f = sym (ap (λ (x : Counted). verdict_in (counted_of x)) f) ∙ verdict_told
-
-    module _ (k : ℕ) (f : j ≡ Fine k) where
-      pub found_fine : fine ≡ v
-      found_fine = sym (ap (λ (x : Counted). verdict_in (counted_of x)) f) ∙ verdict_told
-
-      pub found_number : k ≡ number
-      unfolding counted_by
-      found_number = ap (λ (l : List ℕ). get_or l 0 0) (told_values_lem _ _ _ (sym (ap counted_of f) ∙ e))
+    pub found_number : k ≡ number
+    unfolding counted_by
+    found_number = ap (λ (l : List ℕ). get_or l 0 0) (told_values_lem _ _ _ e)
 
 pub ruleset counting = (counted_refused, counted_done, found_refused, found_fine, found_number)

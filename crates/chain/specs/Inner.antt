@@ -1,8 +1,8 @@
 -- Inner vocabulary: what the functions of this crate ask and leave, and what those of others ask of a chain. Nobody has to believe it to believe an entry
 -- point's promise.
-use Rattle.std.specs.Prelude.{◌≡◌, List, [], ◌∷◌, ℕ, ◌+◌, ◌*◌, ◌/◌, ◌≤◌, ◌<◌, length, get_or}
+use Rattle.std.specs.Prelude.{◌≡◌, List, [], ◌∷◌, ℕ, ◌+◌, ◌*◌, ◌≤◌, ◌<◌, length, get_or}
 use Rattle.chain.specs.Verdict.{Verdict, fine, Answer, answer}
-use Rattle.chain.specs.Chain.{most_columns, most_payslips, by, pairs, steps_rule, outputs_rule, one, is_squaring}
+use Rattle.chain.specs.Chain.{most_columns, most_payslips, by, steps_rule, outputs_rule, one, is_squaring}
 use Rattle.chain.specs.declared.Step.{Step}
 
 -- step s of a flat list, counted from 0
@@ -15,15 +15,15 @@ pub record SizesLow (p q : ℕ) : Type 0 where
   pub q_low : q ≤ most_payslips
 
 -- a chain whose steps are in order, with a cell for each of its values
-pub record StepsSound (p : ℕ) (steps cells : List ℕ) : Type 0 where
+pub record StepsSound (p : ℕ) (steps : List Step) (cells : List ℕ) : Type 0 where
   pub p_low : p ≤ most_columns
-  pub steps_fine : steps_rule p 1 (pairs steps) ≡ fine
-  pub room : p + length steps / 2 < length cells
+  pub steps_fine : steps_rule p 1 steps ≡ fine
+  pub room : p + length steps < length cells
 
 -- and whose outputs are numbers of its values
-pub record ChainSound (p : ℕ) (steps outputs cells : List ℕ) : Type 0 where
+pub record ChainSound (p : ℕ) (steps : List Step) (outputs cells : List ℕ) : Type 0 where
   pub steps_sound : StepsSound p steps cells
-  pub outputs_fine : outputs_rule (p + length (pairs steps)) 1 outputs ≡ fine
+  pub outputs_fine : outputs_rule (p + length steps) 1 outputs ≡ fine
 
 -- a cell for each of the outputs, which are numbers of so many values
 pub record FiguresAble (outputs : List ℕ) (values figures : ℕ) : Type 0 where

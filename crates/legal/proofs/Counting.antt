@@ -2,52 +2,48 @@
 -- counts, and the legal ones are as many as the steps only where every step is legal.
 use mathlib.Core.Path.{◌≡◌, refl, sym, ap, ap₂, ◌∙◌}
 use mathlib.Core.List.{List, [], ◌∷◌}
-use Prim.Native.Nat.{ℕ, suc, ◌+◌, ◌/◌, ◌≤◌, ◌<◌}
+use Prim.Native.Nat.{ℕ, suc, ◌+◌, ◌≤◌, ◌<◌}
 use native.Mathlib.Numerals.{add-one}
 use native.Mathlib.Omega.{arith}
-use lib.ListN.{length, drop, drop_of_length-le}
+use lib.ListN.{length, get_or, drop, drop_of_length-le}
 use lib.Seq.{drop-cons}
 use Rattle.chain.specs.Verdict.{Verdict, fine, refused, ◌then◌, in_order}
-use Rattle.chain.specs.Chain.{by, pairs, step_rule, steps_rule, one, is_squaring, squarings_of}
-use Rattle.chain.specs.Inner.{step_at}
+use Rattle.chain.specs.Chain.{by, step_rule, steps_rule, one, is_squaring, squarings_of}
 use Rattle.chain.specs.declared.Step.{Step}
 use Rattle.chain.proofs.Rules.{pass}
-use Rattle.chain.proofs.Pairs.{length_pairs, get_d_pairs}
 use Rattle.step.specs.Inner.{passed, LegalCounted}
 use Rattle.legal.specs.Inner.{added_up, legal_of}
 
--- what is left to add of a flat list after s steps
-unfoldable pub left_to_add : (ℕ → Step → ℕ) → List ℕ → ℕ → ℕ
-left_to_add f l s = added_up f (s + 1) (drop s (pairs l))
+-- what is left to add of a list after s steps
+unfoldable pub left_to_add : (ℕ → Step → ℕ) → List Step → ℕ → ℕ
+left_to_add f l s = added_up f (s + 1) (drop s l)
 
-module _ (f : ℕ → Step → ℕ) (l : List ℕ) where
-  add_start : added_up f 1 (pairs l) ≡ 0 + left_to_add f l 0
+module _ (f : ℕ → Step → ℕ) (l : List Step) where
+  add_start : added_up f 1 l ≡ 0 + left_to_add f l 0
   unfolding left_to_add
   add_start = omega arith
 
   -- of the whole, w, k is counted; d is for the step at hand
   module _ (w s k : ℕ) where
-    pub add_on : (x : Step) (d : ℕ) → s < length l / 2 → x ≡ step_at l s → d ≡ f (s + 1) (by x.first x.second) → w ≡ k + left_to_add f l s
+    pub add_on : (x : Step) (d : ℕ) → s < length l → x ≡ get_or l s (by 0 0) → d ≡ f (s + 1) (by x.first x.second) → w ≡ k + left_to_add f l s
         → w ≡ k + d + left_to_add f l (s + 1)
-    unfolding left_to_add step_at
+    unfolding left_to_add
     add_on x d h is d-is e =
-        let there : s < length (pairs l) = rw length_pairs h in
-        let next = ap (added_up f (s + 1)) (drop-cons (pairs l) s (by 0 0) there) in
-        let same = ap (f (s + 1)) (is ∙ sym (get_d_pairs l s (omega arith))) in
-        let later = ap₂ (λ (i j : ℕ). added_up f i (drop j (pairs l))) (sym (add-one (s + 1))) (sym (add-one s)) in
+        let next = ap (added_up f (s + 1)) (drop-cons l s (by 0 0) h) in
+        let same = ap (f (s + 1)) is in
+        let later = ap₂ (λ (i j : ℕ). added_up f i (drop j l)) (sym (add-one (s + 1))) (sym (add-one s)) in
         omega (arith, e, next, same, later, d-is)
 
-    pub add-end : length l / 2 ≤ s → w ≡ k + left_to_add f l s → k ≡ w
+    pub add-end : length l ≤ s → w ≡ k + left_to_add f l s → k ≡ w
     unfolding left_to_add
     add-end h e =
-        let past : length (pairs l) ≤ s = rw length_pairs h in
-        omega (arith, e, ap (added_up f (s + 1)) (drop_of_length-le (pairs l) past))
+        omega (arith, e, ap (added_up f (s + 1)) (drop_of_length-le l h))
 
 -- whether a step is legal, by its place
 abbrev pub legal_at : ℕ → ℕ → Step → ℕ
 legal_at p s x = passed (step_rule (p + s) s x)
 
-pub legal_start : (p : ℕ) (l : List ℕ) → legal_of p (pairs l) ≡ 0 + left_to_add (legal_at p) l 0
+pub legal_start : (p : ℕ) (l : List Step) → legal_of p l ≡ 0 + left_to_add (legal_at p) l 0
 unfolding legal_of
 legal_start p l = add_start (legal_at p) l
 
@@ -65,8 +61,8 @@ unfolding squarings_of
 squarings_added i [] = refl
 squarings_added i (x ∷ r) = omega (arith, squarings_added (suc i) r)
 
-pub squarings_start : (l : List ℕ) → squarings_of (pairs l) ≡ 0 + left_to_add squaring_at l 0
-squarings_start l = squarings_added 1 (pairs l) ∙ add_start squaring_at l
+pub squarings_start : (l : List Step) → squarings_of l ≡ 0 + left_to_add squaring_at l 0
+squarings_start l = squarings_added 1 l ∙ add_start squaring_at l
 
 pub ruleset adding = (legal_start, legal_one, squarings_start, add_on, add-end)
 
@@ -94,6 +90,6 @@ module _ {A : Type 0} (rule : ℕ → A → Verdict) where
       by_first fine f later = pass _ _ fine (sym f) (later (omega (arith, e, ap passed f)))
       by_first (refused n s) f later = absurd (omega (arith, e, ap passed f, passing_few (suc i) l))
 
-pub all_legal : (p : ℕ) (l : List ℕ) (k : ℕ) → k ≡ legal_of p (pairs l) → k ≡ length l / 2 → fine ≡ steps_rule p 1 (pairs l)
+pub all_legal : (p : ℕ) (l : List Step) (k : ℕ) → k ≡ legal_of p l → k ≡ length l → fine ≡ steps_rule p 1 l
 unfolding legal_of
-all_legal p l k is all = passing_all (λ s x. step_rule (p + s) s x) 1 (pairs l) (omega (arith, is, all, length_pairs l))
+all_legal p l k is all = passing_all (λ s x. step_rule (p + s) s x) 1 l (omega (arith, is, all))

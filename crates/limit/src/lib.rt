@@ -2,22 +2,24 @@
 #![tactic(auto)]
 
 ghost use Rattle.std.specs.Prelude.{◌≡◌};
+ghost use Rattle.refusal.specs.Reasons.{number_of};
 ghost use Rattle.chain.specs.Chain.{limit_rule};
 ghost use Rattle.chain.specs.Judgement.{verdict_of};
 
-use chain::Judgement;
+use refusal::{Reason, Refusal};
 
-// A number above most, refused under a refusal's number; its place counts from 1.
-pub fn judge_numbers(number: u32, most: usize, numbers: &[u32]) -> Judgement
-    ensures { verdict_of result ≡ limit_rule number most 1 numbers.now }
+// A number above most, refused for a reason; its place counts from 1.
+#[tactic(auto, using(chain::proofs::Limits::limiting))]
+pub fn judge_numbers(reason: Reason, most: usize, numbers: &[u32]) -> Result<(), Refusal>
+    ensures { verdict_of result ≡ limit_rule (number_of reason) most 1 numbers.now }
 {
-    let mut i: usize = 0;
-    while i < numbers.len() {
-        let x = numbers[i] as usize;
-        if most < x {
-            return Judgement::Refused(number, i + 1);
+    for (i, x) in numbers.iter().enumerate() {
+        if most < *x as usize {
+            return Err(Refusal {
+                reason,
+                place: i + 1,
+            });
         }
-        i += 1;
     }
-    Judgement::Fine
+    Ok(())
 }

@@ -7,21 +7,17 @@ ghost use Rattle.digits.specs.Inner.{Bounded};
 ghost use Rattle.packed.specs.Field.{field_bytes, amount_of, field_rule, field_from};
 ghost use Rattle.packed.specs.Inner.{digit_pair, pairs_at, sign_rule, said_by};
 
-use chain::Judgement;
+use refusal::{Reason, Refusal};
 
 // How many bytes a field has (Spec 1.4).
 pub const FIELD_BYTES: usize = 5;
 
 // 1 for a byte of two digits, else 0.
+#[tactic(auto, using(chain::proofs::Rules::tests), unfolding(crate::specs::Inner::digit_pair))]
 fn digit_pair(byte: u8) -> usize
     ensures { Bounded result (digit_pair byte) 1 }
 {
-    if byte < 160 {
-        if byte % 16 < 10 {
-            return 1;
-        }
-    }
-    0
+    usize::from(byte < 160 && byte % 16 < 10)
 }
 
 // How many of the four bytes from one on are two digits each. They are counted, not tested one after the other: nearly every field is a good one.
@@ -36,28 +32,34 @@ fn count_pairs(bytes: &[u8], at: usize) -> usize
 }
 
 // The sign of field i: fine for plus and unsigned, 19 for minus, 18 for what is none.
-fn judge_sign(sign: u8, i: usize) -> Judgement
+fn judge_sign(sign: u8, i: usize) -> Result<(), Refusal>
     ensures { verdict_of result ≡ sign_rule i sign }
 {
     match sign {
-        12 => Judgement::Fine,
-        15 => Judgement::Fine,
-        13 => Judgement::Refused(19, i),
-        _ => Judgement::Refused(18, i),
+        12 => Ok(()),
+        15 => Ok(()),
+        13 => Err(Refusal {
+            reason: Reason::Minus,
+            place: i,
+        }),
+        _ => Err(Refusal {
+            reason: Reason::Field,
+            place: i,
+        }),
     }
 }
 
 // Field i, which begins at a byte: 18, then 19.
-pub fn judge_field(bytes: &[u8], at: usize, i: usize) -> Judgement
+pub fn judge_field(bytes: &[u8], at: usize, i: usize) -> Result<(), Refusal>
     requires { at + field_bytes ≤ length bytes.now }
     ensures { verdict_of result ≡ field_rule i (field_from bytes.now at) }
 {
-    if count_pairs(bytes, at) < 4 {
-        return Judgement::Refused(18, i);
-    }
     let last = bytes[at + 4];
-    if 160 <= last {
-        return Judgement::Refused(18, i);
+    if count_pairs(bytes, at) < 4 || 160 <= last {
+        return Err(Refusal {
+            reason: Reason::Field,
+            place: i,
+        });
     }
     judge_sign(last % 16, i)
 }
@@ -66,7 +68,7 @@ pub fn judge_field(bytes: &[u8], at: usize, i: usize) -> Judgement
 fn said_by(byte: u8) -> u32
     ensures { Bounded result (said_by byte) 165 }
 {
-    let b = byte as u32;
+    let b = u32::from(byte);
     b / 16 * 10 + b % 16
 }
 
@@ -74,7 +76,7 @@ fn said_by(byte: u8) -> u32
 fn first_said_by(byte: u8) -> u32
     ensures { Bounded result (byte / 16) 15 }
 {
-    (byte / 16) as u32
+    u32::from(byte / 16)
 }
 
 // The amount of the field that begins at a byte. The digits are added from the last pair to the first: in this order the compiler takes four bytes at a

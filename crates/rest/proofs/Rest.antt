@@ -24,12 +24,6 @@ pub rest_parts : (p : ℕ) (steps : List Step) (outputs : List ℕ) (cells : ℕ
 unfolding rest_rule
 rest_parts p steps outputs cells = refl
 
--- a flat list has half as many steps as numbers
-pub rest_flat : (p : ℕ) (l outputs : List ℕ) (cells : ℕ) (v : Verdict)
-    → v ≡ (steps_rule p 1 (pairs l) then end_rule p (length l / 2) outputs cells) → v ≡ rest_rule p (pairs l) outputs cells
-unfolding rest_rule
-rest_flat p l outputs cells v e = rw (length_pairs l) e
-
 -- a shape that is fine has what the end asks
 pub end_asked : {p q n : ℕ} → Shape most_steps p q n → EndAsked p n
 end_asked s = record { p_low = s.sizes.p_low; n_low = s.few }

@@ -37,14 +37,14 @@ run_parts p steps outputs m bases cells figures =
         ∙ then_assoc (chain_rule p steps outputs) (refuse_if few 5 0) _
         ∙ ap (λ (v : Verdict). chain_rule p steps outputs then v) (refuse_either few (figures <? length outputs) 5 0)
 
--- the verdict on a flat list, part by part
-pub run_flat : (p : ℕ) (l outputs : List ℕ) (m : ℕ) (bases : List ℕ) (cells figures : ℕ) (s r v : Verdict)
-    → s ≡ start_rule p (length outputs) (length l / 2) m bases → r ≡ (s then rest_rule p (pairs l) outputs cells)
-    → v ≡ (r then figures_rule (length outputs) figures) → v ≡ run_rule p (pairs l) outputs m bases cells figures
-run_flat p l outputs m bases cells figures s r v starts rests e =
-    told_after s _ _ v (starts ∙ ap (λ (n : ℕ). start_rule p (length outputs) n m bases) (sym (length_pairs l)))
-    (told_after r _ _ v rests e ∙ then_assoc s (rest_rule p (pairs l) outputs cells) (figures_rule (length outputs) figures))
-    ∙ run_parts p (pairs l) outputs m bases cells figures
+-- the verdict, part by part
+pub run_told : (p : ℕ) (steps : List Step) (outputs : List ℕ) (m : ℕ) (bases : List ℕ) (cells figures : ℕ) (s r v : Verdict)
+    → s ≡ start_rule p (length outputs) (length steps) m bases → r ≡ (s then rest_rule p steps outputs cells)
+    → v ≡ (r then figures_rule (length outputs) figures) → v ≡ run_rule p steps outputs m bases cells figures
+run_told p steps outputs m bases cells figures s r v starts rests e =
+    told_after s _ _ v starts
+    (told_after r _ _ v rests e ∙ then_assoc s (rest_rule p steps outputs cells) (figures_rule (length outputs) figures))
+    ∙ run_parts p steps outputs m bases cells figures
 
 -- a start that is fine
 pub record Started (p q n m : ℕ) (bases : List ℕ) : Type 0 where

@@ -2,64 +2,51 @@
 // values that stand before the first of them.
 #![tactic(auto)]
 
-ghost use Rattle.std.specs.Prelude.{◌≡◌, ◌∷◌, ◌+◌, ◌%◌, ◌≤◌, ◌<◌, length};
+ghost use Rattle.std.specs.Prelude.{nat_le, ◌≡◌, ◌∷◌, ◌+◌, ◌%◌, ◌≤◌, ◌<◌, length};
+ghost use Rattle.std.specs.List.{list_any};
 ghost use Rattle.chain.specs.Verdict.{◌then◌};
 ghost use Rattle.chain.specs.Judgement.{verdict_of};
 ghost use Rattle.chain.specs.Written.{over, laid};
-ghost use Rattle.run.specs.Run.{any_not_below};
 ghost use Rattle.run.specs.Inner.{start_rule, figures_rule};
 
-use chain::Judgement;
+use refusal::{Reason, Refusal};
 
 // Whether some number is not below the limit.
 fn any_not_below(limit: u32, numbers: &[u32]) -> bool
-    ensures { result ≡ any_not_below limit numbers.now }
+    ensures { result ≡ list_any (λ x. nat_le limit x) numbers.now }
 {
-    let mut i: usize = 0;
-    while i < numbers.len() {
-        if limit <= numbers[i] {
-            return true;
-        }
-        i += 1;
-    }
-    false
+    numbers.iter().any(|x| limit <= *x)
 }
 
 // What is found against a run before its n steps are looked at: 1, 4, 15, 16.
-pub fn judge_start(p: usize, q: usize, n: usize, m: u32, bases: &[u32]) -> Judgement
+#[tactic(auto, using(chain::proofs::Rules::judging, crate::proofs::Bases::telling_any), unfolding(crate::specs::Inner::start_rule))]
+pub fn judge_start(p: usize, q: usize, n: usize, m: u32, bases: &[u32]) -> Result<(), Refusal>
     ensures { verdict_of result ≡ start_rule p q n m bases.now }
 {
-    match shape::judge_shape(chain::MOST_STEPS, p, q, n) {
-        Judgement::Refused(number, place) => {
-            return Judgement::Refused(number, place);
-        }
-        Judgement::Fine => {}
-    }
+    shape::judge_shape(chain::MOST_STEPS, p, q, n)?;
     if m == 0 {
-        return Judgement::Refused(15, 0);
+        return Err(Reason::Modulus.into());
     }
-    if bases.len() != p {
-        return Judgement::Refused(16, 0);
+    if bases.len() != p || any_not_below(m, bases) {
+        return Err(Reason::Bases.into());
     }
-    if any_not_below(m, bases) {
-        return Judgement::Refused(16, 0);
-    }
-    Judgement::Fine
+    Ok(())
 }
 
 // And after all else: 5 for fewer figures than outputs.
-pub fn judge_figures(found: Judgement, outputs: usize, figures: usize) -> Judgement
+#[tactic(auto, using(chain::proofs::Rules::judging), unfolding(crate::specs::Inner::figures_rule))]
+pub fn judge_figures(
+    found: Result<(), Refusal>,
+    outputs: usize,
+    figures: usize,
+) -> Result<(), Refusal>
     ensures { verdict_of result ≡ (verdict_of found then figures_rule outputs figures) }
 {
-    match found {
-        Judgement::Refused(number, place) => Judgement::Refused(number, place),
-        Judgement::Fine => {
-            if figures < outputs {
-                return Judgement::Refused(5, 0);
-            }
-            Judgement::Fine
-        }
+    found?;
+    if figures < outputs {
+        return Err(Reason::Room.into());
     }
+    Ok(())
 }
 
 // The numbers, from cell `at` on.
@@ -67,11 +54,7 @@ fn lay(numbers: &[u32], at: usize, cells: &mut [u32])
     requires { at + length numbers.now ≤ length cells.old }
     ensures { cells.new ≡ laid at numbers.now cells.old }
 {
-    let mut i: usize = 0;
-    while i < numbers.len() {
-        cells[at + i] = numbers[i];
-        i += 1;
-    }
+    cells[at..at + numbers.len()].copy_from_slice(numbers);
 }
 
 // Value 0 and the bases, over the front of the slice.

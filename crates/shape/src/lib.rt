@@ -5,43 +5,35 @@ ghost use Rattle.std.specs.Prelude.{◌≡◌};
 ghost use Rattle.chain.specs.Chain.{sizes_rule, length_rule, shape_rule};
 ghost use Rattle.chain.specs.Judgement.{verdict_of};
 
-use chain::Judgement;
+use refusal::{Reason, Refusal};
 
 // 1: p or q out of range.
-pub fn judge_sizes(p: usize, q: usize) -> Judgement
+#[tactic(auto, using(chain::proofs::Rules::judging), unfolding(chain::specs::Chain::sizes_rule))]
+pub fn judge_sizes(p: usize, q: usize) -> Result<(), Refusal>
     ensures { verdict_of result ≡ sizes_rule p q }
 {
-    if p < 1 {
-        return Judgement::Refused(1, 0);
+    if p < 1 || chain::MOST_COLUMNS < p || q < 1 || chain::MOST_PAYSLIPS < q {
+        return Err(Reason::Sizes.into());
     }
-    if chain::MOST_COLUMNS < p {
-        return Judgement::Refused(1, 0);
-    }
-    if q < 1 {
-        return Judgement::Refused(1, 0);
-    }
-    if chain::MOST_PAYSLIPS < q {
-        return Judgement::Refused(1, 0);
-    }
-    Judgement::Fine
+    Ok(())
 }
 
 // 4: more steps than the limit.
-pub fn judge_length(limit: usize, n: usize) -> Judgement
+#[tactic(auto, using(chain::proofs::Rules::judging), unfolding(chain::specs::Chain::length_rule))]
+pub fn judge_length(limit: usize, n: usize) -> Result<(), Refusal>
     ensures { verdict_of result ≡ length_rule limit n }
 {
     if limit < n {
-        return Judgement::Refused(4, 0);
+        return Err(Reason::TooManySteps.into());
     }
-    Judgement::Fine
+    Ok(())
 }
 
 // 1, then 4.
-pub fn judge_shape(limit: usize, p: usize, q: usize, n: usize) -> Judgement
+#[tactic(auto, using(chain::proofs::Rules::judging), unfolding(chain::specs::Chain::shape_rule))]
+pub fn judge_shape(limit: usize, p: usize, q: usize, n: usize) -> Result<(), Refusal>
     ensures { verdict_of result ≡ shape_rule limit p q n }
 {
-    match judge_sizes(p, q) {
-        Judgement::Refused(number, place) => Judgement::Refused(number, place),
-        Judgement::Fine => judge_length(limit, n),
-    }
+    judge_sizes(p, q)?;
+    judge_length(limit, n)
 }

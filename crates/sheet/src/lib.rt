@@ -6,27 +6,27 @@ ghost use Rattle.chain.specs.Judgement.{verdict_of};
 ghost use Rattle.chain.specs.Inner.{SizesLow};
 ghost use Rattle.sheet.specs.Sheet.{amount, amounts_rule, sheet_rule};
 
-use chain::Judgement;
+use refusal::{Reason, Refusal};
 
 // 2: the amounts are not p times q.
-pub fn judge_amounts(p: usize, q: usize, amounts: &[u32]) -> Judgement
+#[tactic(auto, using(chain::proofs::Rules::judging, crate::proofs::Amounts::product_low), unfolding(crate::specs::Sheet::amounts_rule))]
+pub fn judge_amounts(p: usize, q: usize, amounts: &[u32]) -> Result<(), Refusal>
     requires { SizesLow p q }
     ensures { verdict_of result ≡ amounts_rule p q amounts.now }
 {
     if amounts.len() != p * q {
-        return Judgement::Refused(2, 0);
+        return Err(Reason::Amounts.into());
     }
-    Judgement::Fine
+    Ok(())
 }
 
 // 1, then 2.
-pub fn judge_sheet(p: usize, q: usize, amounts: &[u32]) -> Judgement
+#[tactic(auto, using(chain::proofs::Rules::judging, chain::proofs::Sizes::columns_low, chain::proofs::Sizes::payslips_low), unfolding(crate::specs::Sheet::sheet_rule))]
+pub fn judge_sheet(p: usize, q: usize, amounts: &[u32]) -> Result<(), Refusal>
     ensures { verdict_of result ≡ sheet_rule p q amounts.now }
 {
-    match shape::judge_sizes(p, q) {
-        Judgement::Refused(number, place) => Judgement::Refused(number, place),
-        Judgement::Fine => judge_amounts(p, q, amounts),
-    }
+    shape::judge_sizes(p, q)?;
+    judge_amounts(p, q, amounts)
 }
 
 // The amount of payslip i in column c, both counted from 0.

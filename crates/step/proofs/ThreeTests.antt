@@ -4,6 +4,7 @@ use Prim.Native.Nat.{ℕ, ◌≤◌, ◌<◌}
 use native.Mathlib.Omega.{arith}
 use Rattle.chain.specs.Verdict.{Verdict, fine, refused}
 use Rattle.chain.specs.Chain.{by, step_rule}
+use Rattle.chain.proofs.Rules.{judging}
 use Rattle.chain.proofs.Steps.{LegalStep, step_legal, legal_step}
 use Rattle.step.specs.Inner.{passed}
 
@@ -13,6 +14,8 @@ three_tests v s a b some in_order low =
     sym
     (legal_step v s (by a b)
     (record { first_some = omega arith; second_some = b_some; first_low = low; second_low = omega arith; in_order = in_order }))
+
+pub ruleset judging_step = (judging, three_tests)
 
 -- what is counted for the step
 module _ (v a b : ℕ) where

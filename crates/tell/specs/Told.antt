@@ -2,6 +2,8 @@
 use Rattle.std.specs.Prelude.{◌≡◌, List, [], ◌∷◌, ◌++◌, ℕ, length, take}
 use Rattle.chain.specs.Verdict.{Answer, done, refusal}
 use Rattle.answers.specs.Answers.{Choice, first, second, neither}
+use Rattle.answers.specs.declared.Chosen.{Chosen}
+use Rattle.answers.specs.declared.Chosen.TheVariants.{First, Second}
 
 -- what is returned: 0 where the call is done, else the refusal's number
 abbrev pub number_of : Answer → ℕ
@@ -23,3 +25,8 @@ abbrev pub choice_answer : Choice → Answer
 choice_answer first = done (1 ∷ [])
 choice_answer second = done (2 ∷ [])
 choice_answer (neither n s) = refusal n s
+
+-- the file handed back
+abbrev pub chosen_in : Chosen → List ℕ
+chosen_in First = 1 ∷ []
+chosen_in Second = 2 ∷ []

@@ -2,46 +2,107 @@
 // the call answers, or the refusal's place, and zeros.
 #![tactic(auto)]
 
-ghost use Rattle.std.specs.Prelude.{[], ◌∷◌};
+ghost use Rattle.std.specs.Prelude.{List, ℕ, ◌≡◌};
 ghost use Rattle.chain.specs.Verdict.{done};
-ghost use Rattle.answers.specs.Answers.{counts_in};
-ghost use Rattle.tell.specs.Inner.{WordsWritten, ToldAs};
+ghost use Rattle.chain.specs.Judgement.{answer_of, number_in};
+ghost use Rattle.answers.specs.Answers.{counts_in, quote_in, size_in, chain_in, figures_in};
+ghost use Rattle.tell.specs.Told.{words_of, chosen_in};
+ghost use Rattle.tell.specs.Inner.{ToldAs};
 
-use answers::Counts;
+use answers::{Chosen, Counts, Figures, FileSize, Quote, ReadChain};
+use refusal::Refusal;
+
+// What a call answers where nothing is refused, as words.
+pub trait Told {
+    ghost values: { Self → List ℕ };
+
+    fn words(&self) -> [u64; 8]
+        ensures { result ≡ words_of (done (values self.now)) };
+}
 
 // The number returned, and the eight words.
-pub fn tell_words(
-    number: u32,
-    a: usize,
-    b: usize,
-    c: usize,
-    d: usize,
-    e: usize,
-    answer: &mut [u64; 8],
-) -> u32
-    ensures { WordsWritten number a b c d e result answer.new }
+pub fn tell<T: Told + Copy>(told: Result<T, Refusal>, answer: &mut [u64; 8]) -> u32
+    ensures { ToldAs (answer_of T.values told) result answer.new }
 {
-    *answer = [a as u64, b as u64, c as u64, d as u64, e as u64, 0, 0, 0];
-    number
+    match told {
+        Ok(values) => {
+            *answer = values.words();
+            0
+        }
+        Err(refusal) => {
+            *answer = [refusal.place as u64, 0, 0, 0, 0, 0, 0, 0];
+            refusal.reason.number()
+        }
+    }
 }
 
-// A number and up to three words.
-pub fn tell(number: u32, a: usize, b: usize, c: usize, answer: &mut [u64; 8]) -> u32
-    ensures { WordsWritten number a b c 0 0 result answer.new }
-{
-    tell_words(number, a, b, c, 0, 0, answer)
+// Bytes written, fields read or written, the length of a listing.
+impl Told for usize {
+    ghost values = { number_in };
+
+    fn words(&self) -> [u64; 8] {
+        [*self as u64, 0, 0, 0, 0, 0, 0, 0]
+    }
 }
 
-// What is counted of a chain.
-pub fn tell_counts(counts: Counts, answer: &mut [u64; 8]) -> u32
-    ensures { ToldAs (done (counts_in counts)) result answer.new }
-{
-    tell(0, counts.steps, counts.squarings, counts.products, answer)
+impl Told for Counts {
+    ghost values = { counts_in };
+
+    fn words(&self) -> [u64; 8] {
+        [self.steps as u64, self.squarings as u64, self.products as u64, 0, 0, 0, 0, 0]
+    }
 }
 
-// The length of a listing.
-pub fn tell_listed(length: usize, answer: &mut [u64; 8]) -> u32
-    ensures { ToldAs (done (length ∷ [])) result answer.new }
-{
-    tell(0, length, 0, 0, answer)
+impl Told for Quote {
+    ghost values = { quote_in };
+
+    fn words(&self) -> [u64; 8] {
+        [self.count as u64, self.ceiling as u64, 0, 0, 0, 0, 0, 0]
+    }
+}
+
+impl Told for FileSize {
+    ghost values = { size_in };
+
+    fn words(&self) -> [u64; 8] {
+        [self.width as u64, self.bytes as u64, 0, 0, 0, 0, 0, 0]
+    }
+}
+
+impl Told for ReadChain {
+    ghost values = { chain_in };
+
+    fn words(&self) -> [u64; 8] {
+        [
+            self.p as u64,
+            self.q as u64,
+            self.counts.steps as u64,
+            self.counts.squarings as u64,
+            self.counts.products as u64,
+            0,
+            0,
+            0,
+        ]
+    }
+}
+
+impl Told for Figures {
+    ghost values = { figures_in };
+
+    fn words(&self) -> [u64; 8] {
+        [self.compiled as u64, self.read as u64, self.made as u64, 0, 0, 0, 0, 0]
+    }
+}
+
+// The first file is 1, the second 2.
+impl Told for Chosen {
+    ghost values = { chosen_in };
+
+    fn words(&self) -> [u64; 8] {
+        let file = match self {
+            Chosen::First => 1,
+            Chosen::Second => 2,
+        };
+        [file, 0, 0, 0, 0, 0, 0, 0]
+    }
 }

@@ -1,19 +1,13 @@
--- Cleared cells are zeros before what was there: one cell more at each turn.
-use mathlib.Core.Path.{◌≡◌}
+-- Cleared cells are zeros over the front of what was there.
+use mathlib.Core.Path.{◌≡◌, ap, ◌∙◌}
 use mathlib.Core.List.{List, ◌++◌}
-use Prim.Native.Nat.{ℕ, ◌+◌, ◌≤◌, ◌<◌}
-use native.Mathlib.Omega.{arith}
-use borrow.Author.Fill.{fill_more}
-use lib.ListN.{length, drop, set, replicate, length-replicate}
+use Prim.Native.Nat.{ℕ, ◌≤◌}
+use lib.ListN.{length, take, drop, replicate, length-replicate}
+use lib.Seq.{length-take-le}
 use Rattle.chain.specs.Written.{over}
 
--- `d` is the scratch as lent, `l` as it is after i turns
-module _ (n i : ℕ) (l d : List ℕ) where
-  pub clear_on : i < n → n ≤ length d → l ≡ replicate i 0 ++ drop i d → set l i 0 ≡ replicate (i + 1) 0 ++ drop (i + 1) d
-  clear_on h fits e = rw e (fill_more i 0 d (omega arith))
-
-  pub clear_end : n ≤ i → i ≤ n → l ≡ replicate i 0 ++ drop i d → l ≡ over (replicate n 0) d
-  unfolding over
-  clear_end h h' e =
-      let q : i ≡ n = omega arith in
-      rw (length-replicate {A = ℕ} n 0) (rw q at e)
+pub zeros_over : (n : ℕ) (zeros old : List ℕ) → n ≤ length old → zeros ≡ replicate (length (take n old)) 0 → zeros ++ drop n old ≡ over (replicate n 0) old
+unfolding over
+zeros_over n zeros old h e =
+    let front : zeros ≡ replicate n 0 = e ∙ ap (λ (k : ℕ). replicate k 0) (length-take-le n old h) in
+    rw (front, length-replicate {A = ℕ} n 0)

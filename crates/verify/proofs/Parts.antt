@@ -24,13 +24,13 @@ fitting_parts p steps outputs amounts scratch =
     ∙ ap (λ (v : Verdict). shape_rule most_steps p (length outputs) (length steps) then amounts_rule p (length outputs) amounts then v)
     (rest_is p steps outputs scratch)
 
--- the verdict on a flat list, part by part
-pub fitting_flat : (p : ℕ) (l outputs amounts : List ℕ) (scratch : ℕ) (s v : Verdict)
-    → s ≡ start_rule p (length outputs) (length l / 2) amounts → v ≡ (s then rest_rule p (pairs l) outputs scratch)
-    → v ≡ fitting_rule p (pairs l) outputs amounts scratch
-fitting_flat p l outputs amounts scratch s v starts e =
-    told_after s _ _ v (starts ∙ ap (λ (n : ℕ). start_rule p (length outputs) n amounts) (sym (length_pairs l))) e
-    ∙ fitting_parts p (pairs l) outputs amounts scratch
+-- the verdict, part by part
+pub fitting_told : (p : ℕ) (steps : List Step) (outputs amounts : List ℕ) (scratch : ℕ) (s v : Verdict)
+    → s ≡ start_rule p (length outputs) (length steps) amounts → v ≡ (s then rest_rule p steps outputs scratch)
+    → v ≡ fitting_rule p steps outputs amounts scratch
+fitting_told p steps outputs amounts scratch s v starts e =
+    told_after s _ _ v starts e
+    ∙ fitting_parts p steps outputs amounts scratch
 
 -- a start that is fine
 pub record Started (p q n : ℕ) (amounts : List ℕ) : Type 0 where

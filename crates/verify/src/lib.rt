@@ -6,7 +6,7 @@ ghost use Rattle.chain.specs.Judgement.{verdict_of};
 ghost use Rattle.verify.specs.Verify.{earlier};
 ghost use Rattle.verify.specs.Inner.{start_rule};
 
-use chain::Judgement;
+use refusal::Refusal;
 
 // What is found of columns: the earliest step with too large an exponent and, while there is none, the earliest payslip that differs; 0 for none.
 #[derive(Clone, Copy)]
@@ -16,15 +16,11 @@ pub struct Found {
 }
 
 // What is found before the n steps are looked at: 1, 4, 2.
-pub fn judge_start(p: usize, q: usize, n: usize, amounts: &[u32]) -> Judgement
+#[tactic(auto, using(chain::proofs::Rules::judging, chain::proofs::Sizes::shape_columns, chain::proofs::Sizes::shape_payslips), unfolding(crate::specs::Inner::start_rule))]
+pub fn judge_start(p: usize, q: usize, n: usize, amounts: &[u32]) -> Result<(), Refusal>
     ensures { verdict_of result ≡ start_rule p q n amounts.now }
 {
-    match shape::judge_shape(chain::MOST_STEPS, p, q, n) {
-        Judgement::Refused(number, place) => {
-            return Judgement::Refused(number, place);
-        }
-        Judgement::Fine => {}
-    }
+    shape::judge_shape(chain::MOST_STEPS, p, q, n)?;
     sheet::judge_amounts(p, q, amounts)
 }
 
@@ -32,14 +28,5 @@ pub fn judge_start(p: usize, q: usize, n: usize, amounts: &[u32]) -> Judgement
 pub fn earlier(a: usize, b: usize) -> usize
     ensures { result ≡ earlier a b }
 {
-    if a == 0 {
-        return b;
-    }
-    if b == 0 {
-        return a;
-    }
-    if a < b {
-        return a;
-    }
-    b
+    if b == 0 || a != 0 && a < b { a } else { b }
 }

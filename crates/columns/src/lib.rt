@@ -82,10 +82,16 @@ pub fn finish(
 {
     clear(top, scratch);
     if found.large != 0 {
-        return Err(Refusal { reason: Reason::Exponent, place: found.large });
+        return Err(Refusal {
+            reason: Reason::Exponent,
+            place: found.large,
+        });
     }
     if found.other != 0 {
-        return Err(Refusal { reason: Reason::Payslip, place: found.other });
+        return Err(Refusal {
+            reason: Reason::Payslip,
+            place: found.other,
+        });
     }
     Ok(counts)
 }

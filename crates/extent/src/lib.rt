@@ -2,26 +2,23 @@
 #![tactic(auto)]
 
 ghost use Rattle.std.specs.Prelude.{◌≡◌};
+ghost use Rattle.chain.specs.Judgement.{answer_of};
 ghost use Rattle.layout.specs.Layout.{edition1};
 ghost use Rattle.layout.specs.File.{extent_answer};
-ghost use Rattle.answers.specs.Answers.{measured_of};
+ghost use Rattle.answers.specs.Answers.{size_in};
 
-use answers::Measured;
-use chain::Judgement;
+use answers::FileSize;
+use refusal::Refusal;
 
 // 1, 4; then W and the bytes of the file of any chain of p columns, q payslips and n steps.
-pub fn extent(p: usize, q: usize, n: usize) -> Measured
-    ensures { measured_of result ≡ extent_answer edition1 p q n }
+pub fn extent(p: usize, q: usize, n: usize) -> Result<FileSize, Refusal>
+    ensures { answer_of size_in result ≡ extent_answer edition1 p q n }
 {
     let layout = layout::first_edition();
-    match shape::judge_shape(layout.limit, p, q, n) {
-        Judgement::Refused(number, place) => Measured::Refused(number, place),
-        Judgement::Fine => {
-            let s = layout::extent_of(layout, p, q, n);
-            Measured::File {
-                width: s.width,
-                bytes: s.bytes,
-            }
-        }
-    }
+    shape::judge_shape(layout.limit, p, q, n)?;
+    let extent = layout::extent_of(layout, p, q, n);
+    Ok(FileSize {
+        width: extent.width,
+        bytes: extent.bytes,
+    })
 }

@@ -2,15 +2,13 @@
 #![tactic(auto)]
 
 ghost use Rattle.std.specs.Prelude.{◌≡◌, ◌<◌, length};
-ghost use Rattle.chain.specs.Judgement.{verdict_of};
+ghost use Rattle.chain.specs.Judgement.{verdict_of, counted_of};
 ghost use Rattle.chain.specs.Written.{over, laid};
 ghost use Rattle.packed.specs.Field.{field_of};
 ghost use Rattle.packed.specs.Packed.{packed, writable_rule, pack_answer, pack_bytes};
-ghost use Rattle.answers.specs.Answers.{transferred_of};
 ghost use Rattle.packing.specs.Inner.{pair_of, FieldAsked, StoreAsked};
 
-use answers::Transferred;
-use chain::Judgement;
+use refusal::{Reason, Refusal};
 
 // The largest amount that nine digits can say (Spec 1.4).
 const MOST_PACKED: usize = 999999999;
@@ -42,36 +40,29 @@ fn store(amounts: &[u32], bytes: &mut [u8])
     requires { StoreAsked amounts.now bytes.old }
     ensures { bytes.new ≡ over (packed amounts.now) bytes.old }
 {
-    let mut i: usize = 0;
-    while i < amounts.len() {
-        put_field(amounts[i], packed::FIELD_BYTES * i, bytes);
-        i += 1;
+    for (i, amount) in amounts.iter().enumerate() {
+        put_field(*amount, packed::FIELD_BYTES * i, bytes);
     }
 }
 
 // 1, 2, then 20.
-fn judge_writable(p: usize, q: usize, amounts: &[u32]) -> Judgement
+#[tactic(auto, using(chain::proofs::Rules::judging), unfolding(packed::specs::Packed::writable_rule))]
+fn judge_writable(p: usize, q: usize, amounts: &[u32]) -> Result<(), Refusal>
     ensures { verdict_of result ≡ writable_rule p q amounts.now }
 {
-    match sheet::judge_sheet(p, q, amounts) {
-        Judgement::Refused(number, place) => Judgement::Refused(number, place),
-        Judgement::Fine => limit::judge_numbers(20, MOST_PACKED, amounts),
-    }
+    sheet::judge_sheet(p, q, amounts)?;
+    limit::judge_numbers(Reason::Unpackable, MOST_PACKED, amounts)
 }
 
 // Writes a sheet as fields, each with plus; nothing where an amount is refused.
-pub fn pack(p: usize, q: usize, amounts: &[u32], bytes: &mut [u8]) -> Transferred
-    ensures result_value { transferred_of result ≡ pack_answer p q amounts.now (length bytes.old) }
+pub fn pack(p: usize, q: usize, amounts: &[u32], bytes: &mut [u8]) -> Result<usize, Refusal>
+    ensures result_value { counted_of result ≡ pack_answer p q amounts.now (length bytes.old) }
     ensures bytes_after { bytes.new ≡ pack_bytes p q amounts.now bytes.old }
 {
-    match judge_writable(p, q, amounts) {
-        Judgement::Refused(number, place) => Transferred::Refused(number, place),
-        Judgement::Fine => {
-            if bytes.len() < packed::FIELD_BYTES * amounts.len() {
-                return Transferred::Refused(5, 0);
-            }
-            store(amounts, bytes);
-            Transferred::Fields(amounts.len())
-        }
+    judge_writable(p, q, amounts)?;
+    if bytes.len() < packed::FIELD_BYTES * amounts.len() {
+        return Err(Reason::Room.into());
     }
+    store(amounts, bytes);
+    Ok(amounts.len())
 }

@@ -22,3 +22,13 @@ counted_fine k (refused n s) e = absurd (not_fine e)
 -- `v` is what was told of the second part, `u` what is told on
 pub counted_on : (k : ℕ) (v w u : Verdict) → v ≡ w → u ≡ counted k v → u ≡ counted k w
 counted_on k v w u e f = f ∙ ap (counted k) e
+
+-- told of the second part, and of it counted on
+module _ (k : ℕ) (w : Verdict) where
+  pub passed_on : fine ≡ w → fine ≡ counted k w
+  passed_on e = counted_passed k w e
+
+  pub refused_on : (n s : ℕ) (u : Verdict) → refused n s ≡ w → u ≡ counted k (refused n s) → u ≡ counted k w
+  refused_on n s u e f = counted_on k _ w u e f
+
+pub ruleset counting_on = (passed_on, refused_on)

@@ -18,17 +18,14 @@ use Rattle.pooler.specs.Inner.{Renumberable}
 
 -- the numbers of a part's lists are far from the end of 32 bits
 module _ (p n k : ℕ) (p_low : p ≤ most_columns) (n_low : n ≤ most_steps) (k_low : k ≤ most_steps) (l : List ℕ) where
-  pub steps_renumberable : k ≡ length l / 2 → steps_rule p 1 (pairs l) ≡ fine → Renumberable n l (2 * k)
-  steps_renumberable is ok = record { there = omega arith; low = low }
-    where
-      low : (i : ℕ) → i < 2 * k → get_or l i 0 + n < 2 ^ 32
-      low i h =
-          let front : take (2 * k) l ≡ flat (pairs l) = ap (λ (j : ℕ). take (2 * j) l) is ∙ take-flat l in
-          let same : get_or l i 0 ≡ get_or (flat (pairs l)) i 0 = sym (get_or-take (2 * k) l i 0 h) ∙ ap (λ (t : List ℕ). get_or t i 0) front in
-          omega (arith, same, flat_low p 1 (p + k) (pairs l) ok (omega (arith, length_pairs l)) i)
+  pub steps_renumberable : k ≡ length l / 2 → steps_rule p 1 (pairs l) ≡ fine → Renumberable n (take (2 * k) l)
+  steps_renumberable is ok i h =
+      let front : take (2 * k) l ≡ flat (pairs l) = ap (λ (j : ℕ). take (2 * j) l) is ∙ take-flat l in
+      let same : get_or (take (2 * k) l) i 0 ≡ get_or (flat (pairs l)) i 0 = ap (λ (t : List ℕ). get_or t i 0) front in
+      omega (arith, same, flat_low p 1 (p + k) (pairs l) ok (omega (arith, length_pairs l)) i)
 
-  pub outputs_renumberable : outputs_rule (p + k) 1 l ≡ fine → Renumberable n l (length l)
-  outputs_renumberable ok = record { there = omega arith; low = λ i h. omega (arith, outputs_low (p + k) 1 l ok i h) }
+  pub outputs_renumberable : outputs_rule (p + k) 1 l ≡ fine → Renumberable n l
+  outputs_renumberable ok i h = omega (arith, outputs_low (p + k) 1 l ok i h)
 
 -- the pool of two flat parts: its sizes, and its lists as they are put
 pub record FlatPool (p p' : ℕ) (l l' o o' : List ℕ) : Type 0 where
@@ -36,7 +33,7 @@ pub record FlatPool (p p' : ℕ) (l l' o o' : List ℕ) : Type 0 where
   pub payslips : length o + length o' ≡ length (pooled_outputs (part p (pairs l) o) (part p' (pairs l') o'))
   pub steps : take (2 * (length l / 2)) l ++ map (renumbered p' (length l / 2)) (take (2 * (length l' / 2)) l')
       ≡ flat (pooled_steps (part p (pairs l) o) (part p' (pairs l') o'))
-  pub outputs : take (length o) o ++ map (renumbered p' (length l / 2)) (take (length o') o') ≡ pooled_outputs (part p (pairs l) o) (part p' (pairs l') o')
+  pub outputs : o ++ map (renumbered p' (length l / 2)) o' ≡ pooled_outputs (part p (pairs l) o) (part p' (pairs l') o')
 
 pub flat_pool : (p p' : ℕ) (l l' o o' : List ℕ) → FlatPool p p' l l' o o'
 flat_pool p p' l l' o o' =
@@ -49,9 +46,7 @@ flat_pool p p' l l' o o' =
           ∙ ap (λ (k : ℕ). flat (pairs l) ++ map (renumbered p' k) (flat (pairs l'))) (sym (length_pairs l))
           ∙ ap (λ (t : List ℕ). flat (pairs l) ++ t) (sym (flat_renumbered p' n (pairs l')))
           ∙ sym (flat_append (pairs l) (map (renumbered_step p' n) (pairs l')));
-      outputs =
-          ap₂ (λ (s t : List ℕ). s ++ map (renumbered p' (length l / 2)) t) (take-length o) (take-length o')
-          ∙ ap (λ (k : ℕ). o ++ map (renumbered p' k) o') (sym (length_pairs l));
+      outputs = ap (λ (k : ℕ). o ++ map (renumbered p' k) o') (sym (length_pairs l));
     }
 
 -- the verdict, by what was found against the parts and by the room lent

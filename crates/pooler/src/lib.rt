@@ -5,11 +5,12 @@ ghost use Rattle.std.specs.Prelude.{◌≡◌, ◌++◌, map, ◌+◌, ◌/◌, 
 ghost use Rattle.chain.specs.Chain.{pairs};
 ghost use Rattle.chain.specs.Written.{over, laid};
 ghost use Rattle.pool.specs.Pool.{part, renumbered, pool_answer, pool_steps, pool_outputs};
-ghost use Rattle.answers.specs.Answers.{pooled_of};
+ghost use Rattle.chain.specs.Judgement.{answer_of};
+ghost use Rattle.answers.specs.Answers.{counts_in};
 ghost use Rattle.pooler.specs.Inner.{LayAsked, PutAsked};
 
-use answers::Pooled;
-use chain::Counted;
+use answers::Counts;
+use refusal::{Reason, Refusal};
 
 // How a part's value numbers become the pool's: those above p go up by n.
 #[derive(Clone, Copy)]
@@ -19,6 +20,7 @@ struct Numbering {
 }
 
 // A value number of a part as the pool has it.
+#[tactic(auto, using(crate::proofs::Laid::renumbering))]
 fn renumber(to: Numbering, v: u32) -> u32
     requires { v + to.n < 2 ^ 32 }
     ensures { result ≡ renumbered to.p to.n v }
@@ -29,33 +31,23 @@ fn renumber(to: Numbering, v: u32) -> u32
     v
 }
 
-// The first `count` numbers, renumbered, from cell `at` on.
-fn lay(to: Numbering, numbers: &[u32], count: usize, at: usize, cells: &mut [u32])
-    requires { LayAsked to numbers.now count at cells.old }
-    ensures { cells.new ≡ laid at (map (renumbered to.p to.n) (take count numbers.now)) cells.old }
+// The numbers, renumbered, from cell `at` on.
+fn lay(to: Numbering, numbers: &[u32], at: usize, cells: &mut [u32])
+    requires { LayAsked to numbers.now at cells.old }
+    ensures { cells.new ≡ laid at (map (renumbered to.p to.n) numbers.now) cells.old }
 {
-    let mut i: usize = 0;
-    while i < count {
-        cells[at + i] = renumber(to, numbers[i]);
-        i += 1;
+    for (i, v) in numbers.iter().enumerate() {
+        cells[at + i] = renumber(to, *v);
     }
 }
 
-// The first list as it is, then the second renumbered, over the front: as many numbers of each as are counted.
-fn put(
-    to: Numbering,
-    first: &[u32],
-    count1: usize,
-    second: &[u32],
-    count2: usize,
-    cells: &mut [u32],
-)
-    requires { PutAsked to first.now count1 second.now count2 cells.old }
-    ensures { cells.new ≡ over (take count1 first.now ++ map (renumbered to.p to.n) (take count2 second.now))
-        cells.old }
+// The first list as it is, then the second renumbered, over the front.
+fn put(to: Numbering, first: &[u32], second: &[u32], cells: &mut [u32])
+    requires { PutAsked to first.now second.now cells.old }
+    ensures { cells.new ≡ over (first.now ++ map (renumbered to.p to.n) second.now) cells.old }
 {
-    lay(Numbering { p: to.p, n: 0 }, first, count1, 0, cells);
-    lay(to, second, count2, count1, cells);
+    cells[..first.len()].copy_from_slice(first);
+    lay(to, second, first.len(), cells);
 }
 
 // Pools two chains over the same columns into the lent slices: the steps of the first, then those of the second, and so with the outputs.
@@ -68,39 +60,25 @@ pub fn pool(
     outputs2: &[u32],
     steps: &mut [u32],
     outputs: &mut [u32],
-) -> Pooled
-    ensures result_value { pooled_of result ≡ pool_answer (part p1 (pairs steps1.now) outputs1.now)
+) -> Result<Counts, Refusal>
+    ensures result_value { answer_of counts_in result ≡ pool_answer (part p1 (pairs steps1.now) outputs1.now)
         (part p2 (pairs steps2.now) outputs2.now) (length steps.old / 2) (length outputs.old) }
     ensures steps_after { steps.new ≡ pool_steps (part p1 (pairs steps1.now) outputs1.now)
         (part p2 (pairs steps2.now) outputs2.now) (length outputs.old) steps.old }
     ensures outputs_after { outputs.new ≡ pool_outputs (part p1 (pairs steps1.now) outputs1.now)
         (part p2 (pairs steps2.now) outputs2.now) (length steps.old / 2) outputs.old }
 {
-    match pool::judge_parts(p1, steps1, outputs1, p2, steps2, outputs2) {
-        Counted::Refused(number, place) => Pooled::Refused(number, place),
-        Counted::Fine(squarings) => {
-            let n1 = steps1.len() / 2;
-            let n2 = steps2.len() / 2;
-            if steps.len() / 2 < n1 + n2 {
-                return Pooled::Refused(5, 0);
-            }
-            if outputs.len() < outputs1.len() + outputs2.len() {
-                return Pooled::Refused(5, 0);
-            }
-            let to = Numbering {
-                p: p2 as u32,
-                n: n1 as u32,
-            };
-            put(to, steps1, 2 * n1, steps2, 2 * n2, steps);
-            put(
-                to,
-                outputs1,
-                outputs1.len(),
-                outputs2,
-                outputs2.len(),
-                outputs,
-            );
-            Pooled::Chain(answers::counts_of(n1 + n2, squarings))
-        }
+    let squarings = pool::judge_parts(p1, steps1, outputs1, p2, steps2, outputs2)?;
+    let n1 = steps1.len() / 2;
+    let n2 = steps2.len() / 2;
+    if steps.len() / 2 < n1 + n2 || outputs.len() < outputs1.len() + outputs2.len() {
+        return Err(Reason::Room.into());
     }
+    let to = Numbering {
+        p: p2 as u32,
+        n: n1 as u32,
+    };
+    put(to, &steps1[..2 * n1], &steps2[..2 * n2], steps);
+    put(to, outputs1, outputs2, outputs);
+    Ok(answers::counts_of(n1 + n2, squarings))
 }

@@ -1,16 +1,15 @@
 -- From the steps on a chain is judged by its own rule, and then its cells: the three parts, grouped one way or the other.
 use mathlib.Core.Path.{◌≡◌, refl, sym}
 use mathlib.Core.List.{List}
-use Prim.Native.Nat.{ℕ, ◌+◌, ◌/◌, ◌≤◌, ◌<◌}
+use Prim.Native.Nat.{ℕ, ◌+◌, ◌≤◌, ◌<◌}
 use native.Mathlib.Omega.{arith}
 use lib.ListN.{length, get_or}
 use Rattle.chain.specs.Tests.{◌<?◌}
-use Rattle.chain.specs.Verdict.{Verdict, fine, ◌then◌, refuse_if}
-use Rattle.chain.specs.Chain.{most_steps, pairs, steps_rule, outputs_rule, chain_rule}
+use Rattle.chain.specs.Verdict.{fine, ◌then◌, refuse_if}
+use Rattle.chain.specs.Chain.{most_steps, steps_rule, outputs_rule, chain_rule}
 use Rattle.chain.specs.declared.Step.{Step}
 use Rattle.chain.proofs.Rules.{then_assoc, then_fine, refuse_if_fine, not_lt}
 use Rattle.chain.proofs.Limits.{outputs_low}
-use Rattle.chain.proofs.Pairs.{length_pairs}
 use Rattle.chain.proofs.Sizes.{Shape}
 use Rattle.rest.specs.Inner.{EndAsked, end_rule, rest_rule}
 

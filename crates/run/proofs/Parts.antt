@@ -1,16 +1,15 @@
 -- Run's order is its start, the rest of the chain, then the figures: the rule taken apart where the steps begin and where the chain ends.
-use mathlib.Core.Path.{◌≡◌, sym, ap, ◌∙◌}
+use mathlib.Core.Path.{◌≡◌, ap, ◌∙◌}
 use mathlib.Core.Bool.{Bool}
 use mathlib.Core.List.{List}
-use Prim.Native.Nat.{ℕ, ◌+◌, ◌/◌, ◌<◌}
+use Prim.Native.Nat.{ℕ, ◌+◌, ◌<◌}
 use native.Mathlib.Omega.{arith}
 use lib.ListN.{length}
 use Rattle.chain.specs.Tests.{◌<?◌, ◌or◌}
 use Rattle.chain.specs.Verdict.{Verdict, fine, ◌then◌, refuse_if}
-use Rattle.chain.specs.Chain.{most_steps, pairs, shape_rule, chain_rule}
+use Rattle.chain.specs.Chain.{most_steps, shape_rule, chain_rule}
 use Rattle.chain.specs.declared.Step.{Step}
 use Rattle.chain.proofs.Rules.{then_assoc, then_fine, told_after, refuse_either, refuse_if_fine, neither, not_eq, not_ne}
-use Rattle.chain.proofs.Pairs.{length_pairs}
 use Rattle.chain.proofs.Sizes.{Shape, shape_fits}
 use Rattle.rest.specs.Inner.{rest_rule}
 use Rattle.rest.proofs.Rest.{rest_is}

@@ -4,38 +4,35 @@ use mathlib.Core.List.{List, []}
 use Prim.Native.Nat.{ℕ, ◌+◌, ◌*◌, ◌≤◌, ◌<◌}
 use native.Mathlib.Omega.{arith}
 use lib.ListN.{length, get_or}
-use Rattle.chain.specs.Verdict.{fine, refused, in_order}
-use Rattle.chain.specs.Judgement.{verdict_of}
-use Rattle.chain.specs.declared.Judgement.{Judgement}
-use Rattle.chain.specs.declared.Judgement.TheVariants.{Fine, Refused}
-use Rattle.chain.proofs.Rules.{told_refused_lem, told_fine}
+use Rattle.chain.specs.Verdict.{Verdict, fine, refused, in_order}
 use Rattle.chain.proofs.InOrder.{left, judge_start_lem, judge_on, judge_bad, judge_end_lem}
 use Rattle.packed.specs.Field.{field_bytes, field_rule, field_from, fields_in}
 use Rattle.packed.proofs.Fields.{length_fields, field_is}
 
--- the loop's invariant: the verdict on all fields is that on those after the first i
-pub record FieldsLeft (bytes : List ℕ) (m i : ℕ) : Type 0 where
-  pub some : i ≤ m
-  pub rest : in_order field_rule 1 (fields_in m bytes) ≡ left field_rule (fields_in m bytes) i
+-- the verdict on the fields after the first i
+unfoldable pub fields_left : List ℕ → ℕ → ℕ → Verdict
+fields_left bytes m = left field_rule (fields_in m bytes)
 
 module _ (bytes : List ℕ) (m : ℕ) where
-  pub fields_start : FieldsLeft bytes m 0
-  fields_start = record { some = omega arith; rest = judge_start_lem field_rule (fields_in m bytes) }
+  pub fields_start : in_order field_rule 1 (fields_in m bytes) ≡ fields_left bytes m 0
+  unfolding fields_left
+  fields_start = judge_start_lem field_rule (fields_in m bytes)
 
-  pub fields_end : (i : ℕ) → m ≤ i → FieldsLeft bytes m i → fine ≡ in_order field_rule 1 (fields_in m bytes)
-  fields_end i h inv = judge_end_lem field_rule (fields_in m bytes) i _ (omega (arith, length_fields m bytes)) inv.rest
+  -- `w` is the verdict on all fields
+  module _ (i : ℕ) (w : Verdict) where
+    pub fields_end : m ≤ i → w ≡ fields_left bytes m i → fine ≡ w
+    unfolding fields_left
+    fields_end h e = judge_end_lem field_rule (fields_in m bytes) i w (omega (arith, length_fields m bytes)) e
 
-  -- the field at hand, as it was judged
-  module _ (i : ℕ) (j : Judgement) (h : i < m) (judged : verdict_of j ≡ field_rule (i + 1) (field_from bytes (field_bytes * i))) (inv : FieldsLeft bytes m i) where
-    within : i < length (fields_in m bytes)
-    within = omega (arith, length_fields m bytes)
+    of_list : i < m → (v : Verdict) → v ≡ field_rule (i + 1) (field_from bytes (field_bytes * i)) → v ≡ field_rule (i + 1) (get_or (fields_in m bytes) i [])
+    of_list h v e = e ∙ ap (field_rule (i + 1)) (sym (field_is m bytes i h))
 
-    of_list : field_rule (i + 1) (field_from bytes (field_bytes * i)) ≡ field_rule (i + 1) (get_or (fields_in m bytes) i [])
-    of_list = ap (field_rule (i + 1)) (sym (field_is m bytes i h))
+    pub fields_on : i < m → fine ≡ field_rule (i + 1) (field_from bytes (field_bytes * i)) → w ≡ fields_left bytes m i → w ≡ fields_left bytes m (i + 1)
+    unfolding fields_left
+    fields_on h ok e = judge_on field_rule [] (fields_in m bytes) i w (omega (arith, length_fields m bytes)) (of_list h fine ok) e
 
-    pub fields_on : j ≡ Fine → FieldsLeft bytes m (i + 1)
-    fields_on e =
-        record { some = omega arith; rest = judge_on field_rule [] (fields_in m bytes) i _ within (told_fine j _ judged e ∙ of_list) inv.rest }
+    pub fields_bad : (n s : ℕ) → i < m → refused n s ≡ field_rule (i + 1) (field_from bytes (field_bytes * i)) → w ≡ fields_left bytes m i → refused n s ≡ w
+    unfolding fields_left
+    fields_bad n s h bad e = judge_bad field_rule [] (fields_in m bytes) i w n s (omega (arith, length_fields m bytes)) (of_list h (refused n s) bad) e
 
-    pub fields_bad : (n s : ℕ) → j ≡ Refused n s → refused n s ≡ in_order field_rule 1 (fields_in m bytes)
-    fields_bad n s e = judge_bad field_rule [] (fields_in m bytes) i _ n s within (told_refused_lem j _ n s judged e ∙ of_list) inv.rest
+pub ruleset reading_fields = (fields_start, fields_end, fields_on, fields_bad)

@@ -1,13 +1,12 @@
 -- The check's order is its start, then the rest of the chain: the rule taken apart where the steps begin.
-use mathlib.Core.Path.{◌≡◌, sym, ap, ◌∙◌}
+use mathlib.Core.Path.{◌≡◌, ap, ◌∙◌}
 use mathlib.Core.List.{List}
-use Prim.Native.Nat.{ℕ, ◌*◌, ◌/◌}
+use Prim.Native.Nat.{ℕ, ◌*◌}
 use lib.ListN.{length}
 use Rattle.chain.specs.Verdict.{Verdict, fine, ◌then◌}
-use Rattle.chain.specs.Chain.{most_steps, pairs, shape_rule}
+use Rattle.chain.specs.Chain.{most_steps, shape_rule}
 use Rattle.chain.specs.declared.Step.{Step}
 use Rattle.chain.proofs.Rules.{then_assoc, then_fine, told_after}
-use Rattle.chain.proofs.Pairs.{length_pairs}
 use Rattle.chain.proofs.Sizes.{Shape, shape_fits}
 use Rattle.rest.specs.Inner.{rest_rule}
 use Rattle.rest.proofs.Rest.{rest_is}

@@ -1,38 +1,32 @@
 -- From the answer of `write` its verdict is read back; where it is done, the bytes counted are the file, at the front of what was lent.
 use mathlib.Core.Path.{◌≡◌, refl, sym, ap, ◌∙◌}
-use mathlib.Core.List.{List}
+use mathlib.Core.List.{List, [], ◌∷◌}
 use Prim.Native.Nat.{ℕ, ◌≤◌}
 use native.Mathlib.Omega.{arith}
 use lib.ListN.{length, get_or, take}
-use Rattle.chain.specs.Verdict.{fine, refused}
+use Rattle.chain.specs.Verdict.{fine, refused, done, refusal}
 use Rattle.chain.specs.Written.{over}
 use Rattle.chain.specs.declared.Step.{Step}
 use Rattle.chain.proofs.Rules.{renewed, then_fine, refuse_if_fine, not_lt}
-use Rattle.chain.proofs.Told.{verdict_in, told, told_values_lem}
+use Rattle.chain.proofs.Told.{told, told_values_lem}
 use Rattle.chain.proofs.Written.{take-over, over-length}
 use Rattle.layout.specs.declared.Layout.{Layout}
 use Rattle.layout.specs.File.{byte_count, file_of, write_rule, write_answer, write_bytes}
 use Rattle.layout.proofs.Lengths.{length-file}
-use Rattle.answers.specs.Answers.{written_of}
-use Rattle.answers.specs.declared.Written.{Written}
-use Rattle.answers.specs.declared.Written.TheVariants.{Bytes, Refused}
 
-module _ (L : Layout) (p : ℕ) (steps : List Step) (outputs bytes : List ℕ) (w : Written)
-    (answered : written_of w ≡ write_answer L p steps outputs (length bytes)) where
-  write_found : verdict_in (written_of w) ≡ write_rule L p steps outputs (length bytes)
+module _ (L : Layout) (p : ℕ) (steps : List Step) (outputs bytes : List ℕ) where
+  pub write_stops : (k s : ℕ) → refusal k s ≡ write_answer L p steps outputs (length bytes) → refused k s ≡ write_rule L p steps outputs (length bytes)
   unfolding write_answer
-  write_found = told _ _ _ answered
+  write_stops k s answered = told _ _ _ answered
 
-  pub write_stops : (k s : ℕ) → w ≡ Refused k s → refused k s ≡ write_rule L p steps outputs (length bytes)
-  write_stops k s e = sym (ap (λ (x : Written). verdict_in (written_of x)) e) ∙ write_found
-
-  module _ (n : ℕ) (is : w ≡ Bytes n) where
+  module _ (n : ℕ) (answered : done (n ∷ []) ≡ write_answer L p steps outputs (length bytes)) where
     pub write_passes : fine ≡ write_rule L p steps outputs (length bytes)
-    write_passes = sym (ap (λ (x : Written). verdict_in (written_of x)) is) ∙ write_found
+    unfolding write_answer
+    write_passes = told _ _ _ answered
 
     pub write_counts : n ≡ byte_count L p (length outputs) (length steps)
     unfolding write_answer
-    write_counts = ap (λ (l : List ℕ). get_or l 0 0) (told_values_lem _ _ _ (sym (ap written_of is) ∙ answered))
+    write_counts = ap (λ (l : List ℕ). get_or l 0 0) (told_values_lem _ _ _ answered)
 
     module _ (bytes' : List ℕ) (e : bytes' ≡ write_bytes L p steps outputs bytes) where
       laid : bytes' ≡ over (file_of L p steps outputs) bytes

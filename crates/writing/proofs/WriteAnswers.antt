@@ -5,12 +5,9 @@ use Prim.Native.Nat.{ℕ, ◌/◌}
 use lib.ListN.{length}
 use Rattle.chain.specs.Tests.{◌<?◌}
 use Rattle.chain.specs.Verdict.{Verdict, fine, refused, ◌then◌, refuse_if, done, refusal}
-use Rattle.chain.specs.Judgement.{verdict_of}
 use Rattle.chain.specs.Written.{over}
 use Rattle.chain.specs.Chain.{pairs, shape_rule, chain_rule}
-use Rattle.chain.specs.declared.Judgement.{Judgement}
-use Rattle.chain.specs.declared.Judgement.TheVariants.{Fine, Refused}
-use Rattle.chain.proofs.Rules.{stop, pass, then_assoc, told_fine, told_refused_lem, answer_refused, answer_done, kept, renewed}
+use Rattle.chain.proofs.Rules.{stop, pass, then_assoc, answer_refused, answer_done, kept, renewed}
 use Rattle.chain.proofs.Pairs.{length_pairs}
 use Rattle.layout.specs.declared.Layout.{Layout}
 use Rattle.layout.specs.declared.Extent.{Extent}
@@ -51,32 +48,30 @@ module _ (L : Layout) (p : ℕ) (l o old : List ℕ) where
         left = renewed _ _ old _ v en;
       }
 
-  module _ (j : Judgement) (told : verdict_of j ≡ shape_rule L.limit p q n) where
-    pub shape_refused : (k s : ℕ) → j ≡ Refused k s → Wrote L p l o old (refusal k s) old
-    shape_refused k s e = stopped k s (stop _ _ k s (told_refused_lem j _ k s told e) ∙ sym (in_order (byte_count L p q n) refl))
+  pub shape_refused : (k s : ℕ) → refused k s ≡ shape_rule L.limit p q n → Wrote L p l o old (refusal k s) old
+  shape_refused k s told = stopped k s (stop _ _ k s told ∙ sym (in_order (byte_count L p q n) refl))
 
-    module _ (ok : j ≡ Fine) where
-      pub sized : Sized L p q n
-      sized = shape_sized L p q n (sym (told_fine j _ told ok))
+  module _ (ok : fine ≡ shape_rule L.limit p q n) where
+    pub sized : Sized L p q n
+    sized = shape_sized L p q n (sym ok)
 
-      module _ (count : ℕ) (is : count ≡ byte_count L p q n) (i : Judgement)
-          (told-rest : verdict_of i ≡ (chain_rule p (pairs l) o then refuse_if (length old <? count) 5 0)) where
-        pub rest_refused : (k s : ℕ) → i ≡ Refused k s → Wrote L p l o old (refusal k s) old
+    module _ (count : ℕ) (is : count ≡ byte_count L p q n) where
+      pub rest_refused : (k s : ℕ) → refused k s ≡ (chain_rule p (pairs l) o then refuse_if (length old <? count) 5 0) → Wrote L p l o old (refusal k s) old
+      unfolding rest
+      rest_refused k s told = stopped k s (pass _ _ _ ok told ∙ sym (in_order count is))
+
+      module _ (rest-ok : fine ≡ (chain_rule p (pairs l) o then refuse_if (length old <? count) 5 0)) where
+        pub passed : fine ≡ write_rule L p (pairs l) o (length old)
         unfolding rest
-        rest_refused k s e =
-            stopped k s (pass _ _ _ (told_fine j _ told ok) (told_refused_lem i _ k s told-rest e) ∙ sym (in_order count is))
+        passed = pass _ _ _ ok rest-ok ∙ sym (in_order count is)
 
-        pub passed : i ≡ Fine → fine ≡ write_rule L p (pairs l) o (length old)
-        unfolding rest
-        passed e = pass _ _ _ (told_fine j _ told ok) (told_fine i _ told-rest e) ∙ sym (in_order count is)
-
-        pub to_write : SoundLayout L → (s : Extent) → s ≡ extent_of L p q n → i ≡ Fine → ToWrite L s l o (length old)
-        to_write sound s e fine-rest =
+        pub to_write : SoundLayout L → (s : Extent) → s ≡ extent_of L p q n → ToWrite L s l o (length old)
+        to_write sound s e =
             record {
               sound = sound;
               extent = e ∙ ap (λ (k : ℕ). extent_of L k q n) (sym (ap (λ (x : Extent). x.p) e));
-              accepted = ap (λ (x : Extent). write_rule L x.p (pairs l) o (length old)) e ∙ sym (passed fine-rest);
+              accepted = ap (λ (x : Extent). write_rule L x.p (pairs l) o (length old)) e ∙ sym passed;
             }
 
-        pub all_written : i ≡ Fine → (new : List ℕ) → new ≡ over (file_of L p (pairs l) o) old → Wrote L p l o old (done (count ∷ [])) new
-        all_written e new en = went count new (passed e) is en
+        pub all_written : (new : List ℕ) → new ≡ over (file_of L p (pairs l) o) old → Wrote L p l o old (done (count ∷ [])) new
+        all_written new en = went count new passed is en

@@ -4,7 +4,7 @@
 ghost use Rattle.std.specs.Prelude.{◌≡◌, ◌/◌, length};
 ghost use Rattle.chain.specs.Tests.{◌<?◌};
 ghost use Rattle.chain.specs.Verdict.{◌then◌, refuse_if};
-ghost use Rattle.chain.specs.Judgement.{verdict_of};
+ghost use Rattle.chain.specs.Judgement.{verdict_of, counted_of};
 ghost use Rattle.chain.specs.Written.{over};
 ghost use Rattle.chain.specs.Chain.{pairs, chain_rule};
 ghost use Rattle.legal.specs.Inner.{ValuesFit};
@@ -12,29 +12,30 @@ ghost use Rattle.bits.specs.Inner.{FieldStored};
 ghost use Rattle.layout.specs.Layout.{edition1};
 ghost use Rattle.layout.specs.File.{header_bits, header_size, file_of, write_answer, write_bytes};
 ghost use Rattle.layout.specs.Inner.{SoundLayout};
-ghost use Rattle.answers.specs.Answers.{written_of};
 ghost use Rattle.writing.specs.Inner.{HeaderFill, ToWrite, Wrote};
 
-use answers::Written;
 use bits::Cursor;
-use chain::Judgement;
+use chain::Flat;
 use layout::{Extent, Layout};
+use refusal::{Reason, Refusal};
 
 // The steps, 12, then 5 where fewer bytes are lent than the file has.
-fn judge_rest(p: usize, steps: &[u32], outputs: &[u32], count: usize, lent: usize) -> Judgement
+#[tactic(auto, using(chain::proofs::Rules::judging, chain::proofs::Pairs::length_pairs))]
+fn judge_rest(
+    p: usize,
+    steps: &[u32],
+    outputs: &[u32],
+    count: usize,
+    lent: usize,
+) -> Result<(), Refusal>
     requires { ValuesFit p (length steps.now / 2) }
     ensures { verdict_of result ≡ (chain_rule p (pairs steps.now) outputs.now then refuse_if (lent <? count) 5 0) }
 {
-    match legal::judge_chain(p, steps, outputs) {
-        Judgement::Refused(number, place) => {
-            return Judgement::Refused(number, place);
-        }
-        Judgement::Fine => {}
-    }
+    legal::judge_chain(p, &Flat { numbers: steps }, outputs)?;
     if lent < count {
-        return Judgement::Refused(5, 0);
+        return Err(Reason::Room.into());
     }
-    Judgement::Fine
+    Ok(())
 }
 
 fn put_header(layout: Layout, s: Extent, bytes: &mut [u8]) -> Cursor
@@ -59,29 +60,26 @@ fn put_chain(layout: Layout, s: Extent, steps: &[u32], outputs: &[u32], bytes: &
 }
 
 // The width is found once the sizes are judged, and nothing is stored before all is.
-fn write_as(layout: Layout, p: usize, steps: &[u32], outputs: &[u32], bytes: &mut [u8]) -> Written
+fn write_as(
+    layout: Layout,
+    p: usize,
+    steps: &[u32],
+    outputs: &[u32],
+    bytes: &mut [u8],
+) -> Result<usize, Refusal>
     requires { SoundLayout layout }
-    ensures { Wrote layout p steps.now outputs.now bytes.old (written_of result) bytes.new }
+    ensures { Wrote layout p steps.now outputs.now bytes.old (counted_of result) bytes.new }
 {
-    match shape::judge_shape(layout.limit, p, outputs.len(), steps.len() / 2) {
-        Judgement::Refused(number, place) => {
-            return Written::Refused(number, place);
-        }
-        Judgement::Fine => {}
-    }
+    shape::judge_shape(layout.limit, p, outputs.len(), steps.len() / 2)?;
     let s = layout::extent_of(layout, p, outputs.len(), steps.len() / 2);
-    match judge_rest(p, steps, outputs, s.bytes, bytes.len()) {
-        Judgement::Refused(number, place) => Written::Refused(number, place),
-        Judgement::Fine => {
-            put_chain(layout, s, steps, outputs, bytes);
-            Written::Bytes(s.bytes)
-        }
-    }
+    judge_rest(p, steps, outputs, s.bytes, bytes.len())?;
+    put_chain(layout, s, steps, outputs, bytes);
+    Ok(s.bytes)
 }
 
 // Writes the file of a chain into the lent bytes.
-pub fn write(p: usize, steps: &[u32], outputs: &[u32], bytes: &mut [u8]) -> Written
-    ensures result_value { written_of result ≡ write_answer edition1 p (pairs steps.now) outputs.now (length bytes.old) }
+pub fn write(p: usize, steps: &[u32], outputs: &[u32], bytes: &mut [u8]) -> Result<usize, Refusal>
+    ensures result_value { counted_of result ≡ write_answer edition1 p (pairs steps.now) outputs.now (length bytes.old) }
     ensures bytes_after { bytes.new ≡ write_bytes edition1 p (pairs steps.now) outputs.now bytes.old }
 {
     write_as(layout::first_edition(), p, steps, outputs, bytes)

@@ -1,5 +1,5 @@
 -- Each return is the verdict of the rules up to it, in their order.
-use Rattle.chain.proofs.Rules.{pass, stop, refuse_yes, refuse_no, eq_no, ne_yes, ne_no, or_left, or_right, or_none}
+use Rattle.chain.proofs.Rules.{pass, refuse_yes, refuse_no, eq_no, ne_yes, ne_no, or_left, or_right, or_none}
 use Rattle.run.specs.Inner.{start_rule}
 use Rattle.run.proofs.Bases.{some_not_below, none_not_below}
 use Rattle.run.proofs.judge_start.Goals as goal
@@ -12,7 +12,7 @@ returns-then-bases-p c =
     (pass _ _ _ c.in_ok-judge_shape.ensures
     (pass _ _ _ (refuse_no _ _ _ (eq_no _ _ c.if-m-eq0.false))
     (refuse_yes _ _ _ (elim c.then-bases-p.branch [
-      then-bases-p-via-then-bases-p w ↦ or_left _ _ (ne_yes _ _ w.if-bases-p.true)
+      | then-bases-p-via-then-bases-p w ↦ or_left _ _ (ne_yes _ _ w.if-bases-p.true)
       | then-bases-p-via-else-bases-p+then-any_not_below w ↦ or_right _ _ (some_not_below _ _ w.if-any_not_below.ensures)
     ]))))
 

@@ -1,5 +1,4 @@
 -- The part copied into holds the numbers.
-use Rattle.std.proofs.Common.{rules}
 use Rattle.chain.proofs.Laying.{part_laid}
 use Rattle.run.proofs.lay.Goals as goal
 

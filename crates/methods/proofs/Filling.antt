@@ -57,8 +57,8 @@ unfolding over
 front_filled f old cells n c room long g are =
     let size : length cells ≡ n = omega (arith, long, length-take-le n old room) in
     let same : cells ≡ list_to n f =
-        ext_get_or 0 cells (list_to n f) (omega (arith, size, length-list n f))
-        (λ d h. are d (omega (arith, size)) ∙ sym (get_d_list n f 0 d (omega (arith, size)))) in
+    ext_get_or 0 cells (list_to n f) (omega (arith, size, length-list n f))
+    (λ d h. are d (omega (arith, size)) ∙ sym (get_d_list n f 0 d (omega (arith, size)))) in
     rw (length-list n f) (ap (λ (l : List ℕ). l ++ drop n old) same)
 
 pub ruleset filling = (filled_none, filled_more, filled_all)

@@ -8,32 +8,26 @@ ghost use Rattle.digits.specs.Range.{sign};
 pub fn larger(x: u32, y: u32) -> u32
     ensures { result ≡ max x y }
 {
-    if x < y { y } else { x }
+    x.max(y)
 }
 
 // 0 for 0, else 1.
 pub fn sign(x: u32) -> usize
     ensures { result ≡ sign x }
 {
-    if x == 0 {
-        return 0;
-    }
-    1
+    usize::from(x != 0)
 }
 
 // x less some, or 0.
 pub fn lessened(x: usize, less: usize) -> usize
     ensures { result ≡ x - less }
 {
-    if x < less {
-        return 0;
-    }
-    x - less
+    x.saturating_sub(less)
 }
 
 // The sum of two numbers, which 64 bits hold.
 pub fn plus(a: u32, b: u32) -> u64
     ensures { result ≡ a + b }
 {
-    (a as u64) + (b as u64)
+    u64::from(a) + u64::from(b)
 }

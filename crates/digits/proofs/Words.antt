@@ -1,31 +1,26 @@
--- Digits by operations on words: a power of two is a shift, and a number's digits are counted by its leading zeros.
-use mathlib.Core.Path.{◌≡◌, ◌∙◌}
-use Prim.Native.Nat.{ℕ, zero, suc, ◌+◌, ◌-◌, ◌*◌, ◌/◌, ◌%◌, ◌^◌, ◌≤◌, ◌<◌}
-use native.Mathlib.Nat.{mul_comm, one-mul, pow-suc, suc-mul, le_refl, lt_of_lt_of_le, le_antisymm, div-lt_iff_lt-mul, le-div_iff_mul-le}
+-- A word's digits are counted by its leading zeros: the bits below them, cut into digits and rounded up.
+use mathlib.Core.Path.{◌≡◌}
+use Prim.Native.Nat.{ℕ, zero, suc, ◌+◌, ◌-◌, ◌*◌, ◌^◌, ◌≤◌, ◌<◌}
+use native.Mathlib.Nat.{mul_comm, pow-suc, mul-suc, mul-le-mul_left, lt_of_lt_of_le, le_antisymm}
 use native.Mathlib.Decide.{dec_lt}
 use native.Mathlib.Omega.{arith}
 use lib.Count.{count_leading_zeros, leading_length}
-use lib.Pow.{pow_mono, shl_exact}
+use lib.Pow.{pow_mono}
+use Rattle.std.specs.Int.{div_ceil}
+use Rattle.std.proofs.lemmas.Grind.{div_ceil_times}
 use Rattle.digits.specs.Digits.{digit_count}
 use Rattle.digits.proofs.Count.{count_own, low_count, count_high}
 
-pub power_word : (e : ℕ) → e < 32 → 1 * 2 ^ e % 2 ^ 32 ≡ 2 ^ e
-power_word e h = shl_exact 1 e 32 (omega arith) (omega arith) ∙ one-mul (2 ^ e)
-
-pub raised_word : (x e : ℕ) → x < 2 ^ 32 → e ≤ 32 → x * 2 ^ e % 2 ^ 64 ≡ x * 2 ^ e
-raised_word x e fits few = shl_exact 32 e 64 fits (omega arith)
-
 -- the digits of a number of m bits
-count_bits : (k x m : ℕ) → 0 < k → x < 2 ^ m → 2 ^ m ≤ 2 * x + 1 → (m + k - 1) / k ≡ digit_count k x
+count_bits : (k x m : ℕ) → 0 < k → x < 2 ^ m → 2 ^ m ≤ 2 * x + 1 → div_ceil m k ≡ digit_count k x
 count_bits k x m some low high = le_antisymm (by_count (dec_lt (digit_count k x) c)) above
   where
     c : ℕ
-    c = (m + k - 1) / k
+    c = div_ceil m k
 
     above : digit_count k x ≤ c
     above =
-        let up : m + k - 1 < suc c * k = (div-lt_iff_lt-mul some).0 (le_refl (suc c)) in
-        let covers : m ≤ k * c = omega (arith, suc-mul c k, mul_comm c k) in
+        let covers : m ≤ k * c = omega (arith, (div_ceil_times m k some).0, mul_comm c k) in
         low_count k some x c (lt_of_lt_of_le low (pow_mono covers))
 
     by_count : Dec (digit_count k x < c) → c ≤ digit_count k x
@@ -34,8 +29,8 @@ count_bits k x m some low high = le_antisymm (by_count (dec_lt (digit_count k x)
       where
         fewer : k * digit_count k x < m
         fewer =
-            let down : suc (digit_count k x) * k ≤ m + k - 1 = (le-div_iff_mul-le some).0 lt in
-            omega (arith, suc-mul (digit_count k x) k, mul_comm (digit_count k x) k)
+            let up : k * suc (digit_count k x) ≤ k * c = mul-le-mul_left k lt in
+            omega (arith, (div_ceil_times m k some).1, mul_comm c k, mul-suc k (digit_count k x))
 
         apart : (m : ℕ) → x < 2 ^ m → 2 ^ m ≤ 2 * x + 1 → k * digit_count k x < m → ⊥
         apart zero low high h = omega arith
@@ -44,7 +39,7 @@ count_bits k x m some low high = le_antisymm (by_count (dec_lt (digit_count k x)
             let most : 2 ^ (k * digit_count k x) ≤ 2 ^ m = pow_mono (omega arith) in
             omega (arith, pow-suc 2 m)
 
-pub count_word : (k x : ℕ) → 0 < k → x < 2 ^ 32 → (32 - count_leading_zeros 32 x + k - 1) / k ≡ digit_count k x
+pub count_word : (k x : ℕ) → 0 < k → x < 2 ^ 32 → div_ceil (32 - count_leading_zeros 32 x) k ≡ digit_count k x
 count_word k x some h =
     let t = leading_length 32 x h in
     let bits : 32 - count_leading_zeros 32 x ≡ t.0 = omega (arith, t.1) in

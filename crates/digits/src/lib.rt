@@ -18,19 +18,17 @@ pub fn raised(x: u32, e: usize) -> u64
     requires { e ≤ 32 }
     ensures { result ≡ x * 2 ^ e }
 {
-    (x as u64) << e
+    u64::from(x) << e
 }
 
 // How many digits x has in base 2^k: its bits, cut into digits. Digits of one bit are not cut, which spares a division.
+#[tactic(auto, using(crate::proofs::Words::count_word, crate::proofs::Words::count_ones))]
 pub fn digit_count(k: usize, x: u32) -> usize
     requires { CountAsked k }
     ensures { result ≡ digit_count k x }
 {
-    let bits = 32 - u32::leading_zeros(x) as usize;
-    if k == 1 {
-        return bits;
-    }
-    (bits + k - 1) / k
+    let bits = (u32::BITS - x.leading_zeros()) as usize;
+    if k == 1 { bits } else { bits.div_ceil(k) }
 }
 
 // The digit of x with weight 2^(kj).

@@ -8,15 +8,14 @@ ghost use Rattle.methods.specs.Powers.{largest_in};
 ghost use Rattle.methods.specs.Inner.{Largest, digits_at};
 
 // The largest amount of column c over all payslips.
+#[tactic(auto, using(digits::proofs::Range::max_on, sheet::proofs::Amounts::amount_there))]
 fn largest_in(p: usize, q: usize, amounts: &[u32], c: usize) -> u32
     requires { (c < p) × (length amounts.now ≡ p * q) }
     ensures { result ≡ largest_in p q amounts.now c }
 {
     let mut most: u32 = 0;
-    let mut i: usize = 0;
-    while i < q {
+    for i in 0..q {
         most = counting::larger(most, sheet::amount(p, amounts, i, c));
-        i += 1;
     }
     most
 }
@@ -26,21 +25,18 @@ pub fn measure_columns(p: usize, q: usize, amounts: &[u32], cells: &mut [u32])
     requires { (p ≤ length cells.old) × (length amounts.now ≡ p * q) }
     ensures { Largest p q amounts.now cells.new }
 {
-    let mut c: usize = 0;
-    while c < p {
-        cells[c] = largest_in(p, q, amounts, c);
-        c += 1;
+    for (c, cell) in cells[..p].iter_mut().enumerate() {
+        *cell = largest_in(p, q, amounts, c);
     }
 }
 
 // How many digits in base 2^k each of the first p numbers has, into its cell.
+#[tactic(auto, using(crate::proofs::Columns::digits_low))]
 pub fn measure_digits(p: usize, k: usize, numbers: &[u32], cells: &mut [u32])
     requires { (0 < k) × (k < 32) × (p ≤ length numbers.now) × (p ≤ length cells.old) }
     ensures { cells.new ≡ over (list_to p (digits_at k numbers.now)) cells.old }
 {
-    let mut c: usize = 0;
-    while c < p {
-        cells[c] = digits::digit_count(k, numbers[c]) as u32;
-        c += 1;
+    for (c, cell) in cells[..p].iter_mut().enumerate() {
+        *cell = digits::digit_count(k, numbers[c]) as u32;
     }
 }

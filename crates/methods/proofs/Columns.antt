@@ -6,22 +6,13 @@ use native.Mathlib.Numerals.{add-one}
 use native.Mathlib.Omega.{arith}
 use lib.ListN.{length, get_or}
 use Rattle.chain.specs.declared.Step.{Step}
-use Rattle.chain.proofs.Rules.{eq_yes, eq_no}
 use Rattle.products.specs.Product.{made, squared}
-use Rattle.methods.specs.Powers.{counts_of, squarings, power_at}
+use Rattle.methods.specs.Powers.{counts_of, squarings}
 use Rattle.products.specs.Inner.{steps_in, begun, StepsRoom, StepsStored, Emitted}
 use Rattle.products.specs.declared.Progress.{Progress}
 use Rattle.products.proofs.Sound.{Begins, begins_rise}
 use Rattle.products.proofs.Product.{squared_begins}
 use Rattle.products.proofs.Emitted.{stored_own, emits_room, emits_on}
-
--- the number of a power: the base itself, or one of the values made
-module _ (c first j : ℕ) where
-  pub number_base : j ≡ 0 → c + 1 ≡ power_at c first j
-  number_base e = rw (eq_yes j 0 e)
-
-  pub number_made : (j ≡ 0 → ⊥) → first + j ≡ power_at c first j
-  number_made ne = rw (eq_no j 0 ne)
 
 -- the squarings of fewer columns are made first
 pub squarings_begin : (p : ℕ) (n : ℕ → ℕ) (c d : ℕ) → c ≤ d → Begins (squarings p n c) (squarings p n d)

@@ -4,7 +4,8 @@ use mathlib.Core.List.{List, [], ◌∷◌, ◌++◌}
 use Prim.Native.Nat.{ℕ, ◌+◌, ◌≤◌, ◌<◌}
 use native.Mathlib.Numerals.{add-one}
 use native.Mathlib.Omega.{arith}
-use lib.ListN.{length, get_or, take, set, length-set}
+use lib.ListN.{length, get_or, take, drop, set, length-set}
+use lib.Seq.{length-take-le, ext_get_or}
 use Rattle.chain.specs.Written.{over}
 use Rattle.chain.proofs.Written.{take-over, over_next, over_get_d}
 use Rattle.digits.specs.Range.{list_to}
@@ -48,5 +49,16 @@ module _ (f : ℕ → ℕ) (old : List ℕ) where
 
     pub filled-length : n ≡ length (take n cells)
     filled-length = sym (ap length filled_front ∙ length-list n f)
+
+-- the front of a slice, filled cell by cell and put back before the rest
+pub front_filled : (f : ℕ → ℕ) (old cells : List ℕ) (n c : ℕ) → n ≤ length old → length cells ≡ length (take n old) → n ≤ c
+    → ((d : ℕ) → d < c → get_or cells d 0 ≡ f d) → cells ++ drop n old ≡ over (list_to n f) old
+unfolding over
+front_filled f old cells n c room long g are =
+    let size : length cells ≡ n = omega (arith, long, length-take-le n old room) in
+    let same : cells ≡ list_to n f =
+    ext_get_or 0 cells (list_to n f) (omega (arith, size, length-list n f))
+    (λ d h. are d (omega (arith, size)) ∙ sym (get_d_list n f 0 d (omega (arith, size)))) in
+    rw (length-list n f) (ap (λ (l : List ℕ). l ++ drop n old) same)
 
 pub ruleset filling = (filled_none, filled_more, filled_all)

@@ -1,11 +1,12 @@
 -- Payslips are emitted one after the other, by any method whose payslips only append steps: a loop over them keeps the steps and the outputs of the
 -- payslips so far, and after whatever the chain begins with they make it whole.
 use mathlib.Core.Path.{◌≡◌, refl, ap, ◌∙◌}
-use mathlib.Core.List.{List, []}
+use mathlib.Core.List.{List, [], ◌++◌, append-nil}
 use Prim.Native.Nat.{ℕ, zero, suc, ◌+◌, ◌≤◌, ◌<◌, zero-le}
 use native.Mathlib.Numerals.{add-one}
 use native.Mathlib.Omega.{arith}
-use lib.ListN.{length, set, length-append, length-set}
+use lib.ListN.{length, set, take, drop, length-append, length-set, drop_of_length-le}
+use lib.Seq.{length-take-le}
 use Rattle.chain.specs.Chain.{most_columns}
 use Rattle.chain.specs.Written.{over}
 use Rattle.chain.specs.declared.Step.{Step}
@@ -20,6 +21,14 @@ use Rattle.methods.specs.Inner.{ChainRoom, ChainStored, PayslipsRoom}
 pub over_none : (old : List ℕ) → old ≡ over [] old
 unfolding over
 over_none old = refl
+
+-- a list over the front of a slice, which the rest stands after
+front_over : (n : ℕ) (old l cells : List ℕ) → n ≤ length old → length l ≡ n → cells ≡ over l (take n old) → cells ++ drop n old ≡ over l old
+unfolding over
+front_over n old l cells room long is =
+    let none : drop (length l) (take n old) ≡ [] = drop_of_length-le (take n old) (omega (arith, long, length-take-le n old room)) in
+    let front : cells ≡ l = is ∙ rw none (append-nil l) in
+    rw (long, front)
 
 -- the slices before the first payslip, and after the last
 paid_none : (p : ℕ) (cells : List ℕ) (r : Progress) (steps : List Step) → StepsRoom p cells r steps → StepsStored cells cells r (steps_in cells r.steps)
@@ -37,13 +46,13 @@ module _ (slip : ℕ → List Step → Made) (start : List Step) (i q : ℕ) (h 
       let last : q ≡ i = omega arith in
       rw last e
 
+paid_length : (slip : ℕ → List Step → Made) (start : List Step) (i : ℕ) → length (payslips slip start i).outputs ≡ i
+paid_length slip start zero = refl
+paid_length slip start (suc i) = length-append (payslips slip start i).outputs _ ∙ omega (arith, paid_length slip start i)
+
 module _ (slip : ℕ → List Step → Made) (start : List Step) (each : (i : ℕ) (before : List Step) → Begins before (slip i before).steps) where
   pub paid_begins : (i q : ℕ) → i ≤ q → Begins (payslips slip start i).steps (payslips slip start q).steps
   paid_begins = begins_rise (λ i. (payslips slip start i).steps) (λ i. each i (payslips slip start i).steps)
-
-  paid_length : (i : ℕ) → length (payslips slip start i).outputs ≡ i
-  paid_length zero = refl
-  paid_length (suc i) = length-append (payslips slip start i).outputs _ ∙ omega (arith, paid_length i)
 
   -- payslip i after those before it
   module _ (old cells : List ℕ) (s : Progress) (i : ℕ) (st : StepsStored old cells s (payslips slip start i).steps) where
@@ -63,7 +72,7 @@ module _ (slip : ℕ → List Step → Made) (start : List Step) (each : (i : �
         → outputs ≡ over (payslips slip start i).outputs old' → set outputs i v ≡ over (payslips slip start (i + 1)).outputs old'
     pay_output cells' s' v e old' outputs h is =
         let t : v ≡ (slip i (payslips slip start i).steps).value = e.value ∙ ap (λ (l : List Step). (slip i l).value) (stored_is st) in
-        rw (add-one i, is, t) (over_next (payslips slip start i).outputs old' _ i (paid_length i) h)
+        rw (add-one i, is, t) (over_next (payslips slip start i).outputs old' _ i (paid_length slip start i) h)
 
 -- The state of a loop over q payslips after the first i: the slices, which were steps₀ and outputs₀, hold their s steps after those of start, and
 -- their outputs.
@@ -96,6 +105,20 @@ paying_end {q} {slip} {start} {steps₀} {outputs₀} {i} state done =
       stored = paid_steps slip start i q state.so_far done _ _ _ state.stored;
       outputs_are = paid_outputs slip start i q state.so_far done _ _ state.outputs_are;
     }
+
+-- The same over the front of the outputs, which the rest stands after.
+module _ {q : ℕ} {outputs₀ : List ℕ} where
+  pub front_room : {p : ℕ} {cells : List ℕ} {r : Progress} {steps : List Step} → PayslipsRoom p q cells r steps outputs₀
+      → PayslipsRoom p q cells r steps (take q outputs₀)
+  front_room room =
+      record { outputs_fit = omega (arith, length-take-le q outputs₀ room.outputs_fit); steps_room = room.steps_room }
+
+  pub front_end : {slip : ℕ → List Step → Made} {start : List Step} {steps₀ : List ℕ} {i : ℕ} {steps outputs : List ℕ} {s : Progress}
+      → q ≤ length outputs₀ → Paying q slip start steps₀ (take q outputs₀) i steps outputs s → q ≤ i
+      → ChainStored steps₀ outputs₀ steps (outputs ++ drop q outputs₀) s (payslips slip start q)
+  front_end {slip} {start} fits state done =
+      let whole = paying_end state done in
+      record { stored = whole.stored; outputs_are = front_over q outputs₀ _ _ fits (paid_length slip start q) whole.outputs_are }
 
 module _ (slip : ℕ → List Step → Made) (each : (i : ℕ) (before : List Step) → Begins before (slip i before).steps) where
   -- a turn: there is room for payslip i, and its steps and output are stored

@@ -16,14 +16,16 @@ pub struct Quote {
 }
 
 // The value number of the base of column c after j squarings, which are made after value first.
+#[tactic(auto, using(chain::proofs::Rules::eq_yes, chain::proofs::Rules::eq_no))]
 pub fn power_at(c: usize, first: usize, j: usize) -> u32
     requires { (c + 1 < 2 ^ 32) × (first + j < 2 ^ 32) }
     ensures { result ≡ power_at c first j }
 {
     if j == 0 {
-        return (c + 1) as u32;
+        (c + 1) as u32
+    } else {
+        (first + j) as u32
     }
-    (first + j) as u32
 }
 
 // The squarings of the columns' bases, column by column, as many for each as counts says, from the first step on.
@@ -35,15 +37,12 @@ pub fn square_columns(p: usize, counts: &[u32], steps: &mut [u32]) -> Progress
         steps: 0,
         squarings: 0,
     };
-    let mut c: usize = 0;
-    while c < counts.len() {
+    for (c, count) in counts.iter().enumerate() {
         let base = PartialProduct {
-            progress: progress,
+            progress,
             value: (c + 1) as u32,
         };
-        let r = products::squared(p, counts[c] as usize, base, steps);
-        progress = r.progress;
-        c += 1;
+        progress = products::squared(p, *count as usize, base, steps).progress;
     }
     progress
 }

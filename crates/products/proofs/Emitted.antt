@@ -1,7 +1,7 @@
 -- Steps stored over a slice's front are read back as they are; so emitters that each append steps can be put one after the other.
 use mathlib.Core.Path.{◌≡◌, refl, sym, ap, ap₂, ◌∙◌}
 use mathlib.Core.List.{List, [], ◌∷◌, ◌++◌, append_assoc}
-use Prim.Native.Nat.{ℕ, ◌+◌, ◌*◌, ◌≤◌, ◌<◌, min, max}
+use Prim.Native.Nat.{ℕ, ◌+◌, ◌*◌, ◌≤◌, min, max}
 use native.Mathlib.Omega.{arith}
 use lib.ListN.{length, take, set, length-append}
 use lib.Seq.{length-take-le}
@@ -73,14 +73,6 @@ unfolding over laid
 over_front n t l h =
     let long : length (take n l ++ t) ≡ n + length t = length-append (take n l) t ∙ omega (arith, length-take-le n l h) in
     rw (long, append_assoc)
-
--- the step of two values, by their order
-module _ (a b : ℕ) where
-  pub ordered_rising : a < b → by b a ≡ ordered a b
-  ordered_rising lt = ap₂ by (omega arith) (omega arith)
-
-  pub ordered_falling : b ≤ a → by a b ≡ ordered a b
-  ordered_falling ge = ap₂ by (omega arith) (omega arith)
 
 -- one step more, which is counted if it is a squaring
 module _ (cells : List ℕ) (r : Progress) (room : MoreRoom cells r 1) where

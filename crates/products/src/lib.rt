@@ -26,15 +26,9 @@ pub struct PartialProduct {
 fn ordered(a: u32, b: u32) -> Step
     ensures { result ≡ ordered a b }
 {
-    if a < b {
-        return Step {
-            first: b,
-            second: a,
-        };
-    }
     Step {
-        first: a,
-        second: b,
+        first: a.max(b),
+        second: a.min(b),
     }
 }
 
@@ -58,24 +52,15 @@ pub fn times(p: usize, m: PartialProduct, y: u32, steps: &mut [u32]) -> PartialP
     requires { StepsRoom p steps.old m.progress (times p (product_in steps.old m) y).steps }
     ensures { Emitted steps.old steps.new result.progress result.value (times p (product_in steps.old m) y) }
 {
-    let before = m.progress;
-    let v = m.value;
-    if v == 0 {
-        return PartialProduct {
-            progress: before,
-            value: y,
-        };
+    if m.value == 0 {
+        return PartialProduct { value: y, ..m };
     }
     if y == 0 {
-        return PartialProduct {
-            progress: before,
-            value: v,
-        };
+        return m;
     }
-    let after = put(before, v, y, steps);
     PartialProduct {
-        progress: after,
-        value: (p + before.steps + 1) as u32,
+        progress: put(m.progress, m.value, y, steps),
+        value: (p + m.progress.steps + 1) as u32,
     }
 }
 
@@ -85,11 +70,8 @@ pub fn squared(p: usize, k: usize, m: PartialProduct, steps: &mut [u32]) -> Part
     ensures { Emitted steps.old steps.new result.progress result.value (squared p k (product_in steps.old m)) }
 {
     let mut r = m;
-    let mut i: usize = 0;
-    while i < k {
-        let v = r.value;
-        r = times(p, r, v, steps);
-        i += 1;
+    for _ in 0..k {
+        r = times(p, r, r.value, steps);
     }
     r
 }

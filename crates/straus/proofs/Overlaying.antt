@@ -1,32 +1,22 @@
 -- A payslip's amounts laid one over the other have the digits of the largest.
 use mathlib.Core.Path.{◌≡◌, ap, ◌∙◌}
 use mathlib.Core.List.{List}
-use Prim.Native.Nat.{ℕ, zero, suc, ◌+◌, ◌-◌, ◌*◌, ◌^◌, ◌≤◌, ◌<◌}
+use Prim.Native.Nat.{ℕ, zero, suc, ◌-◌, ◌*◌, ◌^◌, ◌<◌}
 use native.Mathlib.Nat.{mul_comm, mul-zero}
 use native.Mathlib.Omega.{arith}
-use lib.Bits.{bit_or}
 use lib.ListN.{length}
 use Rattle.digits.specs.Digits.{digit_count}
 use Rattle.digits.specs.Range.{or_to}
-use Rattle.digits.proofs.Overlay.{or_on, or_count}
+use Rattle.digits.proofs.Overlay.{or_count}
 use Rattle.digits.proofs.Words.{digit_place}
 use Rattle.sheet.specs.Sheet.{amount}
 use Rattle.sheet.proofs.Amounts.{payslip_within}
 use Rattle.straus.specs.Straus.{straus_digits}
 use Rattle.straus.specs.Inner.{StrausAsked, PayslipAsked}
 
--- the amounts of payslip i, one over the other: those of its first c columns, with the next
+-- the amounts of payslip i in its first c columns, one over the other
 abbrev pub overlaid_to : ℕ → List ℕ → ℕ → ℕ → ℕ
 overlaid_to p amounts i c = or_to c (amount p amounts i)
-
-pub overlaid_on : (p : ℕ) (amounts : List ℕ) (i c all x : ℕ) → x ≡ amount p amounts i c → all ≡ overlaid_to p amounts i c
-    → bit_or all x ≡ overlaid_to p amounts i (c + 1)
-overlaid_on p amounts i c all x is e = or_on (amount p amounts i) c all x is e
-
-pub overlaid_end : (p : ℕ) (amounts : List ℕ) (i c all : ℕ) → c ≤ p → p ≤ c → all ≡ overlaid_to p amounts i c → all ≡ overlaid_to p amounts i p
-overlaid_end p amounts i c all h g e =
-    let last : c ≡ p = omega arith in
-    e ∙ ap (overlaid_to p amounts i) last
 
 -- its digits
 pub digits_told : (p : ℕ) (amounts : List ℕ) (k i x r : ℕ) → 0 < k → r ≡ digit_count k x → x ≡ overlaid_to p amounts i p → r ≡ straus_digits p amounts k i
@@ -36,8 +26,6 @@ digits_told p amounts k i x r some e is = e ∙ ap (digit_count k) is ∙ or_cou
 pub digits_fit : (k x r : ℕ) → 0 < k → x < 2 ^ 32 → r ≡ digit_count k x → k * (r - 1) < 32
 digits_fit k x zero some low e = rw (mul-zero k) (omega arith)
 digits_fit k x (suc r) some low e = digit_place k x (suc r - 1) some low (omega arith)
-
-pub ruleset overlaying = (overlaid_on, overlaid_end)
 
 -- what a payslip's functions ask, from what the chain's do
 pub payslip_asked : {p q : ℕ} {amounts : List ℕ} {k i : ℕ} → StrausAsked p q amounts k → i < q → PayslipAsked p amounts k i

@@ -72,9 +72,9 @@ below_power : (n : ℕ) → n < 2 ^ n
 below_power zero = omega arith
 below_power (suc n) = omega (arith, below_power n, pow-suc 2 n)
 
--- w is the size of the table
-pub columns_below : (p k w : ℕ) → w ≡ 2 ^ (p * k) → 1 ≤ k → p + 1 ≤ w
-columns_below p k w e some =
+-- the table has more entries than there are columns
+pub columns_below : (p k : ℕ) → 1 ≤ k → p + 1 ≤ 2 ^ (p * k)
+columns_below p k some =
     let wide : p ≤ p * k = omega (arith, mul-le-mul_left p some, mul-one p) in
     let grown : 2 ^ p ≤ 2 ^ (p * k) = pow_mono wide in
     omega (arith, below_power p)

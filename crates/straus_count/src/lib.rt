@@ -16,36 +16,29 @@ fn payslip_quote(p: usize, amounts: &[u32], k: usize, i: usize) -> Quote
     let all = straus::overlaid(p, amounts, i);
     let lower = counting::lessened(digits::digit_count(k, all), 1);
     let squarings = lower * k;
-    let ceiling = squarings + lower;
-    let mut n = squarings;
-    let mut j: usize = 0;
-    while j < lower {
-        n += counting::sign(digits::digit(k, all, j));
-        j += 1;
+    let mut count = squarings;
+    for j in 0..lower {
+        count += counting::sign(digits::digit(k, all, j));
     }
     Quote {
-        count: n,
-        ceiling: ceiling,
+        count,
+        ceiling: squarings + lower,
     }
 }
 
 // The number of steps of the chain, and its ceiling.
+#[tactic(auto, using(crate::proofs::Counting::columns_below))]
 pub fn quote(p: usize, q: usize, amounts: &[u32], k: usize) -> Quote
     requires { StrausAsked p q amounts.now k }
     ensures { QuoteOf result (straus_method p q amounts.now k) }
 {
     let table = digits::power(p * k) as usize - p - 1;
-    let mut n = table;
-    let mut most = table;
-    let mut i: usize = 0;
-    while i < q {
+    let mut count = table;
+    let mut ceiling = table;
+    for i in 0..q {
         let payslip = payslip_quote(p, amounts, k, i);
-        n += payslip.count;
-        most += payslip.ceiling;
-        i += 1;
+        count += payslip.count;
+        ceiling += payslip.ceiling;
     }
-    Quote {
-        count: n,
-        ceiling: most,
-    }
+    Quote { count, ceiling }
 }

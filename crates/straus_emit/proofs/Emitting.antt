@@ -1,9 +1,7 @@
 -- Digits are emitted from the top down: each turn of Horner's rule appends its steps, and there is room because all of them together have it.
-use mathlib.Core.Path.{◌≡◌, refl, ap, ap₂, subst, ◌∙◌}
+use mathlib.Core.Path.{◌≡◌, refl, ap, ap₂, ◌∙◌}
 use mathlib.Core.List.{List}
-use Prim.Native.Nat.{ℕ, zero, suc, ◌+◌, ◌-◌, ◌*◌, ◌≤◌, ◌<◌}
-use native.Mathlib.Nat.{mul-le-mul_left}
-use native.Mathlib.Numerals.{add-one}
+use Prim.Native.Nat.{ℕ, zero, suc, ◌+◌, ◌-◌, ◌≤◌, ◌<◌}
 use native.Mathlib.Omega.{arith}
 use Rattle.chain.specs.declared.Step.{Step}
 use Rattle.products.specs.Product.{Made, made, times, squared}
@@ -43,33 +41,31 @@ module _ (p k : ℕ) (e : ℕ → ℕ) (J : ℕ) where
   digits_begin : (before : List Step) (c d : ℕ) → c ≤ d → Begins (horner p k e J before c).steps (horner p k e J before d).steps
   digits_begin before = begins_rise (λ d. (horner p k e J before d).steps) (next_begins before)
 
-  -- the next digit, y being its value
-  module _ (old : List ℕ) (n : Progress) (cells : List ℕ) (m : Progress) (v d y : ℕ) (less : d < J) (value : y ≡ e (J - (d + 1)))
-      (so_far : Emitted old cells m v (horner p k e J (steps_in old n.steps) d)) where
+  -- digit j - 1 after those above it, y being its value
+  module _ (old : List ℕ) (n : Progress) (cells : List ℕ) (m : Progress) (v j y : ℕ) (some : 0 < j) (within : j ≤ J) (value : y ≡ e (j - 1))
+      (so_far : Emitted old cells m v (horner p k e J (steps_in old n.steps) (J - j))) where
     next_made : Made → Made
     next_made r = times p (squared p k r) y
 
-    next_is : next_made (horner p k e J (steps_in old n.steps) d) ≡ horner p k e J (steps_in old n.steps) (suc d)
+    next_is : next_made (horner p k e J (steps_in old n.steps) (J - j)) ≡ horner p k e J (steps_in old n.steps) (suc (J - j))
     unfolding next_made
-    next_is = ap (times p (squared p k (horner p k e J (steps_in old n.steps) d))) (value ∙ ap (λ (c : ℕ). e (J - c)) (add-one d))
+    next_is =
+        let place : j - 1 ≡ J - suc (J - j) = omega arith in
+        ap (times p (squared p k (horner p k e J (steps_in old n.steps) (J - j)))) (value ∙ ap e place)
 
-    more : Begins (horner p k e J (steps_in old n.steps) d).steps (next_made (horner p k e J (steps_in old n.steps) d)).steps
-    more = rw next_is (next_begins (steps_in old n.steps) d)
+    more : Begins (horner p k e J (steps_in old n.steps) (J - j)).steps (next_made (horner p k e J (steps_in old n.steps) (J - j))).steps
+    more = rw next_is (next_begins (steps_in old n.steps) (J - j))
 
     pub digit_room : StepsRoom p old n (horner p k e J (steps_in old n.steps) J).steps → StepsRoom p cells m (times p (squared p k (made (steps_in cells m.steps) v)) y).steps
     unfolding next_made
-    digit_room room = emits_room room next_made so_far more (rw next_is (digits_begin (steps_in old n.steps) (suc d) J (omega arith)))
+    digit_room room = emits_room room next_made so_far more (rw next_is (digits_begin (steps_in old n.steps) (suc (J - j)) J (omega arith)))
 
     pub digit_on : (cells' : List ℕ) (m' : Progress) (v' : ℕ) → Emitted cells cells' m' v' (times p (squared p k (made (steps_in cells m.steps) v)) y)
-        → Emitted old cells' m' v' (horner p k e J (steps_in old n.steps) (d + 1))
+        → Emitted old cells' m' v' (horner p k e J (steps_in old n.steps) (J - (j - 1)))
     unfolding next_made
-    digit_on cells' m' v' f = rw (add-one d, ← next_is) (emits_on next_made so_far more f)
-
-  pub digits_end : (old : List ℕ) (n : Progress) (cells : List ℕ) (m : Progress) (v d : ℕ) → d ≤ J → J ≤ d → Emitted old cells m v (horner p k e J (steps_in old n.steps) d)
-      → Emitted old cells m v (horner p k e J (steps_in old n.steps) J)
-  digits_end old n cells m v d h g so_far =
-      let last : d ≡ J = omega arith in
-      subst (λ (c : ℕ). Emitted old cells m v (horner p k e J (steps_in old n.steps) c)) last so_far
+    digit_on cells' m' v' f =
+        let next : J - (j - 1) ≡ suc (J - j) = omega arith in
+        rw (next, ← next_is) (emits_on next_made so_far more f)
 
   -- values that are equal one by one make the same
   pub horner_same : (f : ℕ → ℕ) → ((j : ℕ) → e j ≡ f j) → (before : List Step) (d : ℕ) → horner p k e J before d ≡ horner p k f J before d
@@ -79,8 +75,3 @@ module _ (p k : ℕ) (e : ℕ → ℕ) (J : ℕ) where
 -- a payslip only appends steps
 pub payslip_begins : (p : ℕ) (amounts : List ℕ) (k i : ℕ) (before : List Step) → Begins before (straus_payslip p amounts k i before).steps
 payslip_begins p amounts k i before = digits_begin p k (λ j. entry k (bases p) (p + 1) (digit_vector p amounts k i j)) (straus_digits p amounts k i) before 0 (straus_digits p amounts k i) (omega arith)
-
-pub digit_fits : (k d digits : ℕ) → k * (digits - 1) < 32 → d < digits → k * (digits - (d + 1)) < 32
-digit_fits k d digits room h =
-    let le : digits - (d + 1) ≤ digits - 1 = omega arith in
-    omega (arith, mul-le-mul_left k le)

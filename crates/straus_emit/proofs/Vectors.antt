@@ -3,8 +3,7 @@
 use mathlib.Core.Path.{◌≡◌, sym, ap, ap₂, ◌∙◌}
 use mathlib.Core.List.{List}
 use Prim.Native.Nat.{ℕ, ◌+◌, ◌-◌, ◌*◌, ◌/◌, ◌%◌, ◌^◌, ◌≤◌, ◌<◌}
-use native.Mathlib.Nat.{add_comm, one-mul, mul-suc, mul-le-mul_left, mul-le-mul_right}
-use native.Mathlib.Numerals.{add-one}
+use native.Mathlib.Nat.{add_comm, one-mul, mul-le-mul_right}
 use native.Mathlib.Omega.{arith}
 use lib.Bits.{bit_and, and_high}
 use lib.ListN.{length}
@@ -25,36 +24,11 @@ use Rattle.tables.specs.Table.{entry}
 use Rattle.straus_emit.specs.Inner.{PayslipOver, raised_at, mask_at, vector_at, digits_made, DigitsAsked}
 use Rattle.straus_emit.proofs.Emitting.{horner_same}
 
--- column c's place in a vector
-module _ (p k c : ℕ) (room : p + k * p < 32) (h : c < p) where
-  pub mask_fits : k + k * c ≤ 32
-  mask_fits =
-      let le : c + 1 ≤ p = omega arith in
-      omega (arith, mul-le-mul_left k le, ap (λ (n : ℕ). k * n) (add-one c), mul-suc k c)
-
-  pub place_fits : k * c ≤ 32
-  place_fits = omega (arith, mask_fits)
-
-  -- the same, below a number
-  pub mask_below : k + k * c < 33
-  mask_below = omega (arith, mask_fits)
-
-  pub place_below : k * c < 33
-  place_below = omega (arith, mask_fits)
-
-pub raised_told : (p : ℕ) (amounts : List ℕ) (k i c x r : ℕ) → x ≡ amount p amounts i c → r ≡ x * 2 ^ (k * c) → r ≡ raised_at p amounts k i c
-raised_told p amounts k i c x r e f = f ∙ ap (λ (y : ℕ). y * 2 ^ (k * c)) e
-
-module _ (k c top bottom : ℕ) (e : top ≡ 1 * 2 ^ (k + k * c)) (f : bottom ≡ 1 * 2 ^ (k * c)) where
-  pub mask_told : top - bottom ≡ mask_at k c
-  mask_told = ap₂ ◌-◌ (e ∙ one-mul _) (f ∙ one-mul _)
-
-  pub mask_some : bottom ≤ top
-  mask_some =
-      let rise : 2 ^ (k * c) ≤ 2 ^ (k + k * c) = pow_mono (omega arith) in
-      omega (arith, one-mul (2 ^ (k * c)), one-mul (2 ^ (k + k * c)))
-
-pub ruleset laying = (mask_fits, place_fits, mask_below, place_below, raised_told, mask_told, mask_some)
+-- a mask's upper end is above its lower one
+pub mask_some : (k c top bottom : ℕ) → top ≡ 1 * 2 ^ (k + k * c) → bottom ≡ 1 * 2 ^ (k * c) → bottom ≤ top
+mask_some k c top bottom e f =
+    let rise : 2 ^ (k * c) ≤ 2 ^ (k + k * c) = pow_mono (omega arith) in
+    omega (arith, one-mul (2 ^ (k * c)), one-mul (2 ^ (k + k * c)))
 
 digit_masked : (k x j c : ℕ) → bit_and (x * 2 ^ (k * c) / 2 ^ (k * j)) (mask_at k c) ≡ digit k x j * 2 ^ (k * c)
 digit_masked k x j c = and_high (x * 2 ^ (k * c) / 2 ^ (k * j)) k (k * c) ∙ ap (λ (y : ℕ). y % 2 ^ k * 2 ^ (k * c)) down
@@ -106,9 +80,5 @@ module _ {p : ℕ} {amounts : List ℕ} {k : ℕ} {inputs : List ℕ} {i : ℕ} 
       J = straus_digits p amounts k i
 
 -- a sum in the making is low where the whole is
-module _ (f : ℕ → ℕ) (p : ℕ) (low : sum_to p f < 2 ^ 32) where
-  pub part_low : (c v : ℕ) → c ≤ p → v ≡ sum_to c f → v < 2 ^ 32
-  part_low c v h e = omega (arith, sum_more f c p h)
-
-  pub next_low : (c v x : ℕ) → c < p → v ≡ sum_to c f → x ≡ f c → v + x < 2 ^ 32
-  next_low c v x h e is = part_low (c + 1) (v + x) (omega arith) (sum_on f c v x is e)
+pub next_low : (f : ℕ → ℕ) (p : ℕ) → sum_to p f < 2 ^ 32 → (c v x : ℕ) → c < p → v ≡ sum_to c f → x ≡ f c → v + x < 2 ^ 32
+next_low f p low c v x h e is = omega (arith, low, sum_more f (c + 1) p (omega arith), sum_on f c v x is e)

@@ -27,10 +27,8 @@ fn raise_amounts(p: usize, amounts: &[u32], k: usize, i: usize, cells: &mut [u64
     requires { WithRoom (PayslipAsked p amounts.now k i) (p ≤ length cells.old) }
     ensures { cells.new ≡ over (list_to p (raised_at p amounts.now k i)) cells.old }
 {
-    let mut c: usize = 0;
-    while c < p {
-        cells[c] = digits::raised(sheet::amount(p, amounts, i, c), k * c);
-        c += 1;
+    for (c, cell) in cells[..p].iter_mut().enumerate() {
+        *cell = digits::raised(sheet::amount(p, amounts, i, c), k * c);
     }
 }
 
@@ -39,10 +37,8 @@ fn fill_masks(p: usize, k: usize, cells: &mut [u64])
     requires { WithRoom (p + k * p < 32) (p ≤ length cells.old) }
     ensures { cells.new ≡ over (list_to p (mask_at k)) cells.old }
 {
-    let mut c: usize = 0;
-    while c < p {
-        cells[c] = digits::raised(1, k + k * c) - digits::raised(1, k * c);
-        c += 1;
+    for (c, cell) in cells[..p].iter_mut().enumerate() {
+        *cell = digits::raised(1, k + k * c) - digits::raised(1, k * c);
     }
 }
 
@@ -52,10 +48,8 @@ fn vector(p: usize, cells: &[u64], masks: &[u64], s: usize) -> u32
     ensures { result ≡ vector_at p cells.now masks.now s }
 {
     let mut v: u64 = 0;
-    let mut c: usize = 0;
-    while c < p {
-        v += (cells[c] >> s) & masks[c];
-        c += 1;
+    for (c, cell) in cells[..p].iter().enumerate() {
+        v += (cell >> s) & masks[c];
     }
     v as u32
 }
@@ -86,16 +80,11 @@ fn take_digits(
         (digits_made p k inputs.now cells.now masks.now digits (steps_in steps.old progress.steps)
         digits) }
 {
-    let mut r = PartialProduct {
-        progress: progress,
-        value: 0,
-    };
-    let mut d: usize = 0;
-    while d < digits {
-        let t = vector(p, cells, masks, k * (digits - (d + 1)));
+    let mut r = PartialProduct { progress, value: 0 };
+    for j in (0..digits).rev() {
+        let t = vector(p, cells, masks, k * j);
         let e = tables::entry(k, inputs, (p + 1) as u32, t);
         r = take_digit(p, k, r, e, steps);
-        d += 1;
     }
     r
 }
@@ -140,12 +129,10 @@ fn make_payslips(
         (payslips (straus_payslip p amounts.now k) (steps_in steps.old progress.steps) q) }
 {
     let mut s = progress;
-    let mut i: usize = 0;
-    while i < q {
+    for (i, output) in outputs[..q].iter_mut().enumerate() {
         let r = make_payslip(p, amounts, k, inputs, i, s, steps);
         s = r.progress;
-        outputs[i] = r.value;
-        i += 1;
+        *output = r.value;
     }
     s
 }
@@ -177,10 +164,8 @@ fn fill_bases(p: usize, cells: &mut [u32])
     requires { WithRoom (p ≤ most_columns) (p ≤ length cells.old) }
     ensures { cells.new ≡ over (bases p) cells.old }
 {
-    let mut c: usize = 0;
-    while c < p {
-        cells[c] = (c + 1) as u32;
-        c += 1;
+    for (c, cell) in cells[..p].iter_mut().enumerate() {
+        *cell = (c + 1) as u32;
     }
 }
 

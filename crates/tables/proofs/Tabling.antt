@@ -25,9 +25,6 @@ count_nonzero : (k t : ℕ) → 0 < t → 0 < digit_count k t
 count_nonzero k zero h = absurd (omega arith)
 count_nonzero k (suc t) h = count_some k t
 
-pub above_zero : (t : ℕ) → (t ≡ 0 → ⊥) → 0 < t
-above_zero t h = omega arith
-
 -- d is how many digits t has
 module _ (k t d : ℕ) (is : d ≡ digit_count k t) where
   pub digits_some : 0 < t → 1 ≤ d
@@ -59,7 +56,7 @@ pub entry_none : (k : ℕ) (inputs : List ℕ) (at t : ℕ) → t ≡ 0 → 0 �
 unfolding entry
 entry_none k inputs at t e = rw (eq_yes t 0 e)
 
-pub ruleset entering = (above_zero, digits_some, top_fits, input_place, digits_within, number_some, entry_none, entry_input, entry_made)
+pub ruleset entering = (digits_some, top_fits, input_place, digits_within, number_some, entry_none, entry_input, entry_made)
 
 -- l is the place of t's lowest digit that is not 0, and w is its weight
 module _ (k t l : ℕ) (is : l ≡ lowest k t) (some : 0 < k) (h : 0 < t) where

@@ -10,10 +10,12 @@ use products::Progress;
 
 // The value number of entry t, which is not zero and whose d digits are counted, of a table whose first step makes value at: an input for the unit
 // with as many digits, else a step.
+#[tactic(auto, using(crate::proofs::Tabling::entering))]
 fn counted_entry(k: usize, inputs: &[u32], at: u32, d: usize, t: u32) -> u32
     requires { CountedAsked k inputs.now at d t }
     ensures { result ≡ entry k inputs.now at t }
 {
+    // both are at hand before they are told apart, since the processor foresees badly which it is
     let unit = inputs[d - 1];
     let made = (at as usize + t as usize - d - 1) as u32;
     if t == digits::power(k * (d - 1)) {
@@ -24,29 +26,30 @@ fn counted_entry(k: usize, inputs: &[u32], at: u32, d: usize, t: u32) -> u32
 }
 
 // The value number of entry t of a table whose first step makes value at.
+#[tactic(auto, using(crate::proofs::Tabling::entering))]
 pub fn entry(k: usize, inputs: &[u32], at: u32, t: u32) -> u32
     requires { EntryAsked k inputs.now at t }
     ensures { result ≡ entry k inputs.now at t }
 {
     if t == 0 {
-        return 0;
+        0
+    } else {
+        counted_entry(k, inputs, at, digits::digit_count(k, t), t)
     }
-    counted_entry(k, inputs, at, digits::digit_count(k, t), t)
 }
 
 // The place of the lowest digit of t that is not 0, from the zeros below it. Digits of one bit are not cut, which spares a division.
+#[tactic(auto, using(crate::proofs::Trailing::trailing_bit, crate::proofs::Trailing::trailing_lowest))]
 fn lowest(k: usize, t: u32) -> usize
     requires { LowestAsked k t }
     ensures { result ≡ lowest k t }
 {
-    let zeros = u32::trailing_zeros(t) as usize;
-    if k == 1 {
-        return zeros;
-    }
-    zeros / k
+    let zeros = t.trailing_zeros() as usize;
+    if k == 1 { zeros } else { zeros / k }
 }
 
 // The step of entry t, which has d digits and is no unit. Its rest has as many digits.
+#[tactic(auto, using(crate::proofs::Tabling::extending))]
 fn put_entry(
     k: usize,
     inputs: &[u32],
@@ -79,10 +82,8 @@ fn make_row(
 {
     let end = digits::power(k * (d + 1));
     let mut s = progress;
-    let mut t = digits::power(k * d) + 1;
-    while t < end {
+    for t in digits::power(k * d) + 1..end {
         s = put_entry(k, inputs, at, d + 1, t, s, steps);
-        t += 1;
     }
     s
 }
@@ -102,10 +103,8 @@ pub fn make_table(
 {
     let at = (p + progress.steps + 1) as u32;
     let mut s = progress;
-    let mut d: usize = 0;
-    while d < inputs.len() {
+    for d in 0..inputs.len() {
         s = make_row(k, inputs, at, d, s, steps);
-        d += 1;
     }
     s
 }

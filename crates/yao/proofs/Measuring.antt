@@ -1,12 +1,13 @@
 -- A column's digits are those of its largest amount, and few; stored and read again they give the squarings of the definition, one by one and in their sum.
-use mathlib.Core.Path.{◌≡◌, sym, ap, ◌∙◌}
+use mathlib.Core.Path.{◌≡◌, ap, ◌∙◌}
 use mathlib.Core.List.{List}
 use Prim.Native.Nat.{ℕ, zero, suc, ◌+◌, ◌-◌, ◌*◌, ◌^◌, ◌≤◌, ◌<◌}
 use native.Mathlib.Nat.{mul-suc, mul_comm, zero-mul, mul-le-mul_left}
 use native.Mathlib.Decide.{dec_lt}
 use native.Mathlib.Numerals.{sub-one}
 use native.Mathlib.Omega.{arith}
-use lib.ListN.{length, get_or}
+use lib.ListN.{length, get_or, take}
+use lib.Seq.{get_or-take}
 use lib.Pow.{pow_mono}
 use Rattle.digits.specs.Digits.{digit_count}
 use Rattle.chain.specs.Written.{over}
@@ -16,7 +17,7 @@ use Rattle.digits.proofs.Range.{sum_same}
 use Rattle.methods.specs.Inner.{Largest, digits_at}
 use Rattle.methods.proofs.Filling.{filled_at}
 use Rattle.yao.specs.Yao.{yao_digits, yao_squarings}
-use Rattle.yao.specs.Inner.{DigitsFew, Measured, squarings_in, squarings_most}
+use Rattle.yao.specs.Inner.{Measured, squarings_in, squarings_most}
 
 -- a number of 32 bits has no digit that begins past them
 pub digits_few : (k x r : ℕ) → 0 < k → x < 2 ^ 32 → r ≡ digit_count k x → k * r ≤ 31 + k
@@ -35,9 +36,6 @@ pub digit_place : (k j digits : ℕ) → 0 < k → j < digits → k * digits ≤
 digit_place k j digits some h room = omega (arith, mul-le-mul_left k h, mul-suc k j)
 
 -- the squarings of a column
-pub squarings_none : (digits k : ℕ) → digits ≡ 0 → 0 ≡ (digits - 1) * k
-squarings_none digits k e = rw e (sym (zero-mul k))
-
 pub squarings_few : (k digits : ℕ) → k * digits ≤ 31 + k → (digits - 1) * k ≤ squarings_most
 squarings_few k zero h = rw (zero-mul k) (omega arith)
 squarings_few k (suc d) h = rw (sub-one (suc d)) (omega (arith, mul-suc k d, mul_comm k d))
@@ -55,13 +53,13 @@ columns_measured p q amounts k largest old cells some low l room e =
     at : (c : ℕ) → c < p → get_or cells c 0 ≡ digit_count k (get_or largest c 0)
     at = filled_at (digits_at k largest) old p cells e
 
--- read again
-pub column_few : (k n : ℕ) (cells : List ℕ) (c : ℕ) → DigitsFew k n cells → c < n → k * get_or cells c 0 ≤ 31 + k
-column_few k n cells c few less = few.few c less
-
 module _ (p q : ℕ) (amounts : List ℕ) (k : ℕ) (cells : List ℕ) (m : Measured p q amounts k cells) where
-  pub column_is : (c : ℕ) → c < p → get_or cells c 0 ≡ yao_digits p q amounts k c
-  column_is = m.are
+  -- read again from the front
+  pub column_is : (c : ℕ) → c < p → get_or (take p cells) c 0 ≡ yao_digits p q amounts k c
+  column_is c h = get_or-take p cells c 0 h ∙ m.are c h
+
+  pub column_few : (c : ℕ) → c < p → k * get_or (take p cells) c 0 ≤ 31 + k
+  column_few c h = rw get_or-take (m.narrow.few c h)
 
   -- they are those of the definition
   pub squarings_are : (c : ℕ) → c < p → squarings_in k cells c ≡ yao_squarings p q amounts k c

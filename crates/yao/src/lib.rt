@@ -6,12 +6,10 @@ ghost use Rattle.digits.specs.Inner.{Bounded};
 ghost use Rattle.yao.specs.Inner.{squarings_most};
 
 // How often a column of so many digits is squared.
+#[tactic(auto, using(crate::proofs::Measuring::squarings_few))]
 pub fn squarings_of(k: usize, digits: usize) -> usize
     requires { k * digits ≤ 31 + k }
     ensures { Bounded result ((digits - 1) * k) squarings_most }
 {
-    if digits == 0 {
-        return 0;
-    }
-    (digits - 1) * k
+    digits.saturating_sub(1) * k
 }

@@ -18,10 +18,8 @@ fn squaring_count(p: usize, k: usize, columns: &[u32]) -> usize
     ensures { Bounded result (sum_to p (squarings_in k columns.now)) (squarings_most * most_columns) }
 {
     let mut n: usize = 0;
-    let mut c: usize = 0;
-    while c < p {
-        n += yao::squarings_of(k, columns[c] as usize);
-        c += 1;
+    for digits in &columns[..p] {
+        n += yao::squarings_of(k, *digits as usize);
     }
     n
 }
@@ -31,20 +29,14 @@ fn amount_count(k: usize, digits: usize, x: u32) -> usize
     requires { (0 < k) × (k ≤ yao_most) × (k * digits ≤ 31 + k) }
     ensures { Bounded result (amount_count k digits x) amount_most }
 {
-    let mut z: usize = 0;
-    let mut h: u32 = 0;
-    let mut j: usize = 0;
-    while j < digits {
+    let mut nonzero: usize = 0;
+    let mut largest: u32 = 0;
+    for j in 0..digits {
         let d = digits::digit(k, x, j);
-        z += counting::sign(d);
-        h = counting::larger(h, d);
-        j += 1;
+        nonzero += counting::sign(d);
+        largest = counting::larger(largest, d);
     }
-    let t = z + h as usize;
-    if t < 2 {
-        return 0;
-    }
-    t - 2
+    counting::lessened(nonzero + largest as usize, 2)
 }
 
 // The ceiling's part for an amount x in a column of so many digits.
@@ -53,9 +45,10 @@ fn amount_ceiling(k: usize, digits: usize, x: u32) -> usize
     ensures { Bounded result (amount_ceiling k digits x) amount_most }
 {
     if x == 0 {
-        return 0;
+        0
+    } else {
+        counting::lessened(digits + digits::power(k) as usize, 3)
     }
-    counting::lessened(digits + digits::power(k) as usize, 3)
 }
 
 // The steps of payslip i, and its part of the ceiling.
@@ -63,24 +56,20 @@ fn payslip_quote(p: usize, q: usize, amounts: &[u32], k: usize, columns: &[u32],
     requires { YaoPayslipAsked p q amounts.now k columns.now i }
     ensures { QuoteWithin result (yao_payslip_count p q amounts.now k i) (yao_payslip_ceiling p q amounts.now k i) yao_payslip_most }
 {
-    let mut n: usize = 0;
-    let mut most: usize = 0;
-    let mut z: usize = 0;
-    let mut c: usize = 0;
-    while c < p {
-        let digits = columns[c] as usize;
+    let mut count: usize = 0;
+    let mut ceiling: usize = 0;
+    let mut nonzero: usize = 0;
+    for (c, digits) in columns[..p].iter().enumerate() {
+        let digits = *digits as usize;
         let x = sheet::amount(p, amounts, i, c);
-        n += amount_count(k, digits, x);
-        most += amount_ceiling(k, digits, x);
-        z += counting::sign(x);
-        c += 1;
+        count += amount_count(k, digits, x);
+        ceiling += amount_ceiling(k, digits, x);
+        nonzero += counting::sign(x);
     }
-    let joins = counting::lessened(z, 1);
-    let count = n + joins;
-    let ceiling = most + joins;
+    let joins = counting::lessened(nonzero, 1);
     Quote {
-        count: count,
-        ceiling: ceiling,
+        count: count + joins,
+        ceiling: ceiling + joins,
     }
 }
 
@@ -90,19 +79,14 @@ fn chain_quote(p: usize, q: usize, amounts: &[u32], k: usize, columns: &[u32]) -
     ensures { QuoteOf result (yao_method p q amounts.now k) }
 {
     let squarings = squaring_count(p, k, columns);
-    let mut n = squarings;
-    let mut most = squarings;
-    let mut i: usize = 0;
-    while i < q {
+    let mut count = squarings;
+    let mut ceiling = squarings;
+    for i in 0..q {
         let payslip = payslip_quote(p, q, amounts, k, columns, i);
-        n += payslip.count;
-        most += payslip.ceiling;
-        i += 1;
+        count += payslip.count;
+        ceiling += payslip.ceiling;
     }
-    Quote {
-        count: n,
-        ceiling: most,
-    }
+    Quote { count, ceiling }
 }
 
 // The number of steps of the chain, and its ceiling.

@@ -163,9 +163,3 @@ module _ (col : Column) (before : List Step) (old cells : List ℕ) (n : Progres
 pub sweep_start : (p : ℕ) (col : Column) (cells : List ℕ) (n : Progress) (whole : List Step) → StepsRoom p cells n whole
     → SweepEmitted cells cells n 0 0 (sweep_in col (steps_in cells n.steps) 0)
 sweep_start p col cells n whole room = record { stored = stored_own cells n room.so_far; a_is = refl; b_is = refl }
-
-pub sweep_end : (col : Column) (before : List Step) (old cells : List ℕ) (n : Progress) (a b i top : ℕ) → top ≡ 2 ^ col.k → i + 1 ≤ top → top ≤ i + 1
-    → SweepEmitted old cells n a b (sweep_in col before i) → SweepEmitted old cells n a b (sweep_in col before (2 ^ col.k - 1))
-sweep_end col before old cells n a b i top e h g r =
-    let last : 2 ^ col.k - 1 ≡ i = omega arith in
-    rw last r

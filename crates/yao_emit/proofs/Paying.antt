@@ -89,12 +89,6 @@ module _ (p q : ℕ) (amounts : List ℕ) (k i : ℕ) where
         → Emitted old cells' m' v' (yao_payslip p q amounts k i before (c + 1))
     column_on cells' m' v' t = rw (add-one c, ← next_is) (emits_on (joined column) e more t)
 
-  pub columns_end : (before : List Step) (old cells : List ℕ) (m : Progress) (v c : ℕ) → c ≤ p → p ≤ c → Emitted old cells m v (yao_payslip p q amounts k i before c)
-      → Emitted old cells m v (yao_payslip p q amounts k i before p)
-  columns_end before old cells m v c h g e =
-      let last : c ≡ p = omega arith in
-      subst (λ (d : ℕ). Emitted old cells m v (yao_payslip p q amounts k i before d)) last e
-
 -- the value before the next column's powers
 pub first_on : (p q : ℕ) (amounts : List ℕ) (k first c d r : ℕ) → d ≡ yao_digits p q amounts k c → r ≡ (d - 1) * k
     → first ≡ p + sum_to c (yao_squarings p q amounts k) → first + r ≡ p + sum_to (c + 1) (yao_squarings p q amounts k)

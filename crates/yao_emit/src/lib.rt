@@ -47,12 +47,9 @@ fn gather_one(
         (gather_one p digit d (product_in steps.old b) power) }
 {
     if digit == d {
-        return products::times(p, b, power, steps);
-    }
-    let before = b.progress;
-    PartialProduct {
-        progress: before,
-        value: b.value,
+        products::times(p, b, power, steps)
+    } else {
+        b
     }
 }
 
@@ -63,18 +60,10 @@ fn gather_powers(column: Column, d: u32, b: PartialProduct, steps: &mut [u32]) -
         (gather_in column d column.digits (product_in steps.old b)) }
 {
     let mut r = b;
-    let mut i: usize = 0;
-    while i < column.digits {
+    for i in 0..column.digits {
         let power = methods::power_at(column.c, column.first, column.k * i);
-        r = gather_one(
-            column.p,
-            digits::digit(column.k, column.x, i),
-            d,
-            r,
-            power,
-            steps,
-        );
-        i += 1;
+        let digit = digits::digit(column.k, column.x, i);
+        r = gather_one(column.p, digit, d, r, power, steps);
     }
     r
 }
@@ -86,41 +75,35 @@ fn sweep_column(column: Column, progress: Progress, steps: &mut [u32]) -> Pair
     ensures { SweepEmitted steps.old steps.new result.progress result.a result.b
         (sweep_in column (steps_in steps.old progress.steps) (2 ^ column.k - 1)) }
 {
-    let top = digits::power(column.k);
     let mut s = Pair {
-        progress: progress,
+        progress,
         a: 0,
         b: 0,
     };
-    let mut i: u32 = 0;
-    while i + 1 < top {
-        let before = s.progress;
+    for d in (1..digits::power(column.k)).rev() {
         let b = gather_powers(
             column,
-            top - (i + 1),
+            d,
             PartialProduct {
-                progress: before,
+                progress: s.progress,
                 value: s.b,
             },
             steps,
         );
-        let gathered = b.progress;
         let a = products::times(
             column.p,
             PartialProduct {
-                progress: gathered,
+                progress: b.progress,
                 value: s.a,
             },
             b.value,
             steps,
         );
-        let taken = a.progress;
         s = Pair {
-            progress: taken,
+            progress: a.progress,
             a: a.value,
             b: b.value,
         };
-        i += 1;
     }
     s
 }
@@ -130,10 +113,8 @@ fn all_squarings(p: usize, k: usize, columns: &[u32], counts: &mut [u32])
     requires { WithRoom (DigitsFew k p columns.now) (p ≤ length counts.old) }
     ensures { counts.new ≡ over (list_to p (squarings_in k columns.now)) counts.old }
 {
-    let mut c: usize = 0;
-    while c < p {
-        counts[c] = yao::squarings_of(k, columns[c] as usize) as u32;
-        c += 1;
+    for (c, count) in counts[..p].iter_mut().enumerate() {
+        *count = yao::squarings_of(k, columns[c] as usize) as u32;
     }
 }
 
@@ -143,15 +124,12 @@ fn join_column(column: Column, m: PartialProduct, steps: &mut [u32]) -> PartialP
     ensures { Emitted steps.old steps.new result.progress result.value
         (joined column (product_in steps.old m)) }
 {
-    let before = m.progress;
-    let v = m.value;
-    let s = sweep_column(column, before, steps);
-    let swept = s.progress;
+    let s = sweep_column(column, m.progress, steps);
     products::times(
         column.p,
         PartialProduct {
-            progress: swept,
-            value: v,
+            progress: s.progress,
+            value: m.value,
         },
         s.a,
         steps,
@@ -174,25 +152,20 @@ fn make_payslip(
     ensures { Emitted steps.old steps.new result.progress result.value
         (yao_payslip p q amounts.now k i (steps_in steps.old progress.steps) p) }
 {
-    let mut r = PartialProduct {
-        progress: progress,
-        value: 0,
-    };
+    let mut r = PartialProduct { progress, value: 0 };
     let mut first = p;
-    let mut c: usize = 0;
-    while c < p {
-        let digits = columns[c] as usize;
+    for (c, digits) in columns[..p].iter().enumerate() {
+        let digits = *digits as usize;
         let column = Column {
-            p: p,
-            k: k,
-            c: c,
-            first: first,
-            digits: digits,
+            p,
+            k,
+            c,
+            first,
+            digits,
             x: sheet::amount(p, amounts, i, c),
         };
         r = join_column(column, r, steps);
         first += yao::squarings_of(k, digits);
-        c += 1;
     }
     r
 }
@@ -214,12 +187,10 @@ fn make_payslips(
         (payslips (yao_slip p q amounts.now k) (steps_in steps.old progress.steps) q) }
 {
     let mut s = progress;
-    let mut i: usize = 0;
-    while i < q {
+    for (i, output) in outputs[..q].iter_mut().enumerate() {
         let r = make_payslip(p, q, amounts, k, columns, i, s, steps);
         s = r.progress;
-        outputs[i] = r.value;
-        i += 1;
+        *output = r.value;
     }
     s
 }

@@ -1,0 +1,7 @@
+-- The cells filled one by one stand before the rest of the slice.
+use Rattle.std.proofs.Common.{rules}
+use Rattle.methods.proofs.Filling.{front_filled}
+use Rattle.yao_emit.proofs.all_squarings.Goals as goal
+
+pub returns : goal.returns
+returns c = search (rules, front_filled)

@@ -1,16 +1,13 @@
--- Numbers laid from a cell on, one a turn: those so far stand there, and no other cell changed. A copy lays the numbers of other cells; the cell that is
--- copied next is not yet written, since it stands before all that are, or not before the next.
+-- Numbers laid from a cell on, one a turn: those so far stand there, and no other cell changed. A copy lays the numbers of other cells, all at once.
 use mathlib.Core.Path.{◌≡◌, refl, sym, ap, ◌∙◌}
-use mathlib.Core.Logic.{◌⊎◌, inl, inr}
 use mathlib.Core.List.{List, [], ◌∷◌, ◌++◌}
 use Prim.Native.Nat.{ℕ, suc, ◌+◌, ◌-◌, ◌≤◌, ◌<◌}
 use native.Mathlib.Omega.{arith}
 use lib.ListN.{length, get_or, set, length-set}
-use lib.Seq.{slice, slice_empty, get_or-set_other}
+use lib.Seq.{slice, slice_empty, length-slice, get_or-set_other}
 use Rattle.digits.specs.Range.{list_to}
-use Rattle.digits.proofs.Listed.{length-list, get_d_list}
 use Rattle.rows.specs.Inner.{Apart}
-use Rattle.rows.proofs.Lists.{slice_is, slice_set}
+use Rattle.rows.proofs.Lists.{slice_cell, slice_is, slice_set}
 use Rattle.cuts.specs.Inner.{CopyAsked, Copied}
 
 module _ (f : ℕ → ℕ) (r : ℕ) (old : List ℕ) where
@@ -46,50 +43,22 @@ module _ (f : ℕ → ℕ) (r : ℕ) (old : List ℕ) where
             ∙ sym (ap (λ (n : ℕ). list_to n f) next);
       }
 
-module _ (old : List ℕ) (from to r : ℕ) where
-  abbrev source : ℕ → ℕ
-  source k = get_or old (from + k) 0
+-- cells that stand at r on as they stood at others, while no other cell changed, are copied
+pub copied : (old new : List ℕ) (from to r : ℕ) → CopyAsked old from to r → length new ≡ length old
+    → ((k : ℕ) → r ≤ k → k < r + (to - from) → get_or new k 0 ≡ get_or old (from + (k - r)) 0)
+    → ((k : ℕ) → k < r → get_or new k 0 ≡ get_or old k 0) → ((k : ℕ) → r + (to - from) ≤ k → get_or new k 0 ≡ get_or old k 0)
+    → Copied from to r (r + (to - from)) old new
+copied old new from to r asked size are before behind =
+    record {
+      apart = record { size = size; before = before; behind = behind };
+      end = refl;
+      are =
+          slice_is r (r + (to - from)) new (slice from to old) (omega (arith, asked.room)) (omega (arith, long))
+          (λ i g. are (r + i) (omega arith) (omega (arith, long)) ∙ back i ∙ sym (slice_cell from to old i (omega (arith, long))));
+    }
+  where
+    long : length (slice from to old) ≡ to - from
+    long = length-slice from to old asked.inside
 
-  pub record CopyTo (e i : ℕ) (s : List ℕ) : Type 0 where
-    pub after : from ≤ i
-    pub within : i ≤ to
-    pub at : e ≡ r + (i - from)
-    pub laid : Laid source r old e s
-
-  pub copy_none : CopyAsked old from to r → CopyTo r from old
-  copy_none asked = record { after = omega arith; within = asked.order; at = omega arith; laid = lay_none source r old }
-
-  module _ (asked : CopyAsked old from to r) (e i : ℕ) (s : List ℕ) (d : CopyTo e i s) where
-    pub copy_room : i < to → (e < length s) × (i < length s)
-    copy_room h =
-        (omega (arith, d.at, d.laid.apart.size, asked.room, d.after), omega (arith, d.laid.apart.size, asked.inside))
-
-    pub copy_more : i < to → CopyTo (e + 1) (i + 1) (set s e (get_or s i 0))
-    copy_more h =
-        record {
-          after = omega (arith, d.after);
-          within = omega arith;
-          at = omega (arith, d.at, d.after);
-          laid = lay_more source r old e (get_or s i 0) s d.laid (omega (arith, copy_room h, d.laid.apart.size)) (unwritten asked.away ∙ same);
-        }
-      where
-        same : get_or old i 0 ≡ source (e - r)
-        same = let q : i ≡ from + (e - r) = omega (arith, d.at, d.after) in ap (λ (c : ℕ). get_or old c 0) q
-
-        unwritten : (to ≤ r) ⊎ (r ≤ from) → get_or s i 0 ≡ get_or old i 0
-        unwritten (inl low) = d.laid.apart.before i (omega arith)
-        unwritten (inr high) = d.laid.apart.behind i (omega (arith, d.at, d.after))
-
-    pub copy_all : to ≤ i → Copied from to r e old s
-    copy_all h =
-        let long : e - r ≡ to - from = omega (arith, d.at, d.within) in
-        record {
-          apart = d.laid.apart;
-          end = omega (arith, d.at, d.within);
-          are = d.laid.are ∙ ap (λ (n : ℕ). list_to n source) long ∙ sym whole;
-        }
-      where
-        whole : slice from to old ≡ list_to (to - from) source
-        whole =
-            slice_is from to old (list_to (to - from) source) asked.inside (sym (length-list (to - from) source))
-            (λ k g. sym (get_d_list (to - from) source 0 k (omega (arith, length-list (to - from) source))))
+    back : (i : ℕ) → get_or old (from + (r + i - r)) 0 ≡ get_or old (from + i) 0
+    back i = let q : r + i - r ≡ i = omega arith in ap (λ (c : ℕ). get_or old (from + c) 0) q

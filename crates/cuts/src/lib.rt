@@ -25,14 +25,12 @@ fn run_end(s: &[u32], i: usize, to: usize, limit: u32) -> usize
     requires { (i ≤ to) × (to ≤ length s.now) }
     ensures { RunEnds s.now i to limit result }
 {
-    let mut e = i;
-    while e < to {
-        if limit <= s[e] {
-            return e;
+    for (k, x) in s[i..to].iter().enumerate() {
+        if limit <= *x {
+            return i + k;
         }
-        e += 1;
     }
-    e
+    to
 }
 
 // The keys of the clumps of b in the cells from .. to laid from r on: where they end.
@@ -42,6 +40,7 @@ fn cut_run(s: &mut [u32], from: usize, to: usize, b: usize, limit: u32, top: u32
 {
     let mut e = r;
     let mut i = from;
+    // It steps by b, so a while says it plainer than a range.
     while i < to {
         s[e] = keys::key(s, i, i + b, limit, top);
         e += 1;
@@ -55,14 +54,8 @@ pub fn copy(s: &mut [u32], from: usize, to: usize, r: usize) -> usize
     requires { CopyAsked s.old from to r }
     ensures { Copied from to r result s.old s.new }
 {
-    let mut e = r;
-    let mut i = from;
-    while i < to {
-        s[e] = s[i];
-        e += 1;
-        i += 1;
-    }
-    e
+    s.copy_within(from..to, r);
+    r + (to - from)
 }
 
 // The last key of a part.
@@ -90,9 +83,9 @@ fn cut_part(
     let limit = (part + 1) * a;
     let top = last_key(part, a);
     let w = to - (to - from) % b;
-    let k = cut_run(s, from, w, b, limit, top, keys);
-    let r = copy(s, w, to, rest);
-    Ends { keys: k, rest: r }
+    let keys = cut_run(s, from, w, b, limit, top, keys);
+    let rest = copy(s, w, to, rest);
+    Ends { keys, rest }
 }
 
 // A row, in the cells from .. to, cut: the keys of its clumps from `keys` on, and its overflow from `rest` on.
@@ -108,18 +101,16 @@ fn cut_row(
     requires { RowAsked s.old from to a b keys rest }
     ensures { RowCut from to a b keys rest result.keys result.rest s.old s.new }
 {
+    let mut ends = Ends { keys, rest };
     let mut i = from;
-    let mut k = keys;
-    let mut r = rest;
+    // Each turn takes a whole run, so no range counts the turns.
     while i < to {
         let part = s[i] / a;
         let e = run_end(s, i, to, (part + 1) * a);
-        let ends = cut_part(s, i, e, part, a, b, k, r);
-        k = ends.keys;
-        r = ends.rest;
+        ends = cut_part(s, i, e, part, a, b, ends.keys, ends.rest);
         i = e;
     }
-    Ends { keys: k, rest: r }
+    ends
 }
 
 // The rows cut one after the other, the first places being set.
@@ -127,22 +118,18 @@ fn cut_each(s: &mut [u32], at: usize, m: usize, l: Pair, keys: usize, rest: usiz
     requires { Placed s.old at m l keys rest }
     ensures { RowsCut at m l keys rest result s.old s.new }
 {
-    let a = l.a;
-    let b = l.b;
-    let mut j: usize = 0;
-    let mut k = keys + m + 1;
-    let mut r = rest + m + 1;
-    while j < m {
+    let mut ends = Ends {
+        keys: keys + m + 1,
+        rest: rest + m + 1,
+    };
+    for j in 0..m {
         let f = s[at + j] as usize;
         let t = s[at + j + 1] as usize;
-        let ends = cut_row(s, f, t, a, b, k, r);
-        k = ends.keys;
-        r = ends.rest;
-        s[keys + j + 1] = k as u32;
-        s[rest + j + 1] = r as u32;
-        j += 1;
+        ends = cut_row(s, f, t, l.a, l.b, ends.keys, ends.rest);
+        s[keys + j + 1] = ends.keys as u32;
+        s[rest + j + 1] = ends.rest as u32;
     }
-    Ends { keys: k, rest: r }
+    ends
 }
 
 // Each of the m rows at a cell cut: the keys of its clumps in a row at `keys`, and its overflow in a row at `rest`.

@@ -26,7 +26,7 @@ use Rattle.groups.specs.Groups.{column_bits, group, group_count, group_size, inp
 use Rattle.groups.specs.Inner.{numbers_of}
 use Rattle.cutting.specs.Inner.{Cut, CutUp, Entered, number_at}
 use Rattle.groups.proofs.Groups.{get_d_group, length-group, weigh_vector}
-use Rattle.groups.proofs.Inputs.{get_d_over, place}
+use Rattle.groups.proofs.Inputs.{get_d_over}
 use Rattle.groups.proofs.Members.{amount_fits, selection_count, selection_two}
 use Rattle.groups.proofs.Numbering.{filled_on}
 

@@ -26,21 +26,18 @@ fn front(c: usize, bits: u64) -> u32
 }
 
 // The parts of c bits cut off a row as long as it has so many, each into the cell of its group.
-fn cut_parts(c: usize, row: Row, cells: &mut [u32]) -> Row
+fn cut_parts(c: usize, mut row: Row, cells: &mut [u32]) -> Row
     requires { (1 ≤ c) × (c ≤ most_members) × (row.g + row.held ≤ length cells.old) }
     ensures { CutUp c row result cells.old cells.new }
 {
-    let mut r = row;
-    while c <= r.held {
-        let g = r.g;
-        cells[g] = front(c, r.bits);
-        r = Row {
-            bits: r.bits >> c,
-            held: r.held - c,
-            g: g + 1,
-        };
+    // Each turn takes c off what is held, so a while says plainer than a range when it ends.
+    while c <= row.held {
+        cells[row.g] = front(c, row.bits);
+        row.bits >>= c;
+        row.held -= c;
+        row.g += 1;
     }
-    r
+    row
 }
 
 // The columns of payslip i one after the other in a row, and its whole parts cut off.
@@ -53,16 +50,10 @@ fn enter_columns(s: Grouping, amounts: &[u32], bits: &[u32], i: usize, cells: &m
         held: 0,
         g: 0,
     };
-    let mut col: usize = 0;
-    while col < s.p {
-        let x = digits::raised(sheet::amount(s.p, amounts, i, col), r.held);
-        let row = Row {
-            bits: r.bits + x,
-            held: r.held + bits[col] as usize,
-            g: r.g,
-        };
-        r = cut_parts(s.c, row, cells);
-        col += 1;
+    for (col, b) in bits.iter().enumerate() {
+        r.bits += digits::raised(sheet::amount(s.p, amounts, i, col), r.held);
+        r.held += *b as usize;
+        r = cut_parts(s.c, r, cells);
     }
     r
 }
@@ -73,8 +64,7 @@ pub fn number_parts(s: Grouping, amounts: &[u32], bits: &[u32], i: usize, cells:
     ensures { cells.new ≡ over (part_numbers s amounts.now i) cells.old }
 {
     let r = enter_columns(s, amounts, bits, i, cells);
-    let g = r.g;
     if r.held != 0 {
-        cells[g] = r.bits as u32;
+        cells[r.g] = r.bits as u32;
     }
 }

@@ -14,14 +14,13 @@ use groups::Grouping;
 use products::Progress;
 
 // The numbers of the first n powers of a column, whose squarings are made after value first, from a cell on.
+#[tactic(auto, using(groups::proofs::Numbering::fill_start, groups::proofs::Numbering::filled_on, groups::proofs::Numbering::filled_end))]
 fn number_column(col: usize, first: usize, n: usize, at: usize, cells: &mut [u32])
     requires { (col < most_columns) × (first + n < 2 ^ 32) × (at + n ≤ length cells.old) }
     ensures { cells.new ≡ laid at (list_to n (power_at col first)) cells.old }
 {
-    let mut j: usize = 0;
-    while j < n {
+    for j in 0..n {
         cells[at + j] = methods::power_at(col, first, j);
-        j += 1;
     }
 }
 
@@ -32,13 +31,11 @@ fn number_inputs(bits: &[u32], cells: &mut [u32])
 {
     let mut at: usize = 0;
     let mut first = bits.len();
-    let mut col: usize = 0;
-    while col < bits.len() {
-        let n = bits[col] as usize;
+    for (col, b) in bits.iter().enumerate() {
+        let n = *b as usize;
         number_column(col, first, n, at, cells);
         at += n;
         first += counting::lessened(n, 1);
-        col += 1;
     }
 }
 
@@ -47,10 +44,8 @@ fn count_squarings(bits: &[u32], cells: &mut [u32])
     requires { length bits.now ≤ length cells.old }
     ensures { cells.new ≡ over (list_to (length bits.now) (bits_less bits.now 1)) cells.old }
 {
-    let mut col: usize = 0;
-    while col < bits.len() {
-        cells[col] = counting::lessened(bits[col] as usize, 1) as u32;
-        col += 1;
+    for (col, b) in bits.iter().enumerate() {
+        cells[col] = counting::lessened(*b as usize, 1) as u32;
     }
 }
 
@@ -66,20 +61,17 @@ fn make_squarings(bits: &[u32], steps: &mut [u32]) -> Progress
 }
 
 // The tables of the groups of these inputs.
-fn make_tables(s: Grouping, members: &[u32], progress: Progress, steps: &mut [u32]) -> Progress
+fn make_tables(s: Grouping, members: &[u32], mut progress: Progress, steps: &mut [u32]) -> Progress
     requires { TablesRoom s members.now steps.old progress }
     ensures { StepsStored steps.old steps.new result
         (tables_after s members.now (steps_in steps.old progress.steps)) }
 {
-    let mut end = progress;
-    let mut g: usize = 0;
-    while g < s.groups {
+    for g in 0..s.groups {
         let from = g * s.c;
         let to = from + subsets::group_size(s.c, s.inputs, g);
-        end = tables::make_table(s.p, 1, &members[from..to], end, steps);
-        g += 1;
+        progress = tables::make_table(s.p, 1, &members[from..to], progress, steps);
     }
-    end
+    progress
 }
 
 // The squarings and the tables of the groups, for columns of these bits; the inputs' value numbers go into members.
@@ -88,7 +80,6 @@ pub fn make_groups(s: Grouping, bits: &[u32], members: &mut [u32], steps: &mut [
     ensures { GroupsMade s bits.now members.old steps.old members.new steps.new result }
 {
     number_inputs(bits, members);
-    let w = s.inputs;
     let first = make_squarings(bits, steps);
-    make_tables(s, &members[..w], first, steps)
+    make_tables(s, &members[..s.inputs], first, steps)
 }

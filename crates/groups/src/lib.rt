@@ -27,10 +27,8 @@ fn column_sum(bits: &[u32], less: usize) -> usize
     ensures { Bounded result (sum_to (length bits.now) (bits_less bits.now less)) most_inputs }
 {
     let mut s: usize = 0;
-    let mut col: usize = 0;
-    while col < bits.len() {
-        s += counting::lessened(bits[col] as usize, less);
-        col += 1;
+    for b in bits {
+        s += counting::lessened(*b as usize, less);
     }
     s
 }
@@ -49,15 +47,15 @@ pub fn group_columns(p: usize, q: usize, c: usize, largest: &[u32], cells: &mut 
     ensures { GroupedBy p q c largest.now (take p cells.new) result }
 {
     measuring::measure_digits(p, 1, largest, cells);
-    let w = column_sum(&cells[..p], 0);
-    let groups = group_count(c, w);
+    let inputs = column_sum(&cells[..p], 0);
+    let groups = group_count(c, inputs);
     let squarings = column_sum(&cells[..p], 1);
     Grouping {
-        p: p,
-        q: q,
-        c: c,
-        inputs: w,
-        groups: groups,
-        squarings: squarings,
+        p,
+        q,
+        c,
+        inputs,
+        groups,
+        squarings,
     }
 }

@@ -4,29 +4,28 @@ use mathlib.Core.List.{List, ◌∷◌}
 use Prim.Native.Nat.{ℕ, ◌+◌, ◌-◌, ◌^◌, ◌≤◌, ◌<◌}
 use native.Mathlib.Numerals.{add-one}
 use native.Mathlib.Omega.{arith}
-use lib.ListN.{get_or}
-use lib.Seq.{slice, slice-cons, slice_empty}
+use lib.ListN.{length, get_or, drop, drop_of_length-le}
+use lib.Seq.{drop-cons}
 use Rattle.clumps.specs.Clumps.{most_part}
-use Rattle.keys.specs.Inner.{Climbs, weight_of, KeyAsked}
+use Rattle.keys.specs.Inner.{Climbs, weight_of}
 use Rattle.keys.proofs.Weights.{climbs_lower}
 
-module _ (s : List ℕ) (from to limit top : ℕ) where
+module _ (u : List ℕ) (limit top : ℕ) where
   pub record Weighed (k i : ℕ) : Type 0 where
-    pub high : i ≤ to
-    pub climbs : Climbs (limit - most_part) limit (slice i to s)
-    pub left : k ≡ top - weight_of limit (slice from to s) + weight_of limit (slice i to s)
+    pub climbs : Climbs (limit - most_part) limit (drop i u)
+    pub left : k ≡ top - weight_of limit u + weight_of limit (drop i u)
 
-  pub weighed_none : KeyAsked s from to limit top → Weighed top from
-  weighed_none asked = record { high = asked.rises; climbs = asked.climbs; left = omega (arith, asked.light) }
+  pub weighed_none : Climbs (limit - most_part) limit u → weight_of limit u ≤ top → Weighed top 0
+  weighed_none climbs light = record { climbs = climbs; left = omega (arith, light) }
 
-  module _ (asked : KeyAsked s from to limit top) (k i : ℕ) (d : Weighed k i) (h : i < to) where
+  module _ (k i : ℕ) (d : Weighed k i) (h : i < length u) where
     abbrev x : ℕ
-    x = get_or s i 0
+    x = get_or u i 0
 
-    parted : slice i to s ≡ x ∷ slice (i + 1) to s
-    parted = slice-cons i to s 0 h asked.inside ∙ ap (λ (j : ℕ). x ∷ slice j to s) (sym (add-one i))
+    parted : drop i u ≡ x ∷ drop (i + 1) u
+    parted = drop-cons u i 0 h ∙ ap (λ (j : ℕ). x ∷ drop j u) (sym (add-one i))
 
-    turn : (limit - most_part ≤ x) × (x < limit) × Climbs (x + 1) limit (slice (i + 1) to s)
+    turn : (limit - most_part ≤ x) × (x < limit) × Climbs (x + 1) limit (drop (i + 1) u)
     turn = subst (Climbs (limit - most_part) limit) parted d.climbs
 
     pub weighed_below : x < limit
@@ -41,13 +40,11 @@ module _ (s : List ℕ) (from to limit top : ℕ) where
     pub weighed_on : Weighed (k - 2 ^ (limit - 1 - x)) (i + 1)
     weighed_on =
         record {
-          high = omega arith;
-          climbs = climbs_lower (limit - most_part) (x + 1) limit (slice (i + 1) to s) (omega (arith, turn.0)) turn.2;
+          climbs = climbs_lower (limit - most_part) (x + 1) limit (drop (i + 1) u) (omega (arith, turn.0)) turn.2;
           left = omega (arith, d.left, ap (weight_of limit) parted);
         }
 
-  pub weighed_all : (k i : ℕ) → Weighed k i → to ≤ i → k ≡ top - weight_of limit (slice from to s)
+  pub weighed_all : (k i : ℕ) → Weighed k i → length u ≤ i → k ≡ top - weight_of limit u
   weighed_all k i d h =
-      let e : i ≡ to = omega (arith, d.high) in
-      let none : weight_of limit (slice i to s) ≡ 0 = ap (weight_of limit) (ap (λ (j : ℕ). slice j to s) e ∙ slice_empty to s) in
+      let none : weight_of limit (drop i u) ≡ 0 = ap (weight_of limit) (drop_of_length-le u h) in
       omega (arith, d.left)

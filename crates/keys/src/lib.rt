@@ -12,10 +12,8 @@ pub fn key(s: &[u32], from: usize, to: usize, limit: u32, top: u32) -> u32
     ensures { result ≡ top - weight_of limit (slice from to s.now) }
 {
     let mut k = top;
-    let mut i = from;
-    while i < to {
-        k -= digits::power((limit - 1 - s[i]) as usize);
-        i += 1;
+    for x in &s[from..to] {
+        k -= digits::power((limit - 1 - *x) as usize);
     }
     k
 }
@@ -27,9 +25,7 @@ fn lay_weight(s: &mut [u32], to: usize, n: usize, weight: u32, r: usize) -> usiz
 {
     let mut w = weight;
     let mut e = r;
-    let mut i = n;
-    while 0 < i {
-        i -= 1;
+    for i in (0..n).rev() {
         let own = digits::power(i);
         if own <= w {
             s[e] = (to - 1 - i) as u32;
@@ -56,12 +52,10 @@ fn lay_rows(s: &mut [u32], keys: usize, k: usize, a: usize, to: usize) -> usize
     ensures { RowsOver to k k result (λ j. clump_in a s.old (keys + j)) s.old s.new }
 {
     let mut e = to + k + 1;
-    let mut j: usize = 0;
-    while j < k {
+    for j in 0..k {
         let key = s[keys + j];
         e = lay_clump(s, key, a, e);
         s[to + j + 1] = e as u32;
-        j += 1;
     }
     e
 }

@@ -45,9 +45,5 @@ pub fn cut_level(
     let clumps = ranks::rank(s, keys + m + 1, ends.keys, table, size);
     let k = clumps - first;
     let end = keys::lay_clumps(s, first, k, a, clumps);
-    Clumped {
-        clumps: clumps,
-        k: k,
-        end: end,
-    }
+    Clumped { clumps, k, end }
 }

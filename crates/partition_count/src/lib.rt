@@ -21,15 +21,10 @@ fn joins(numbers: &[u32]) -> usize
     ensures { Bounded result (sum_to (length numbers.now) (λ g. sign (counts_of numbers.now g)) - 1) most_inputs }
 {
     let mut n: usize = 0;
-    let mut g: usize = 0;
-    while g < numbers.len() {
-        n += counting::sign(numbers[g]);
-        g += 1;
+    for x in numbers {
+        n += counting::sign(*x);
     }
-    if n == 0 {
-        return 0;
-    }
-    n - 1
+    n.saturating_sub(1)
 }
 
 // The steps of payslip i; the cells are for the numbers of its parts.
@@ -38,8 +33,7 @@ fn payslip_count(s: Grouping, amounts: &[u32], bits: &[u32], i: usize, cells: &m
     ensures { Bounded result (join_count s.p s.q amounts.now s.c s.groups i) most_inputs }
 {
     cutting::number_parts(s, amounts, bits, i, cells);
-    let end = s.groups;
-    joins(&cells[..end])
+    joins(&cells[..s.groups])
 }
 
 // The steps of the payslips.
@@ -48,10 +42,8 @@ fn payslips_count(s: Grouping, amounts: &[u32], bits: &[u32], cells: &mut [u32])
     ensures { Bounded result (sum_to s.q (join_count s.p s.q amounts.now s.c s.groups)) (most_inputs * s.q) }
 {
     let mut n: usize = 0;
-    let mut i: usize = 0;
-    while i < s.q {
+    for i in 0..s.q {
         n += payslip_count(s, amounts, bits, i, cells);
-        i += 1;
     }
     n
 }
@@ -65,10 +57,7 @@ fn chain_quote(s: Grouping, amounts: &[u32], bits: &[u32]) -> Quote
     let mut cells = [0u32; groups::MOST_INPUTS];
     let count = before + payslips_count(s, amounts, bits, &mut cells);
     let ceiling = before + s.q * counting::lessened(s.groups, 1);
-    Quote {
-        count: count,
-        ceiling: ceiling,
-    }
+    Quote { count, ceiling }
 }
 
 // The number of steps of the chain, and its ceiling.

@@ -18,7 +18,7 @@ use Rattle.methods.proofs.Powers.{squarings_count}
 use Rattle.groups.specs.declared.Grouping.{Grouping}
 use Rattle.groups.specs.Groups.{column_squarings, group, group_count, input_count, inputs, selection, sheet_squarings, weigh}
 use Rattle.groups.specs.Inner.{table_at}
-use Rattle.groups.proofs.Measured.{grouped_count, numbers_long}
+use Rattle.groups.proofs.Measured.{grouped_count}
 use Rattle.groups.proofs.Members.{members_count, selection_two}
 use Rattle.groups.proofs.Parts.{part_number}
 use Rattle.groups.proofs.Prepared.{selection_long}

@@ -24,15 +24,10 @@ fn make_parts(
     ensures { Emitted steps.old steps.new result.progress result.value
         (parts_by s members.now (counts_of numbers.now) (steps_in steps.old progress.steps) s.groups) }
 {
-    let mut r = PartialProduct {
-        progress: progress,
-        value: 0,
-    };
-    let mut g: usize = 0;
-    while g < s.groups {
-        let y = subsets::part_value(s, members, g, numbers[g]);
+    let mut r = PartialProduct { progress, value: 0 };
+    for (g, t) in numbers.iter().enumerate() {
+        let y = subsets::part_value(s, members, g, *t);
         r = products::times(s.p, r, y, steps);
-        g += 1;
     }
     r
 }
@@ -53,8 +48,7 @@ fn make_payslip(
         (payslip_of s amounts.now i (steps_in steps.old progress.steps)) }
 {
     cutting::number_parts(s, amounts, bits, i, cells);
-    let end = s.groups;
-    make_parts(s, members, &cells[..end], progress, steps)
+    make_parts(s, members, &cells[..s.groups], progress, steps)
 }
 
 // The payslips in order: their steps, and their products as outputs.
@@ -63,7 +57,7 @@ fn make_payslips(
     amounts: &[u32],
     bits: &[u32],
     members: &[u32],
-    progress: Progress,
+    mut progress: Progress,
     cells: &mut [u32],
     steps: &mut [u32],
     outputs: &mut [u32],
@@ -73,15 +67,12 @@ fn make_payslips(
     ensures { ChainStored steps.old outputs.old steps.new outputs.new result
         (payslips_of s amounts.now (steps_in steps.old progress.steps)) }
 {
-    let mut end = progress;
-    let mut i: usize = 0;
-    while i < s.q {
-        let r = make_payslip(s, amounts, bits, members, i, end, cells, steps);
-        end = r.progress;
+    for i in 0..s.q {
+        let r = make_payslip(s, amounts, bits, members, i, progress, cells, steps);
+        progress = r.progress;
         outputs[i] = r.value;
-        i += 1;
     }
-    end
+    progress
 }
 
 // The squarings, the tables of the groups, then the payslips; some cells are for the inputs, others for the numbers of a payslip's parts.
@@ -99,12 +90,11 @@ fn make_chain(
         (partition s.p s.q amounts.now s.c) }
 {
     let tables = group_tables::make_groups(s, bits, members, steps);
-    let w = s.inputs;
     make_payslips(
         s,
         amounts,
         bits,
-        &members[..w],
+        &members[..s.inputs],
         tables,
         cells,
         steps,

@@ -12,12 +12,10 @@ fn raise(s: &mut [u32], from: usize, to: usize, k: usize, r: usize) -> usize
     ensures { RowRaised from to k r result s.old s.new }
 {
     let mut e = r;
-    let mut i = from;
-    while i < to {
+    for i in from..to {
         let x = k + s[i] as usize;
         s[e] = x as u32;
         e += 1;
-        i += 1;
     }
     e
 }
@@ -28,8 +26,7 @@ fn raise_each(s: &mut [u32], front: usize, back: usize, m: usize, k: usize, to: 
     ensures { RowsOver to m m result (raised_row s.old front back k) s.old s.new }
 {
     let mut e = to + m + 1;
-    let mut j: usize = 0;
-    while j < m {
+    for j in 0..m {
         let f = s[front + j] as usize;
         let t = s[front + j + 1] as usize;
         let g = s[back + j] as usize;
@@ -37,7 +34,6 @@ fn raise_each(s: &mut [u32], front: usize, back: usize, m: usize, k: usize, to: 
         e = cuts::copy(s, f, t, e);
         e = raise(s, g, u, k, e);
         s[to + j + 1] = e as u32;
-        j += 1;
     }
     e
 }

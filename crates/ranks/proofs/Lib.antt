@@ -3,4 +3,3 @@ pub mod Marking
 pub mod Numbering
 pub mod Ranking
 pub mod Ranks
-pub mod Replacing

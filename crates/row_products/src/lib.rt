@@ -38,7 +38,7 @@ pub struct Joint {
 // The product times the values from a cell on that the places in the cells from .. to name.
 fn product(
     p: usize,
-    m: PartialProduct,
+    mut m: PartialProduct,
     values: usize,
     from: usize,
     to: usize,
@@ -48,17 +48,15 @@ fn product(
     ensures { Emitted s.old s.new result.progress result.value
         (product p (product_in s.old m) (values_at s.old values (slice from to s.old))) }
 {
-    let mut r = m;
-    let mut i = from;
-    while i < to {
+    for i in from..to {
         let v = s[values + s[i] as usize];
-        r = products::times(p, r, v, s);
-        i += 1;
+        m = products::times(p, m, v, s);
     }
-    r
+    m
 }
 
 // The product times the values that row j of those at a cell names.
+#[tactic(auto, unfolding(rows::specs::Inner::row_at))]
 fn times_row(
     p: usize,
     m: PartialProduct,
@@ -89,43 +87,40 @@ fn row_product(
     ensures { Emitted s.old s.new result.progress result.value
         (product p (made (steps_in s.old progress.steps) 0) (values_at s.old values (row_at s.old rows j))) }
 {
-    let start = PartialProduct {
-        progress: progress,
-        value: 0,
-    };
+    let start = PartialProduct { progress, value: 0 };
     times_row(p, start, values, rows, j, s)
 }
 
 // The product of each row's values, one after the other; their value numbers from cell `to` on.
-pub fn separately(p: usize, problem: Problem, to: usize, done: Progress, s: &mut [u32]) -> Progress
+pub fn separately(
+    p: usize,
+    problem: Problem,
+    to: usize,
+    mut done: Progress,
+    s: &mut [u32],
+) -> Progress
     requires { SeparatelyAsked p s.old problem to done }
     ensures { Done to result (separately p (slice problem.ins (problem.ins + problem.n) s.old)
         (rows_at s.old problem.outs problem.m) (steps_in s.old done.steps)) s.old s.new }
 {
-    let mut end = done;
-    let mut j: usize = 0;
-    while j < problem.m {
-        let r = row_product(p, end, problem.ins, problem.outs, j, s);
-        end = r.progress;
+    for j in 0..problem.m {
+        let r = row_product(p, done, problem.ins, problem.outs, j, s);
+        done = r.progress;
         s[to + j] = r.value;
-        j += 1;
     }
-    end
+    done
 }
 
 // The product of each row's clumps and then of its overflow, one after the other; their value numbers from cell `to` on.
-pub fn join(p: usize, joint: Joint, to: usize, done: Progress, s: &mut [u32]) -> Progress
+pub fn join(p: usize, joint: Joint, to: usize, mut done: Progress, s: &mut [u32]) -> Progress
     requires { JoinAsked p s.old joint to done }
     ensures { Done to result (products p (joined s.old joint) (steps_in s.old done.steps)) s.old s.new }
 {
-    let mut end = done;
-    let mut j: usize = 0;
-    while j < joint.m {
-        let clumped = row_product(p, end, joint.made, joint.clumps, j, s);
+    for j in 0..joint.m {
+        let clumped = row_product(p, done, joint.made, joint.clumps, j, s);
         let both = times_row(p, clumped, joint.ins, joint.rest, j, s);
-        end = both.progress;
+        done = both.progress;
         s[to + j] = both.value;
-        j += 1;
     }
-    end
+    done
 }

@@ -14,14 +14,11 @@ pub fn group_size(c: usize, w: usize, g: usize) -> usize
     requires { g * c ≤ w }
     ensures { result ≡ group_size c w g }
 {
-    let rest = w - g * c;
-    if rest < c {
-        return rest;
-    }
-    c
+    c.min(w - g * c)
 }
 
 // The steps of a table of n inputs.
+#[tactic(auto, using(groups::proofs::Counting::table_some))]
 fn table_count(n: usize) -> usize
     requires { n ≤ most_members }
     ensures { Bounded result (table_steps n) (2 ^ most_members) }
@@ -35,10 +32,8 @@ pub fn tables_count(s: Grouping) -> usize
     ensures { Bounded result (tables_count s.c s.inputs s.groups) (2 ^ most_members * most_inputs) }
 {
     let mut n: usize = 0;
-    let mut g: usize = 0;
-    while g < s.groups {
+    for g in 0..s.groups {
         n += table_count(group_size(s.c, s.inputs, g));
-        g += 1;
     }
     n
 }

@@ -7,7 +7,7 @@ use native.Mathlib.Nat.{zero-add, suc-mul, add-mul, mul_assoc, div-add-mod', lt_
 use native.Mathlib.Omega.{arith}
 use lib.ListN.{length, take, drop, get_or, length-append}
 use lib.Seq.{length-take-le, drop-cons, take-append-le, take-add, take_at, drop_at}
-use lib.Pow.{split, pow-add, shl_exact, shr_le, shr_mod}
+use lib.Pow.{pow-add, shl_exact, shr_le, shr_mod}
 use Rattle.chain.specs.Written.{over, laid}
 use Rattle.octets.specs.Inner.{spread}
 use Rattle.bits.specs.Bits.{bits, value, bytes_bits, front, pack, bytes_for}
@@ -59,9 +59,6 @@ module _ (l : List ℕ) (at w v b : ℕ) (ok : Bytes l) (fill : FieldFill l at w
 
   head_shl : head ≡ b / 2 ^ (8 - at % 8) * 2 ^ (8 - at % 8)
   head_shl = shl_exact 8 (8 - at % 8) 64 (lt_of_le_of_lt (shr_le b (8 - at % 8)) hb) (omega arith)
-
-  pub head_low : head < 256
-  head_low = omega (arith, head_shl, hb, split b (8 - at % 8))
 
   field_shl : field ≡ v * 2 ^ (64 - (at % 8 + w))
   field_shl = shl_exact w (64 - (at % 8 + w)) 64 fill.small (omega (arith, fill.narrow))

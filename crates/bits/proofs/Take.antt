@@ -1,12 +1,12 @@
 -- Eight bytes as one word cover any field of up to 56 bits from any bit on, so a shift and a remainder of the word are the field, and of two fields each.
-use mathlib.Core.Path.{◌≡◌, refl, sym, ap, ap₂, ◌∙◌, subst}
+use mathlib.Core.Path.{◌≡◌, refl, sym, ap, ap₂, ◌∙◌}
 use mathlib.Core.List.{List, [], ◌∷◌, ◌++◌}
 use Prim.Native.Nat.{ℕ, zero, suc, ◌+◌, ◌-◌, ◌*◌, ◌/◌, ◌%◌, ◌^◌, ◌≤◌, ◌<◌, min}
 use native.Mathlib.Nat.{one-mul, zero-mul, div-add-mod'}
 use native.Mathlib.Omega.{arith}
 use lib.ListN.{length, get_or, get_or-eq_default}
 use lib.Dec.{lit<}
-use lib.Pow.{pow_pos, shl_exact, shr-shr}
+use lib.Pow.{shl_exact, shr-shr}
 use Rattle.bits.specs.Bits.{value, bytes_bits, field_at}
 use Rattle.bits.specs.Inner.{widest_field, window, ByteAt, WordAt, FieldRoom, FieldTaken, TwoRoom, TwoTaken}
 use Rattle.bits.proofs.Values.{value_lt, value-append}
@@ -102,9 +102,6 @@ module _ (l : List ℕ) (i x j : ℕ) (inv : Gathering l i x j) where
 
 one_shl : (w : ℕ) → w ≤ widest_field → 1 * 2 ^ w % 2 ^ 64 ≡ 2 ^ w
 one_shl w h = shl_exact 1 w 64 (lit< tt) (omega arith) ∙ one-mul (2 ^ w)
-
-pub one_shl_pos : (w : ℕ) → w ≤ widest_field → 0 < 1 * 2 ^ w % 2 ^ 64
-one_shl_pos w h = subst (λ (m : ℕ). 0 < m) (sym (one_shl w h)) (pow_pos w)
 
 -- eight bytes from i on, shifted and cut to a field that stands o bits behind their begin
 module _ (l : List ℕ) (i g : ℕ) (got : WordAt 8 l i g) where

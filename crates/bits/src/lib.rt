@@ -1,7 +1,7 @@
 // Bit fields, most significant bit first.
 #![tactic(auto)]
 
-ghost use Rattle.std.specs.Prelude.{◌≡◌, ◌+◌, ◌-◌, ◌*◌, ◌/◌, ◌≤◌, ◌<◌, min, length};
+ghost use Rattle.std.specs.Prelude.{◌≡◌, ◌+◌, ◌-◌, ◌*◌, ◌/◌, ◌≤◌, ◌<◌, length};
 ghost use Rattle.chain.specs.Written.{over};
 ghost use Rattle.bits.specs.Bits.{bits};
 ghost use Rattle.bits.specs.Inner.{ByteAt, LastBytes, WordAt, FieldRoom, FieldTaken, TwoRoom, TwoTaken, FieldFill, FieldStored};
@@ -27,17 +27,11 @@ pub struct TwoFields {
     pub next: Cursor,
 }
 
-fn wide(x: u8) -> u64
-    ensures { result ≡ x }
-{
-    x as u64
-}
-
 fn byte(file: &[u8], i: usize) -> u64
     requires { i < length file.now }
     ensures { ByteAt file.now i result }
 {
-    wide(file[i])
+    u64::from(file[i])
 }
 
 // The four bytes from i on as one number. They are read as one word.
@@ -57,11 +51,9 @@ fn gather_last(file: &[u8], i: usize) -> u64
     requires { LastBytes file.now i }
     ensures { WordAt 8 file.now i result }
 {
-    let mut x: u64 = 0;
-    let mut j: usize = 0;
-    while i + j < file.len() {
+    let mut x = 0;
+    for j in 0..file.len() - i {
         x += byte(file, i + j) << (56 - 8 * j);
-        j += 1;
     }
     x
 }
@@ -88,29 +80,13 @@ fn gather(file: &[u8], i: usize) -> u64
     }
 }
 
-// Where eight bytes begin that cover a field at a bit position: at its first byte, or at the eighth from the end of so many bytes.
-fn covering(at: usize, bytes: usize) -> usize
-    requires { 8 ≤ bytes }
-    ensures { result ≡ min (at / 8) (bytes - 8) }
-{
-    let i = at / 8;
-    let last = bytes - 8;
-    if i < last {
-        return i;
-    }
-    last
-}
-
 // A file's bytes, over the front of a longer slice. What is taken from a file of fewer than eight bytes is taken from such a copy.
+#[tactic(auto, unfolding(chain::specs::Written::over))]
 pub fn lengthen(file: &[u8], long: &mut [u8])
     requires { length file.now ≤ length long.old }
     ensures { long.new ≡ over file.now long.old }
 {
-    let mut i: usize = 0;
-    while i < file.len() {
-        long[i] = file[i];
-        i += 1;
-    }
+    long[..file.len()].copy_from_slice(file);
 }
 
 impl Cursor {
@@ -129,13 +105,14 @@ impl Cursor {
         }
     }
 
-    // The next two fields of width bits, out of eight bytes that the file has: nothing is asked of its end, so that a loop that takes them stays short.
+    // The next two fields of width bits, out of eight bytes that the file has, from the first field's byte or the eighth byte from the end on: nothing is
+    // asked of the file's end, so that a loop that takes them stays short.
     pub fn take_two(self, file: &[u8], width: usize) -> TwoFields
         requires { TwoRoom file.now self.at width }
         ensures { TwoTaken file.now self.at width result.first result.second result.next.at }
     {
         let at = self.at;
-        let i = covering(at, file.len());
+        let i = (at / 8).min(file.len() - 8);
         let used = at - 8 * i + 2 * width;
         let value = eight(file, i) >> (64 - used);
         let first = (value >> width) % (1u64 << width);
@@ -156,7 +133,7 @@ impl Cursor {
         let i = at / 8;
         let used = at % 8 + width;
         let right = 8 - at % 8;
-        let head = (wide(buf[i]) >> right) << right;
+        let head = (u64::from(buf[i]) >> right) << right;
         octets::scatter_wide(buf, i, (used + 7) / 8, head, value << (64 - used));
         Cursor { at: at + width }
     }

@@ -1,11 +1,10 @@
 -- Parts written one after the other are one part: each is laid where the one before ended.
-use mathlib.Core.Path.{◌≡◌, sym, ap, ◌∙◌}
+use mathlib.Core.Path.{◌≡◌, refl, sym, ap, ◌∙◌}
 use mathlib.Core.List.{List, [], ◌∷◌, ◌++◌}
 use Prim.Native.Nat.{ℕ, ◌+◌, ◌/◌, ◌%◌, ◌≤◌, ◌<◌}
-use native.Mathlib.Numerals.{add-one}
 use native.Mathlib.Omega.{arith}
-use lib.ListN.{length, get_or, take, set, length-append}
-use lib.Seq.{length-take-le, take_all, take-suc}
+use lib.ListN.{length, take, drop, set, length-append}
+use lib.Seq.{drop-drop}
 use Rattle.chain.specs.Written.{laid}
 use Rattle.chain.proofs.Written.{laid_nil, laid-length, laid_one, laid_laid}
 use Rattle.decimal.specs.Decimal.{decimal}
@@ -52,13 +51,7 @@ put_digits at x l m l' h room w =
     let more = more-length x h in
     rw (decimal_more x h) (put_one at (decimal (x / 10)) l m l' w (48 + x % 10) (omega arith))
 
--- a list byte by byte: `l` was the text, `l'` is it after i bytes
-module _ (at i : ℕ) (word l l' : List ℕ) (w : Put at (take i word) l (at + i) l') where
-  pub put_byte : i < length word → at + length word ≤ length l → Put at (take (i + 1) word) l (at + (i + 1)) (set l' (at + i) (get_or word i 0))
-  put_byte h room =
-      let e : take (i + 1) word ≡ take i word ++ get_or word i 0 ∷ [] = rw (add-one i) (take-suc word i 0 h) in
-      let e' : at + (i + 1) ≡ at + i + 1 = omega arith in
-      rw (e, e') (put_one at (take i word) l (at + i) l' w (get_or word i 0) (omega (arith, length-take-le i word (omega arith))))
-
-  pub put_bytes : length word ≤ i → Put at word l (at + i) l'
-  put_bytes h = rw (take_all i word h) at w
+-- a word over a part of the text
+pub put_part : (at k : ℕ) (word l m : List ℕ) → k ≡ length word → m ≡ word → Put at word l (at + length word) (take at l ++ (m ++ drop k (drop at l)))
+unfolding laid
+put_part at k word l m e f = record { place = refl; text = rw (f, e, drop-drop (length word) at l) }

@@ -11,11 +11,11 @@ pub fn put_decimal(x: usize, at: usize, text: &mut [u8]) -> usize
     ensures { Put at (decimal x) text.old result text.new }
 {
     if x < 10 {
-        text[at] = (48 + x) as u8;
+        text[at] = b'0' + x as u8;
         return at + 1;
     }
     let end = put_decimal(x / 10, at, text);
-    text[end] = (48 + x % 10) as u8;
+    text[end] = b'0' + (x % 10) as u8;
     end + 1
 }
 
@@ -24,10 +24,7 @@ pub fn put_word(word: &[u8], at: usize, text: &mut [u8]) -> usize
     requires { at + length word.now ≤ length text.old }
     ensures { Put at word.now text.old result text.new }
 {
-    let mut i: usize = 0;
-    while i < word.len() {
-        text[at + i] = word[i];
-        i += 1;
-    }
-    at + i
+    let end = at + word.len();
+    text[at..end].copy_from_slice(word);
+    end
 }

@@ -8,28 +8,16 @@ ghost use Rattle.places.specs.Places.{mark_length, is_cut};
 pub fn is_cut(text: &[u8]) -> bool
     ensures { result ≡ is_cut text.now }
 {
-    let n = text.len();
-    if n == 0 {
-        return false;
-    }
-    text[n - 1] != b'\n'
+    !text.is_empty() && !text.ends_with(b"\n")
 }
 
 // How many bytes of a text are its byte order mark.
 pub fn mark_length(text: &[u8]) -> usize
     ensures { result ≡ mark_length text.now }
 {
-    if text.len() < 3 {
-        return 0;
+    if text.starts_with(b"\xEF\xBB\xBF") {
+        3
+    } else {
+        0
     }
-    if text[0] != 239 {
-        return 0;
-    }
-    if text[1] != 187 {
-        return 0;
-    }
-    if text[2] != 191 {
-        return 0;
-    }
-    3
 }

@@ -1,15 +1,15 @@
 -- The loop's invariant: the buffer as it will be is the buffer so far with the fields still to come put after it; each turn takes some fields off that list.
-use mathlib.Core.Path.{◌≡◌, refl, sym, ap, ap₂, ◌∙◌}
+use mathlib.Core.Path.{◌≡◌, sym, ap, ap₂, ◌∙◌}
 use mathlib.Core.Bool.{Bool}
 use mathlib.Core.List.{List, [], ◌∷◌, ◌++◌, append_assoc, append-nil}
 use Prim.Native.Nat.{ℕ, ◌+◌, ◌-◌, ◌*◌, ◌%◌, ◌^◌, ◌≤◌, ◌<◌}
-use native.Mathlib.Nat.{zero-mul, one-mul, add-mul, lt_of_lt_of_le}
+use native.Mathlib.Nat.{zero-mul, one-mul, add-mul}
 use native.Mathlib.Numerals.{add-one}
 use native.Mathlib.Omega.{arith}
 use lib.ListN.{length, take, drop, get_or, length-append, length-take, length-drop, take-append-drop, drop_of_length-le}
 use lib.Seq.{length-take-le, drop-cons, drop-drop, get_or-take, get_or-drop}
 use lib.Arith.{digits_lt}
-use lib.Pow.{pow-add, pow_mono, shl_exact}
+use lib.Pow.{pow-add, shl_exact}
 use Rattle.bits.specs.Bits.{bits, fields, bytes_bits}
 use Rattle.bits.specs.Inner.{filed, FieldFill, FieldStored}
 use Rattle.bits.proofs.Values.{bits_two}
@@ -78,11 +78,6 @@ pub record Putting (whole : List ℕ) (goal w : ℕ) (l : List ℕ) (n : ℕ) (b
   pub is : whole ≡ filed_from buf c w (to_come l n j)
 
 module _ (w : ℕ) (l : List ℕ) (n : ℕ) (old : List ℕ) (at : ℕ) where
-  pub put_start : FieldsFill old at w (take n l) → Putting (filed_from old at w (take n l)) (at + n * w) w l n old at 0
-  put_start ok =
-      let e : n - 0 ≡ n = omega arith in
-      record { some_left = omega arith; place = ap (λ (k : ℕ). at + k * w) e; room = ok; is = refl }
-
   pub put_end : (buf : List ℕ) (c j : ℕ) → Putting (filed_from old at w (take n l)) (at + n * w) w l n buf c j → n ≤ j
       → FieldStored old at (n * w) (fields w (take n l)) buf c
   unfolding filed_from fields
@@ -128,20 +123,6 @@ module _ (whole : List ℕ) (goal w : ℕ) (l : List ℕ) (n : ℕ) (buf : List 
     come_one : to_come l n j ≡ v ∷ to_come l n (j + 1)
     come_one = come_next l n j hn h ∙ ap (λ (a : ℕ). a ∷ to_come l n (j + 1)) (sym ev)
 
-    small_one : v < 2 ^ w
-    small_one = rw come_one at inv.room.small 0
-
-    pub one_room : FieldFill buf c w v
-    one_room =
-        let r = room_some 1 (omega arith) in
-        record {
-          narrow = omega (arith, inv.room.narrow);
-          within = omega (arith, r.0, one-mul w);
-          fits = omega (arith, r.1, one-mul w);
-          some = inv.room.some;
-          small = small_one;
-        }
-
     pub one_on : (new : List ℕ) (next : ℕ) → FieldStored buf c w (bits w v) new next → length new ≡ length buf → Putting whole goal w l n new next (j + 1)
     unfolding fields
     one_on new next s same =
@@ -172,9 +153,6 @@ module _ (whole : List ℕ) (goal w : ℕ) (l : List ℕ) (n : ℕ) (buf : List 
     both_small =
         let e : w + w ≡ 2 * w = omega arith in
         rw (both_is, ← e, pow-add 2 w w) (digits_lt small_first small_second)
-
-    pub both_fits : both < 2 ^ 64
-    both_fits = lt_of_lt_of_le both_small (pow_mono {j = 64} (omega (arith, inv.room.narrow)))
 
     pub two_room : FieldFill buf c (2 * w) both
     two_room =

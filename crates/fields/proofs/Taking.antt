@@ -9,9 +9,9 @@ use lib.Pow.{pow_mono}
 use Rattle.chain.specs.Written.{over, laid}
 use Rattle.chain.proofs.Written.{over_laid, laid_nil, laid_one}
 use Rattle.bits.specs.Bits.{fields_at}
-use Rattle.bits.specs.Inner.{widest_field, FieldRoom, FieldTaken, TwoRoom, TwoTaken}
-use Rattle.bits.proofs.Lengthened.{long-length, fields_long}
-use Rattle.fields.specs.Inner.{widest_number, FieldsRoom, LongRoom, FieldsTaken}
+use Rattle.bits.specs.Inner.{FieldTaken, TwoTaken}
+use Rattle.bits.proofs.Lengthened.{fields_long}
+use Rattle.fields.specs.Inner.{widest_number, FieldsRoom, FieldsTaken}
 
 -- what out will be, from what it is with n fields to come, the first at position c for cell j
 unfoldable pub taken_from : List ℕ → ℕ → ℕ → ℕ → ℕ → List ℕ → List ℕ
@@ -46,27 +46,13 @@ module _ (file : List ℕ) (at w n : ℕ) (old : List ℕ) where
       }
 
 -- a turn
-module _ (file whole : List ℕ) (at w n : ℕ) (old : List ℕ) (ok : FieldsRoom file at w n old) where
+module _ (file whole : List ℕ) (at w n : ℕ) where
   module _ (out : List ℕ) (c j : ℕ) (inv : Taking file whole (at + n * w) w n out c j) where
     -- k fields, and those after them
     parts : (k : ℕ) → j + k ≤ n → (n - j) * w ≡ k * w + (n - (j + k)) * w
     parts k h =
         let e : n - j ≡ k + (n - (j + k)) = omega arith in
         ap (λ (m : ℕ). m * w) e ∙ add-mul k (n - (j + k)) w
-
-    room_some : (k : ℕ) → j + k ≤ n → k * w ≤ widest_field → FieldRoom file c (k * w)
-    room_some k h narrow =
-        record {
-          narrow = narrow;
-          within = omega (arith, ok.within, inv.place, parts k h);
-          fits = omega (arith, ok.fits, inv.place, parts k h);
-        }
-
-    pub one_room : j < n → FieldRoom file c w
-    one_room h = rw (one-mul w) at (room_some 1 (omega arith) (omega (arith, ok.narrow)))
-
-    pub two_room : 8 ≤ length file → 2 ≤ n - j → TwoRoom file c w
-    two_room long h = record { long = long; some = ok.some; room = room_some 2 (omega arith) (omega (arith, ok.narrow)) }
 
     pub one_on : j < n → (v next : ℕ) → FieldTaken file c w v next → Taking file whole (at + n * w) w n (set out j v) next (j + 1)
     unfolding taken_from fields_at
@@ -91,14 +77,6 @@ module _ (file whole : List ℕ) (at w n : ℕ) (old : List ℕ) (ok : FieldsRoo
 
 -- a short file is read from a list that begins with it
 module _ (file old long : List ℕ) (is : long ≡ over file old) (at w n : ℕ) (out : List ℕ) (ok : FieldsRoom file at w n out) where
-  pub long_room : length file ≤ length old → 8 ≤ length old → LongRoom long at w n out
-  long_room fits eight =
-      let same = long-length file old long is fits in
-      record {
-        long = omega (arith, same);
-        room = record { narrow = ok.narrow; some = ok.some; within = omega (arith, ok.within, same); fits = ok.fits; room = ok.room };
-      }
-
   pub long_taken : (new : List ℕ) (next : ℕ) → FieldsTaken long at w n out new next → FieldsTaken file at w n out new next
   long_taken new next t =
       record { is = t.is ∙ ap (λ (l : List ℕ). over l out) (fields_long file old long is at w n ok.within); moved = t.moved }

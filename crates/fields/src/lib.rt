@@ -8,12 +8,6 @@ ghost use Rattle.fields.specs.Inner.{FrontFill, FieldsRoom, LongRoom, FieldsTake
 
 use bits::Cursor;
 
-fn wide(x: u32) -> u64
-    ensures { result ≡ x }
-{
-    x as u64
-}
-
 // Writes the first count numbers of the list as fields of width bits, one after the other. Two at a time are put as one field of twice the width: each
 // put waits for the one before it.
 pub fn put_fields(buf: &mut [u8], from: Cursor, width: usize, list: &[u32], count: usize) -> Cursor
@@ -23,13 +17,14 @@ pub fn put_fields(buf: &mut [u8], from: Cursor, width: usize, list: &[u32], coun
 {
     let mut c = from;
     let mut j = 0;
+    // a `while`, as below, since two fields go at a turn
     while count - j >= 2 {
-        let both = (wide(list[j]) << width) + wide(list[j + 1]);
+        let both = (u64::from(list[j]) << width) + u64::from(list[j + 1]);
         c = c.put(buf, 2 * width, both);
         j += 2;
     }
     if j < count {
-        c = c.put(buf, width, wide(list[j]));
+        c = c.put(buf, width, u64::from(list[j]));
     }
     c
 }
@@ -43,19 +38,15 @@ fn take_long(file: &[u8], from: Cursor, width: usize, count: usize, out: &mut [u
     let mut i = 0;
     while count - i >= 2 {
         let two = c.take_two(file, width);
-        let first = two.first as u32;
-        let second = two.second as u32;
-        out[i] = first;
-        out[i + 1] = second;
-        let next = two.next;
-        c = next;
+        out[i] = two.first as u32;
+        out[i + 1] = two.second as u32;
+        c = two.next;
         i += 2;
     }
     if i < count {
         let one = c.take(file, width);
         out[i] = one.value as u32;
-        let next = one.next;
-        c = next;
+        c = one.next;
     }
     c
 }
@@ -68,7 +59,8 @@ pub fn take_fields(file: &[u8], from: Cursor, width: usize, count: usize, out: &
     if file.len() < 8 {
         let mut long = [0u8; 8];
         bits::lengthen(file, &mut long);
-        return take_long(&long, from, width, count, out);
+        take_long(&long, from, width, count, out)
+    } else {
+        take_long(file, from, width, count, out)
     }
-    take_long(file, from, width, count, out)
 }

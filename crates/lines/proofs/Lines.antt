@@ -2,19 +2,23 @@
 use mathlib.Core.Path.{◌≡◌, refl, sym, ap, ◌∙◌}
 use mathlib.Core.Bool.{Bool, true, false, cond}
 use mathlib.Core.List.{List, [], ◌∷◌}
-use Prim.Native.Nat.{ℕ, zero, suc, ◌+◌, ◌-◌, ◌^◌, ◌≤◌, ◌<◌}
+use Prim.Native.Nat.{ℕ, suc, ◌+◌, ◌-◌, ◌^◌, ◌≤◌, ◌<◌}
 use native.Mathlib.Nat.{zero-add}
 use native.Mathlib.Decide.{ℕ_discrete}
 use native.Mathlib.Numerals.{add-one}
 use native.Mathlib.Omega.{arith}
-use lib.ListN.{length, get_or, take, drop, length-drop, drop_of_length-le, get_or-eq_default}
-use lib.Seq.{drop-cons, length-take-le}
+use lib.Dec.{eqb}
+use lib.ListN.{length, get_or, take, drop, length-drop, drop_of_length-le}
+use lib.Seq.{drop-cons, length-take-le, take_all}
+use Rattle.std.specs.Prelude.{Option, Some, None, nat_lt}
+use borrow.Author.Tests.{ltb-false}
+use Rattle.std.specs.List.{position, position_or_len}
+use Rattle.std.proofs.lemmas.List.Recursion.{is_position_or_len}
 use Rattle.chain.specs.Tests.{◌<?◌, ◌=?◌, ◌or◌}
 use Rattle.chain.proofs.Rules.{eq_yes, eq_no}
-use Rattle.decimal.specs.Decimal.{blank, newline}
+use Rattle.decimal.specs.Decimal.{newline}
 use Rattle.text.specs.Text.{tab, return, first_digit, last_digit}
 use Rattle.text.specs.declared.Parting.{Parting}
-use Rattle.text.specs.declared.Parting.TheVariants.{Fields}
 use Rattle.lines.specs.declared.Tally.{Tally}
 use Rattle.lines.specs.declared.Head.{Head}
 use Rattle.lines.specs.Lines.{semicolon, comma, on_first, cut_at, lines_of, content_length, content_of, same_unit, digit_unit, counted, is_blank, filled, tally_of, parting_of, separators_in, fields_in, head_of}
@@ -47,31 +51,42 @@ until_within (b ∷ r) = by_test (b =? newline) (until_within r)
 pub end_within : (text : List ℕ) (at end : ℕ) → at ≤ length text → end ≡ at + until_newline (drop at text) → (at ≤ end) × (end ≤ length text)
 end_within text at end h e = (omega arith, omega (arith, until_within (drop at text), length-drop at text))
 
--- the newline is sought byte by byte
-module _ (text : List ℕ) (i : ℕ) (w : ℕ) (e : w ≡ i + until_newline (drop i text)) where
-  module _ (h : i < length text) where
-    byte : drop i text ≡ get_or text i 0 ∷ drop (i + 1) text
-    byte = rw (add-one i) (drop-cons text i 0 h)
+-- the newline sought
+abbrev pub is_newline : ℕ → Bool
+is_newline b = eqb b newline
 
-    pub end_found : get_or text i 0 ≡ newline → i ≡ w
-    end_found is = let z : until_newline (drop i text) ≡ 0 = rw (byte, eq_yes (get_or text i 0) newline is) in omega arith
+until_is : (t : List ℕ) → until_newline t ≡ position_or_len is_newline t
+unfolding ◌=?◌
+until_is t =
+    is_position_or_len until_newline is_newline refl
+    (λ b r. let e : suc (until_newline r) ≡ 1 + until_newline r = omega arith in ap (cond (is_newline b) 0) e) t
 
-    pub end_on : (get_or text i 0 ≡ newline → ⊥) → w ≡ i + 1 + until_newline (drop (i + 1) text)
-    end_on is =
-        let z : until_newline (drop i text) ≡ suc (until_newline (drop (i + 1) text)) = rw (byte, eq_no (get_or text i 0) newline is) in
-        omega arith
+-- the bytes from a place on, as a slice has them
+pub rest_part : (text : List ℕ) (at : ℕ) → take (length text - at) (drop at text) ≡ drop at text
+rest_part text at = take_all (length text - at) (drop at text) (omega (arith, length-drop at text))
 
-  pub end_none : length text ≤ i → i ≡ w
-  end_none h = let z : until_newline (drop i text) ≡ 0 = rw (drop_of_length-le text h) in omega arith
+module _ (text : List ℕ) (at : ℕ) (within : at ≤ length text) (r : Option ℕ) (e : r ≡ position is_newline (drop at text)) where
+  pub end_found : (i : ℕ) → r ≡ Some i → at + i ≡ at + until_newline (drop at text)
+  end_found i h = rw (until_is (drop at text)) (ap (λ (n : ℕ). at + n) (sym (by_test (nat_lt n (length (drop at text))) (sym e ∙ h))))
+    where
+      n : ℕ
+      n = position_or_len is_newline (drop at text)
+
+      by_test : (t : Bool) → cond t (Some n) None ≡ Some i → n ≡ i
+      by_test true g = cc
+      by_test false g = cc
+
+  pub end_none : r ≡ None → length text ≡ at + until_newline (drop at text)
+  end_none h = by_test (nat_lt n (length (drop at text))) (λ g. ltb-false n (length (drop at text)) g) (sym e ∙ h)
+    where
+      n : ℕ
+      n = position_or_len is_newline (drop at text)
+
+      by_test : (t : Bool) → (t ≡ false → length (drop at text) ≤ n) → cond t (Some n) None ≡ None → length text ≡ at + until_newline (drop at text)
+      by_test true low g = cc
+      by_test false low g = omega (arith, low refl, until_is (drop at text), until_within (drop at text), length-drop at text)
 
 -- a line's content lies within it
-pub content_none : (line : List ℕ) → length line ≡ 0 → 0 ≡ content_length line
-unfolding content_length
-content_none line e =
-    let none : get_or line (length line - 1) 0 ≡ 0 = get_or-eq_default line 0 (omega arith) in
-    let no : get_or line (length line - 1) 0 ≡ return → ⊥ = λ z. omega arith in
-    rw (eq_no (get_or line (length line - 1) 0) return no) (sym e)
-
 content_within : (line : List ℕ) → content_length line ≤ length line
 unfolding content_length
 content_within line = by_test (get_or line (length line - 1) 0 =? return)
@@ -108,10 +123,7 @@ begun_low gap b = by_test (blank_unit b =? 0)
     by_test true = omega arith
     by_test false = omega arith
 
--- a byte more, as the code counts it
-pub tally_is : (t : Tally) (gap b k l m n w : ℕ) → k ≡ same_unit b tab → l ≡ same_unit b semicolon → m ≡ same_unit b comma → n ≡ digit_unit b → w ≡ begun gap b
-    → record { tabs = t.tabs + k; semicolons = t.semicolons + l; commas = t.commas + m; digits = t.digits + n; words = t.words + w } ≡ tallied t gap b
-tally_is t gap b k l m n w e1 e2 e3 e4 e5 = rw (e1, e2, e3, e4, e5)
+pub ruleset units = (same_low, digit_low, begun_low)
 
 -- two tallies that are the same count by count
 tally_same : (t u : Tally) → t.tabs ≡ u.tabs → t.semicolons ≡ u.semicolons → t.commas ≡ u.commas → t.digits ≡ u.digits → t.words ≡ u.words → t ≡ u
@@ -159,7 +171,7 @@ words_begin (b ∷ r) = by_test (is_blank b) (cut_at is_blank r) (words_begin r)
     by_test false (l ∷ ls) h = (omega (arith, h.1), omega (arith, h.1))
 
 -- a separator more
-separators_low : (s : ℕ) (t : Tally) → Low t → separators_in s t + 1 < 2 ^ 64
+pub separators_low : (s : ℕ) (t : Tally) → Low t → separators_in s t + 1 < 2 ^ 64
 unfolding separators_in
 separators_low s t low = by_test (s =? tab) (s =? semicolon)
   where
@@ -250,13 +262,6 @@ head_is line t by fields e f g = rw (← e, ← f, g)
 -- a tally made by the code
 pub tally_made : (line : List ℕ) (t : Tally) → t ≡ tally_of line → length line + 1 < 2 ^ 64 → Low t
 tally_made line t e h = rw e (tally_low line h)
-
--- fields by a separator
-pub fields_by : (t : Tally) (by : Parting) (s n : ℕ) → by ≡ Fields s → n ≡ separators_in s t → n + 1 ≡ fields_in t by
-fields_by t by s n is e = rw (is, e)
-
-pub separators_made : (s n : ℕ) (t : Tally) → n ≡ separators_in s t → Low t → n + 1 < 2 ^ 64
-separators_made s n t e low = rw e (separators_low s t low)
 
 -- a head's end lies within its line
 pub head_low : (line : List ℕ) (h : Head) → h ≡ head_of (content_of line) → h.stop ≤ length line

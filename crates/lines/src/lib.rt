@@ -12,28 +12,22 @@ pub fn line_end(text: &[u8], at: usize) -> usize
     requires { at ≤ length text.now }
     ensures { result ≡ at + until_newline (drop at text.now) }
 {
-    let mut i = at;
-    while i < text.len() {
-        if text[i] == b'\n' {
-            return i;
-        }
-        i += 1;
+    match text[at..].iter().position(|b| *b == b'\n') {
+        Some(i) => at + i,
+        None => text.len(),
     }
-    i
 }
 
 // How many bytes a line has without the carriage return before its newline.
+#[tactic(auto, using(decimal::proofs::Choices::choosing, decimal::proofs::LastByte::ends_is), unfolding(crate::specs::Lines::content_length))]
 pub fn content_length(line: &[u8]) -> usize
     ensures { result ≡ content_length line.now }
 {
-    let n = line.len();
-    if n == 0 {
-        return 0;
+    if line.ends_with(b"\r") {
+        line.len() - 1
+    } else {
+        line.len()
     }
-    if line[n - 1] == b'\r' {
-        return n - 1;
-    }
-    n
 }
 
 // What a line has so far.
@@ -56,50 +50,37 @@ pub struct Head {
 }
 
 // 1 where a byte is another one, is a digit, is a blank; else 0.
+#[tactic(auto, using(decimal::proofs::Choices::choosing), unfolding(crate::specs::Lines::same_unit))]
 fn same(b: u8, other: u8) -> usize
     ensures { result ≡ same_unit b other }
 {
-    if b == other {
-        return 1;
-    }
-    0
+    usize::from(b == other)
 }
 
+#[tactic(auto, using(decimal::proofs::Choices::choosing), unfolding(crate::specs::Lines::digit_unit))]
 fn digit(b: u8) -> usize
     ensures { result ≡ digit_unit b }
 {
-    if b < b'0' {
-        return 0;
-    }
-    if b'9' < b {
-        return 0;
-    }
-    1
+    usize::from(b.is_ascii_digit())
 }
 
+#[tactic(auto, using(decimal::proofs::Choices::choosing), unfolding(crate::specs::Inner::blank_unit))]
 fn blank(b: u8) -> usize
     ensures { result ≡ blank_unit b }
 {
-    if b == b' ' {
-        return 1;
-    }
-    if b == b'\t' {
-        return 1;
-    }
-    0
+    usize::from(b == b' ' || b == b'\t')
 }
 
 // The gap before a byte, where it begins a word. A gap is 1 where a word may begin, at the start and after a blank, else 0.
+#[tactic(auto, using(decimal::proofs::Choices::choosing), unfolding(crate::specs::Inner::begun))]
 fn begins(gap: usize, b: u8) -> usize
     ensures { result ≡ begun gap b }
 {
-    if blank(b) == 0 {
-        return gap;
-    }
-    0
+    if blank(b) == 0 { gap } else { 0 }
 }
 
 // A byte more.
+#[tactic(auto, using(crate::proofs::Lines::units))]
 fn count(tally: Tally, gap: usize, b: u8) -> Tally
     requires { TallyAsked tally gap }
     ensures { result ≡ tallied tally gap b }
@@ -124,54 +105,50 @@ fn tally_of(line: &[u8]) -> Tally
         digits: 0,
         words: 0,
     };
-    let mut gap: usize = 1;
-    let mut i: usize = 0;
-    while i < line.len() {
-        let b = line[i];
-        so_far = count(so_far, gap, b);
-        gap = blank(b);
-        i += 1;
+    let mut gap = 1;
+    for b in line {
+        so_far = count(so_far, gap, *b);
+        gap = blank(*b);
     }
     so_far
 }
 
 // How the fields are parted that a first line has.
+#[tactic(auto, using(decimal::proofs::Choices::choosing), unfolding(crate::specs::Lines::parting_of))]
 fn parting_of(tally: Tally) -> Parting
     ensures { result ≡ parting_of tally }
 {
     if 0 < tally.tabs {
-        return Parting::Fields(b'\t');
+        Parting::Fields(b'\t')
+    } else if 0 < tally.semicolons {
+        Parting::Fields(b';')
+    } else if 0 < tally.commas {
+        Parting::Fields(b',')
+    } else {
+        Parting::Words
     }
-    if 0 < tally.semicolons {
-        return Parting::Fields(b';');
-    }
-    if 0 < tally.commas {
-        return Parting::Fields(b',');
-    }
-    Parting::Words
 }
 
 // How many of a separator a line has.
+#[tactic(auto, using(decimal::proofs::Choices::choosing), unfolding(crate::specs::Lines::separators_in))]
 fn separators(separator: u8, tally: Tally) -> usize
     ensures { result ≡ separators_in separator tally }
 {
-    if separator == b'\t' {
-        return tally.tabs;
+    match separator {
+        b'\t' => tally.tabs,
+        b';' => tally.semicolons,
+        _ => tally.commas,
     }
-    if separator == b';' {
-        return tally.semicolons;
-    }
-    tally.commas
 }
 
 // How many fields a line has.
+#[tactic(auto, using(crate::proofs::Lines::separators_low))]
 fn fields(by: Parting, tally: Tally) -> usize
     requires { Low tally }
     ensures { result ≡ fields_in tally by }
 {
     match by {
-        Parting::Free => tally.words,
-        Parting::Words => tally.words,
+        Parting::Free | Parting::Words => tally.words,
         Parting::Fields(separator) => separators(separator, tally) + 1,
     }
 }
@@ -190,7 +167,7 @@ fn head_of(line: &[u8]) -> Head
     let seen = tally_of(line);
     let by = parting_of(seen);
     Head {
-        by: by,
+        by,
         fields: fields(by, seen),
         digits: seen.digits,
         stop: line.len(),
@@ -201,6 +178,5 @@ fn head_of(line: &[u8]) -> Head
 pub fn first_line(line: &[u8]) -> Head
     ensures { result ≡ head_of (content_of line.now) }
 {
-    let n = content_length(line);
-    head_of(&line[..n])
+    head_of(&line[..content_length(line)])
 }

@@ -4,33 +4,23 @@
 ghost use Rattle.std.specs.Prelude.{◌≡◌, length};
 ghost use Rattle.chain.specs.Written.{over};
 ghost use Rattle.places.specs.Places.{number_told, words_told};
-ghost use Rattle.text.specs.Text.{told_numbers, numbers_in, numbers_of};
+ghost use Rattle.text.specs.Text.{numbers_in, numbers_of};
 ghost use Rattle.text.specs.Inner.{ReadTo};
 
-use places::Read;
-use text::{Parsed, Parting};
-
-// What was parsed, told of the text.
-fn tell_parsed(text: &[u8], parsed: Parsed) -> Read
-    ensures { result ≡ told_numbers text.now parsed }
-{
-    match parsed {
-        Parsed::Numbers(n) => Read::Values(n, 0),
-        Parsed::Fault(fault, place, found, wanted) => places::refuse(
-            text, fault, place, found, wanted,
-        ),
-    }
-}
+use places::Refusal;
+use text::Parting;
 
 // A text of numbers after its mark.
-fn read_numbers(text: &[u8], numbers: &mut [u32]) -> Read
+fn read_numbers(text: &[u8], numbers: &mut [u32]) -> Result<(usize, usize), Refusal>
     ensures { ReadTo (numbers_in text.now (length numbers.old)) numbers.old result numbers.new }
 {
     if ends::is_cut(text) {
-        return places::cut_text(text);
+        return Err(places::cut_text(text));
     }
-    let parsed = text::parse(Parting::Free, text, 0, numbers.len(), numbers);
-    tell_parsed(text, parsed)
+    match text::parse(Parting::Free, text, 0, numbers.len(), numbers) {
+        Ok(n) => Ok((n, 0)),
+        Err(flaw) => Err(places::refuse(text, flaw.fault, flaw.place, flaw.found, flaw.wanted)),
+    }
 }
 
 // Reads a text of numbers over the front of the lent ones, and answers how many there are.

@@ -1,5 +1,7 @@
 -- The numbers of a text's faults: those from 101 on are none of the specification's refusals (Spec 12.3).
 use Rattle.std.specs.Prelude.{ℕ}
+use Rattle.places.specs.declared.Fault.{Fault}
+use Rattle.places.specs.declared.Fault.TheVariants.{OutOfRange, NoRoom, Unreadable, TooLarge, CutOff, OtherFields, Grouped, Signed, NoAmount}
 
 -- a lent slice too short, and a number of columns or of payslips out of range, are refusals of the specification
 abbrev pub out_of_range : ℕ
@@ -28,3 +30,14 @@ signed = 106
 
 abbrev pub no_amount : ℕ
 no_amount = 107
+
+abbrev pub number_of : Fault → ℕ
+number_of OutOfRange = out_of_range
+number_of NoRoom = no_room
+number_of Unreadable = unreadable
+number_of TooLarge = too_large
+number_of CutOff = cut_off
+number_of OtherFields = other_fields
+number_of Grouped = grouped
+number_of Signed = signed
+number_of NoAmount = no_amount

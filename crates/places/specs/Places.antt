@@ -1,10 +1,11 @@
 -- Where a place of a text is, what stands before and at the end of a text, and what a text answers (Spec 12, 12.3).
-use Rattle.std.specs.Prelude.{Bool, false, cond, List, [], ◌∷◌, ℕ, ◌+◌, ◌-◌, length, get_or, take, drop}
+use Rattle.std.specs.Prelude.{Bool, false, cond, List, [], ◌∷◌, ℕ, ◌+◌, ◌-◌, length, get_or, take, drop, Result, Ok, Err}
 use Rattle.chain.specs.Tests.{◌=?◌, ◌≠?◌, ◌or◌}
 use Rattle.decimal.specs.Decimal.{newline}
-use Rattle.places.specs.Faults.{cut_off}
-use Rattle.places.specs.declared.Read.{Read}
-use Rattle.places.specs.declared.Read.TheVariants.{Values, Refused}
+use Rattle.places.specs.Faults.{number_of}
+use Rattle.places.specs.declared.Fault.{Fault}
+use Rattle.places.specs.declared.Fault.TheVariants.{CutOff}
+use Rattle.places.specs.declared.Refusal.{Refusal}
 use Rattle.places.specs.declared.Spot.{Spot}
 
 -- where a text goes on after a byte: a newline begins a line
@@ -31,20 +32,30 @@ body_of text = drop (mark_length text) text
 unfoldable pub is_cut : List ℕ → Bool
 is_cut text = cond (length text =? 0) false (get_or text (length text - 1) 0 ≠? newline)
 
--- the refusal of a text by a fault at a place
-abbrev pub refused_at : ℕ → Spot → ℕ → ℕ → Read
-refused_at fault spot seen wanted = Refused fault spot.line spot.column seen wanted
+-- the refusal of a text by a fault at a spot
+abbrev pub refused_at : Fault → Spot → ℕ → ℕ → Refusal
+refused_at f s seen sought = record { fault = f; spot = s; found = seen; wanted = sought }
 
 -- that of a text cut off, just past its last byte
-unfoldable pub cut_text : List ℕ → Read
-cut_text text = refused_at cut_off (spot_of text (length text + 1)) 0 0
+unfoldable pub cut_text : List ℕ → Refusal
+cut_text text = refused_at CutOff (spot_of text (length text + 1)) 0 0
+
+-- what a text answers: two values, or a refusal at a line and a column
+abbrev pub Read : Type 0
+Read = Result (ℕ × ℕ) Refusal
+
+abbrev pub values : ℕ → ℕ → Read
+values a b = Ok (a, b)
+
+abbrev pub refused : Fault → ℕ → ℕ → ℕ → ℕ → Read
+refused fault l c seen wanted = Err (refused_at fault (record { line = l; column = c }) seen wanted)
 
 -- what is returned: 0, or the refusal's number
 abbrev pub number_told : Read → ℕ
-number_told (Values a b) = 0
-number_told (Refused fault line column seen wanted) = fault
+number_told (Ok v) = 0
+number_told (Err r) = number_of r.fault
 
 -- what the eight words are: the values; or line, column, what was found and what was wanted; then zeros
 abbrev pub words_told : Read → List ℕ
-words_told (Values a b) = a ∷ b ∷ 0 ∷ 0 ∷ 0 ∷ 0 ∷ 0 ∷ 0 ∷ []
-words_told (Refused fault line column seen wanted) = line ∷ column ∷ seen ∷ wanted ∷ 0 ∷ 0 ∷ 0 ∷ 0 ∷ []
+words_told (Ok v) = v.0 ∷ v.1 ∷ 0 ∷ 0 ∷ 0 ∷ 0 ∷ 0 ∷ 0 ∷ []
+words_told (Err r) = r.spot.line ∷ r.spot.column ∷ r.found ∷ r.wanted ∷ 0 ∷ 0 ∷ 0 ∷ 0 ∷ []

@@ -32,8 +32,8 @@ impl<'a> BitReader<'a> {
         ReadField {
             value: field.value,
             next: BitReader {
-                bytes: self.bytes,
                 cursor: field.next,
+                ..self
             },
         }
     }
@@ -50,9 +50,6 @@ pub fn read_fields<'a>(
     ensures { FieldsTaken reader.entry.bytes.now reader.entry.cursor.at width count out.old
         out.new result.cursor.at × (result.bytes ≡ reader.entry.bytes) }
 {
-    let next = fields::take_fields(reader.bytes, reader.cursor, width, count, out);
-    BitReader {
-        bytes: reader.bytes,
-        cursor: next,
-    }
+    let cursor = fields::take_fields(reader.bytes, reader.cursor, width, count, out);
+    BitReader { cursor, ..reader }
 }

@@ -7,18 +7,17 @@ use native.Mathlib.Numerals.{add-one}
 use native.Mathlib.Omega.{arith}
 use lib.ListN.{length, get_or, take, drop, drop_of_length-le}
 use lib.Seq.{drop-cons, drop-drop}
-use Rattle.chain.specs.Tests.{◌<?◌, ◌=?◌, ◌≠?◌, ◌or◌}
+use Rattle.chain.specs.Tests.{◌<?◌, ◌=?◌, ◌≠?◌}
 use Rattle.chain.specs.Chain.{most_payslips}
 use Rattle.chain.specs.Written.{over, laid}
 use Rattle.chain.proofs.Rules.{lt_yes, lt_no, eq_yes, eq_no, ne_yes, ne_no, not_lt}
 use Rattle.chain.proofs.Written.{laid_nil, laid-length, laid_laid, over_laid}
-use Rattle.places.specs.Faults.{out_of_range, no_room, other_fields}
+use Rattle.std.specs.Prelude.{Ok, Err}
+use Rattle.places.specs.declared.Fault.TheVariants.{OutOfRange, NoRoom, OtherFields}
 use Rattle.text.specs.declared.Parting.{Parting}
-use Rattle.text.specs.declared.Parsed.{Parsed}
-use Rattle.text.specs.declared.Parsed.TheVariants.{Numbers, Fault}
-use Rattle.places.specs.declared.Read.{Read}
-use Rattle.places.specs.declared.Read.TheVariants.{Values, Refused}
-use Rattle.text.specs.Text.{Found, found, read_text, Outcome, outcome}
+use Rattle.places.specs.Places.{Read, values, refused}
+use Rattle.text.specs.declared.Flaw.{Flaw}
+use Rattle.text.specs.Text.{Parsed, flaw, Found, found, read_text, Outcome, outcome}
 use Rattle.text.specs.Inner.{FoundTo, ReadTo}
 use Rattle.text.proofs.Reading.{text_count}
 use Rattle.lines.specs.Lines.{lines_of, content_of, tally_of, fields_in}
@@ -36,17 +35,17 @@ found_same f g from old a new e r = rw e at r
 
 -- a line of amounts by its tests, as the code has them
 module _ (by : Parting) (p n j c : ℕ) (line old : List ℕ) where
-  pub row_many : j ≡ most_payslips → FoundTo (row_found by p n j c line) c old (Fault out_of_range 1 (most_payslips + 1) most_payslips) old
+  pub row_many : j ≡ most_payslips → FoundTo (row_found by p n j c line) c old (Err (flaw OutOfRange 1 (most_payslips + 1) most_payslips)) old
   unfolding row_found
   row_many h = found_none _ _ _ c old (rw (eq_yes j most_payslips h)) refl
 
   module _ (few : j ≡ most_payslips → ⊥) (f : ℕ) (told : f ≡ fields_in (tally_of line) by) where
-    pub row_fields : (f ≡ p → ⊥) → FoundTo (row_found by p n j c line) c old (Fault other_fields (length line + 1) f p) old
+    pub row_fields : (f ≡ p → ⊥) → FoundTo (row_found by p n j c line) c old (Err (flaw OtherFields (length line + 1) f p)) old
     unfolding row_found
     row_fields h = found_none _ _ _ c old (rw (eq_no j most_payslips few, ← told, ne_yes f p h)) refl
 
     module _ (same : f ≡ p) where
-      pub row_lacks : n < c + p → FoundTo (row_found by p n j c line) c old (Fault no_room 1 n (c + p)) old
+      pub row_lacks : n < c + p → FoundTo (row_found by p n j c line) c old (Err (flaw NoRoom 1 n (c + p))) old
       unfolding row_found
       row_lacks h = found_none _ _ _ c old (rw (eq_no j most_payslips few, ← told, ne_no f p same, lt_yes n (c + p) h)) refl
 
@@ -54,13 +53,15 @@ module _ (by : Parting) (p n j c : ℕ) (line old : List ℕ) where
       unfolding row_found
       row_reads a new h r = found_same _ _ c old a new (rw (eq_no j most_payslips few, ← told, ne_no f p same, lt_no n (c + p) h)) r
 
+pub ruleset row_judged = (row_many, row_fields, row_lacks, row_reads)
+
 -- a line, where the line is another one
 pub row_of : (by : Parting) (p n j c : ℕ) (l l' old : List ℕ) (a : Parsed) (new : List ℕ) → l ≡ l'
     → FoundTo (row_found by p n j c l) c old a new → FoundTo (row_found by p n j c l') c old a new
 row_of by p n j c l l' old a new e r = rw e at r
 
 -- a line that is read has as many amounts as it answers, and there were cells for them
-row_count : (by : Parting) (p n j c : ℕ) (line : List ℕ) (x : ℕ) → (row_found by p n j c line).answer ≡ Numbers x
+row_count : (by : Parting) (p n j c : ℕ) (line : List ℕ) (x : ℕ) → (row_found by p n j c line).answer ≡ Ok x
     → (x ≡ length (row_found by p n j c line).numbers) × (c + x ≤ n)
 unfolding row_found
 row_count by p n j c line x = by_tests (j =? most_payslips) (fields_in (tally_of line) by ≠? p) (n <? c + p) (λ e. not_lt n (c + p) e)
@@ -68,12 +69,12 @@ row_count by p n j c line x = by_tests (j =? most_payslips) (fields_in (tally_of
     -- what is found of the line, by its three tests
     tested : Bool → Bool → Bool → Found
     tested s t u =
-        cond s (found (Fault out_of_range 1 (most_payslips + 1) most_payslips) [])
-        (cond t (found (Fault other_fields (length line + 1) (fields_in (tally_of line) by) p) [])
-        (cond u (found (Fault no_room 1 n (c + p)) []) (read_text by line p)))
+        cond s (found (Err (flaw OutOfRange 1 (most_payslips + 1) most_payslips)) [])
+        (cond t (found (Err (flaw OtherFields (length line + 1) (fields_in (tally_of line) by) p)) [])
+        (cond u (found (Err (flaw NoRoom 1 n (c + p))) []) (read_text by line p)))
 
     by_tests : (s t u : Bool) → (u ≡ false → c + p ≤ n)
-        → (tested s t u).answer ≡ Numbers x → (x ≡ length (tested s t u).numbers) × (c + x ≤ n)
+        → (tested s t u).answer ≡ Ok x → (x ≡ length (tested s t u).numbers) × (c + x ≤ n)
     by_tests true t u h e = let z : ◌≡◌ {A = ℕ} 0 1 = cc in absurd (omega arith)
     by_tests false true u h e = let z : ◌≡◌ {A = ℕ} 0 1 = cc in absurd (omega arith)
     by_tests false false true h e = let z : ◌≡◌ {A = ℕ} 0 1 = cc in absurd (omega arith)
@@ -81,11 +82,11 @@ row_count by p n j c line x = by_tests (j =? most_payslips) (fields_in (tally_of
 
 -- the end, by the payslips read
 module _ (p j k : ℕ) where
-  pub end_none : j ≡ 0 → Refused out_of_range k 1 0 1 ≡ rows_end p j k
+  pub end_none : j ≡ 0 → refused OutOfRange k 1 0 1 ≡ rows_end p j k
   unfolding rows_end
   end_none h = rw (eq_yes j 0 h)
 
-  pub end_some : (j ≡ 0 → ⊥) → Values p j ≡ rows_end p j k
+  pub end_some : (j ≡ 0 → ⊥) → values p j ≡ rows_end p j k
   unfolding rows_end
   end_some h = rw (eq_no j 0 h)
 
@@ -154,7 +155,7 @@ module _ (by : Parting) (p : ℕ) (text old : List ℕ) (whole : Outcome) where
           let low : c ≤ length cells = omega (arith, r.long, r.fits) in
           sym (ap (laid (c + length row.numbers) rest) read'.stored ∙ laid_laid c (c + length row.numbers) row.numbers rest cells refl low)
 
-      module _ (x : ℕ) (told : a ≡ Numbers x) where
+      module _ (x : ℕ) (told : a ≡ Ok x) where
         count : (x ≡ length row.numbers) × (c + x ≤ length old)
         unfolding row
         count = row_count by p (length old) j c (content_of (take (end - at) (drop at text))) x (sym read'.answered ∙ told)
@@ -165,7 +166,7 @@ module _ (by : Parting) (p : ℕ) (text old : List ℕ) (whole : Outcome) where
         pub rows_on : Rows (j + 1) (c + x) (k + 1) (end + 1) cells'
         unfolding after_row joined
         rows_on =
-            let was : row.answer ≡ Numbers x = sym read'.answered ∙ told in
+            let was : row.answer ≡ Ok x = sym read'.answered ∙ told in
             let s : rows_left j c k at ≡ joined row.numbers (rows_left (j + 1) (c + x) (k + 1) (end + 1)) = next ∙ rw (was, after_row) in
             let low : c + length row.numbers ≤ length cells = omega (arith, count.0, count.1, r.long) in
             record {
@@ -178,11 +179,11 @@ module _ (by : Parting) (p : ℕ) (text old : List ℕ) (whole : Outcome) where
                   ∙ ap (λ (n : ℕ). laid (c + n) (rows_left (j + 1) (c + x) (k + 1) (end + 1)).numbers cells') (sym count.0);
             }
 
-      pub rows_stop : (fault i seen wanted : ℕ) → a ≡ Fault fault i seen wanted → ReadTo whole old (Refused fault k i seen wanted) cells'
+      pub rows_stop : (e : Flaw) → a ≡ Err e → ReadTo whole old (refused e.fault k e.place e.found e.wanted) cells'
       unfolding after_row
-      rows_stop fault i seen wanted told =
-          let was : row.answer ≡ Fault fault i seen wanted = sym read'.answered ∙ told in
-          let s : rows_left j c k at ≡ outcome (Refused fault k i seen wanted) row.numbers = next ∙ rw (was, after_row) in
+      rows_stop e told =
+          let was : row.answer ≡ Err e = sym read'.answered ∙ told in
+          let s : rows_left j c k at ≡ outcome (refused e.fault k e.place e.found e.wanted) row.numbers = next ∙ rw (was, after_row) in
           record {
             answered = sym (r.answer ∙ ap (λ (o : Outcome). o.answer) s);
             stored = sym (r.numbers ∙ ap (λ (o : Outcome). laid c o.numbers cells) s ∙ sym read'.stored);

@@ -7,10 +7,10 @@ use native.Mathlib.Omega.{arith}
 use lib.ListN.{length, take, drop, drop_of_length-le}
 use Rattle.chain.specs.Chain.{most_columns}
 use Rattle.chain.proofs.Rules.{lt_yes, lt_no, eq_yes, eq_no, or_left, or_right, or_none}
-use Rattle.places.specs.Faults.{out_of_range}
-use Rattle.places.specs.declared.Read.{Read}
-use Rattle.places.specs.declared.Read.TheVariants.{Refused}
-use Rattle.places.specs.Places.{is_cut, cut_text}
+use Rattle.std.specs.Prelude.{Err}
+use Rattle.places.specs.declared.Fault.TheVariants.{OutOfRange}
+use Rattle.places.specs.declared.Refusal.{Refusal}
+use Rattle.places.specs.Places.{is_cut, cut_text, Read, refused}
 use Rattle.text.specs.Text.{Outcome, outcome}
 use Rattle.text.specs.Inner.{ReadTo}
 use Rattle.text.proofs.Outcomes.{over_none, read_same}
@@ -25,11 +25,11 @@ read_none : (o : Outcome) (old : List ℕ) (a a' : Read) → outcome a [] ≡ o 
 read_none o old a a' e same = read_same _ _ old a' old e (record { answered = same; stored = over_none old })
 
 module _ (h : Head) (n : ℕ) (all rest : List (List ℕ)) (old : List ℕ) where
-  pub head_none : h.fields ≡ 0 → ReadTo (headed h n all rest) old (Refused out_of_range 1 (h.stop + 1) h.fields most_columns) old
+  pub head_none : h.fields ≡ 0 → ReadTo (headed h n all rest) old (refused OutOfRange 1 (h.stop + 1) h.fields most_columns) old
   unfolding headed
   head_none e = read_none _ old _ _ (rw (or_left _ _ (eq_yes h.fields 0 e))) refl
 
-  pub head_many : most_columns < h.fields → ReadTo (headed h n all rest) old (Refused out_of_range 1 (h.stop + 1) h.fields most_columns) old
+  pub head_many : most_columns < h.fields → ReadTo (headed h n all rest) old (refused OutOfRange 1 (h.stop + 1) h.fields most_columns) old
   unfolding headed
   head_many e = read_none _ old _ _ (rw (or_right _ _ (lt_yes most_columns h.fields e))) refl
 
@@ -45,21 +45,21 @@ module _ (h : Head) (n : ℕ) (all rest : List (List ℕ)) (old : List ℕ) wher
         read_same _ _ old a new (rw (or_none _ _ (eq_no h.fields 0 some) (lt_no most_columns h.fields few), eq_no h.digits 0 e)) r
 
 module _ (text : List ℕ) (t : Bool) (told : t ≡ is_cut text) (n : ℕ) (old : List ℕ) where
-  pub table_cut : (a : Read) → t ≡ true → a ≡ cut_text text → ReadTo (table_in text n) old a old
+  pub table_cut : (r : Refusal) → t ≡ true → r ≡ cut_text text → ReadTo (table_in text n) old (Err r) old
   unfolding table_in
-  table_cut a cut e = read_none _ old _ _ (rw (← told, cut)) e
+  table_cut r cut e = read_none _ old _ _ (rw (← told, cut)) (ap (λ (x : Refusal). Err x) e)
 
   module _ (whole : t ≡ false) where
     on : table_lines (lines_of text) n ≡ table_in text n
     unfolding table_in
     on = rw (← told, whole)
 
-    pub table_none : length text ≡ 0 → ReadTo (table_in text n) old (Refused out_of_range 1 1 0 1) old
+    pub table_none : length text ≡ 0 → ReadTo (table_in text n) old (refused OutOfRange 1 1 0 1) old
     unfolding table_lines
     table_none h =
         let low : length text ≤ 0 = omega arith in
         let none : text ≡ [] = drop_of_length-le text low in
-        let s : outcome (Refused out_of_range 1 1 0 1) [] ≡ table_lines (lines_of text) n = rw none in
+        let s : outcome (refused OutOfRange 1 1 0 1) [] ≡ table_lines (lines_of text) n = rw none in
         read_none _ old _ _ (s ∙ on) refl
 
     table_lines_lem : (all : List (List ℕ)) (l : List ℕ) (ls : List (List ℕ)) → all ≡ l ∷ ls → table_lines all n ≡ headed (head_of (content_of l)) n all ls

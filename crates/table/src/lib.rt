@@ -10,8 +10,8 @@ ghost use Rattle.lines.specs.Lines.{lines_of, content_of};
 ghost use Rattle.table.specs.Table.{row_found, rows_from, headed, table_in, table_of};
 
 use lines::Head;
-use places::Read;
-use text::{Parsed, Parting};
+use places::{Fault, Refusal, Spot};
+use text::{Flaw, Parting};
 
 // A line of amounts without its carriage return, judged, and read over the cells after those that are filled.
 fn read_content(
@@ -21,24 +21,34 @@ fn read_content(
     filled: usize,
     line: &[u8],
     amounts: &mut [u32],
-) -> Parsed
+) -> Result<usize, Flaw>
     requires { (p ≤ most_columns) × (filled ≤ length amounts.old) }
     ensures { FoundTo (row_found by p (length amounts.old) payslips filled line.now) filled amounts.old result amounts.new }
 {
     if payslips == chain::MOST_PAYSLIPS {
-        return Parsed::Fault(
-            places::OUT_OF_RANGE,
-            1,
-            chain::MOST_PAYSLIPS + 1,
-            chain::MOST_PAYSLIPS,
-        );
+        return Err(Flaw {
+            fault: Fault::OutOfRange,
+            place: 1,
+            found: chain::MOST_PAYSLIPS + 1,
+            wanted: chain::MOST_PAYSLIPS,
+        });
     }
     let fields = lines::field_count(by, line);
     if fields != p {
-        return Parsed::Fault(places::OTHER_FIELDS, line.len() + 1, fields, p);
+        return Err(Flaw {
+            fault: Fault::OtherFields,
+            place: line.len() + 1,
+            found: fields,
+            wanted: p,
+        });
     }
     if amounts.len() < filled + p {
-        return Parsed::Fault(places::NO_ROOM, 1, amounts.len(), filled + p);
+        return Err(Flaw {
+            fault: Fault::NoRoom,
+            place: 1,
+            found: amounts.len(),
+            wanted: filled + p,
+        });
     }
     text::parse(by, line, filled, p, amounts)
 }
@@ -51,13 +61,13 @@ fn read_row(
     filled: usize,
     line: &[u8],
     amounts: &mut [u32],
-) -> Parsed
+) -> Result<usize, Flaw>
     requires { (p ≤ most_columns) × (filled ≤ length amounts.old) }
     ensures { FoundTo (row_found by p (length amounts.old) payslips filled (content_of line.now)) filled amounts.old result
         amounts.new }
 {
-    let n = lines::content_length(line);
-    read_content(by, p, payslips, filled, &line[..n], amounts)
+    let content = &line[..lines::content_length(line)];
+    read_content(by, p, payslips, filled, content, amounts)
 }
 
 // The lines of amounts, the first of which has a number and stands at a place.
@@ -68,23 +78,30 @@ fn read_rows(
     start: usize,
     text: &[u8],
     amounts: &mut [u32],
-) -> Read
+) -> Result<(usize, usize), Refusal>
     requires { (p ≤ most_columns) × (start ≤ length text.now + 1) × (first ≤ start + 2) }
     ensures { ReadTo (rows_from by p (length amounts.old) 0 0 first (lines_of (drop start text.now))) amounts.old result
         amounts.new }
 {
     let mut at = start;
     let mut line = first;
-    let mut payslips: usize = 0;
-    let mut filled: usize = 0;
+    let mut payslips = 0;
+    let mut filled = 0;
+    // a `while`, since the place jumps from line to line
     while at < text.len() {
         let end = lines::line_end(text, at);
         match read_row(by, p, payslips, filled, &text[at..end], amounts) {
-            Parsed::Numbers(n) => {
-                filled += n;
-            }
-            Parsed::Fault(fault, column, found, wanted) => {
-                return Read::Refused(fault, line, column, found, wanted);
+            Ok(n) => filled += n,
+            Err(flaw) => {
+                return Err(Refusal {
+                    fault: flaw.fault,
+                    spot: Spot {
+                        line,
+                        column: flaw.place,
+                    },
+                    found: flaw.found,
+                    wanted: flaw.wanted,
+                });
             }
         }
         payslips += 1;
@@ -92,56 +109,63 @@ fn read_rows(
         at = end + 1;
     }
     if payslips == 0 {
-        return Read::Refused(places::OUT_OF_RANGE, line, 1, 0, 1);
+        return Err(Refusal {
+            fault: Fault::OutOfRange,
+            spot: Spot { line, column: 1 },
+            found: 0,
+            wanted: 1,
+        });
     }
-    Read::Values(p, payslips)
+    Ok((p, payslips))
 }
 
 // A table whose first line, which ends at a place, has a head.
-fn read_headed(head: Head, end: usize, text: &[u8], amounts: &mut [u32]) -> Read
+fn read_headed(
+    head: Head,
+    end: usize,
+    text: &[u8],
+    amounts: &mut [u32],
+) -> Result<(usize, usize), Refusal>
     requires { (end ≤ length text.now) × (head.stop + 1 < 2 ^ 64) }
     ensures { ReadTo (headed head (length amounts.old) (lines_of text.now) (lines_of (drop (end + 1) text.now)))
         amounts.old result amounts.new }
 {
     let p = head.fields;
-    if p == 0 {
-        return Read::Refused(
-            places::OUT_OF_RANGE,
-            1,
-            head.stop + 1,
-            p,
-            chain::MOST_COLUMNS,
-        );
+    if p == 0 || chain::MOST_COLUMNS < p {
+        return Err(Refusal {
+            fault: Fault::OutOfRange,
+            spot: Spot {
+                line: 1,
+                column: head.stop + 1,
+            },
+            found: p,
+            wanted: chain::MOST_COLUMNS,
+        });
     }
-    if chain::MOST_COLUMNS < p {
-        return Read::Refused(
-            places::OUT_OF_RANGE,
-            1,
-            head.stop + 1,
-            p,
-            chain::MOST_COLUMNS,
-        );
-    }
-    let by = head.by;
     if head.digits == 0 {
-        return read_rows(by, p, 2, end + 1, text, amounts);
+        read_rows(head.by, p, 2, end + 1, text, amounts)
+    } else {
+        read_rows(head.by, p, 1, 0, text, amounts)
     }
-    read_rows(by, p, 1, 0, text, amounts)
 }
 
 // A table after its mark.
-fn read_table(text: &[u8], amounts: &mut [u32]) -> Read
+fn read_table(text: &[u8], amounts: &mut [u32]) -> Result<(usize, usize), Refusal>
     ensures { ReadTo (table_in text.now (length amounts.old)) amounts.old result amounts.new }
 {
     if ends::is_cut(text) {
-        return places::cut_text(text);
+        return Err(places::cut_text(text));
     }
-    if text.len() == 0 {
-        return Read::Refused(places::OUT_OF_RANGE, 1, 1, 0, 1);
+    if text.is_empty() {
+        return Err(Refusal {
+            fault: Fault::OutOfRange,
+            spot: Spot { line: 1, column: 1 },
+            found: 0,
+            wanted: 1,
+        });
     }
     let end = lines::line_end(text, 0);
-    let head = lines::first_line(&text[..end]);
-    read_headed(head, end, text, amounts)
+    read_headed(lines::first_line(&text[..end]), end, text, amounts)
 }
 
 // Reads a table over the front of the lent amounts, and answers its columns and its payslips.

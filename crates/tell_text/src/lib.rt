@@ -3,29 +3,29 @@
 
 ghost use Rattle.places.specs.Inner.{ReadTold};
 
-use places::Read;
+use places::Refusal;
 
 // What a text answered.
-pub fn tell_text(read: Read, answer: &mut [u64; 8]) -> u32
+pub fn tell_text(read: Result<(usize, usize), Refusal>, answer: &mut [u64; 8]) -> u32
     ensures { ReadTold read result answer.new }
 {
     match read {
-        Read::Values(a, b) => {
+        Ok((a, b)) => {
             *answer = [a as u64, b as u64, 0, 0, 0, 0, 0, 0];
             0
         }
-        Read::Refused(fault, line, column, found, wanted) => {
+        Err(refusal) => {
             *answer = [
-                line as u64,
-                column as u64,
-                found as u64,
-                wanted as u64,
+                refusal.spot.line as u64,
+                refusal.spot.column as u64,
+                refusal.found as u64,
+                refusal.wanted as u64,
                 0,
                 0,
                 0,
                 0,
             ];
-            fault
+            refusal.fault.number()
         }
     }
 }

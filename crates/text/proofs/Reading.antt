@@ -12,7 +12,9 @@ use Rattle.chain.specs.Tests.{◌<?◌}
 use Rattle.chain.specs.Chain.{most_amount}
 use Rattle.chain.specs.Written.{laid}
 use Rattle.chain.proofs.Written.{laid_nil, laid_one}
-use Rattle.places.specs.Faults.{no_room, too_large}
+use Rattle.std.specs.Prelude.{Ok, Err}
+use Rattle.places.specs.declared.Fault.{Fault}
+use Rattle.places.specs.declared.Fault.TheVariants.{NoRoom, TooLarge}
 use Rattle.text.specs.declared.Parting.{Parting}
 use Rattle.text.specs.declared.Kind.{Kind}
 use Rattle.text.specs.declared.Kind.TheVariants.{Blank, Padding, Separator, Digit, Other}
@@ -20,8 +22,7 @@ use Rattle.text.specs.declared.Making.{Making}
 use Rattle.text.specs.declared.Making.TheVariants.{Nothing, Number, Padded}
 use Rattle.text.specs.declared.Effect.{Effect}
 use Rattle.text.specs.declared.Effect.TheVariants.{Becomes, Ends, Faulty}
-use Rattle.text.specs.declared.Parsed.TheVariants.{Numbers, Fault}
-use Rattle.text.specs.Text.{kind_of, end_kind, kinds_of, grown, begun, effect_of, Found, found, before, follow, read_from, read_text}
+use Rattle.text.specs.Text.{kind_of, end_kind, kinds_of, grown, begun, effect_of, flaw, Found, found, before, follow, read_from, read_text}
 use Rattle.text.specs.Inner.{kind_at, FoundTo}
 
 -- the kinds of a text are those of its bytes, and one more for its end
@@ -59,7 +60,7 @@ begun_sound : (c n d : ℕ) → Sound c n (begun c n d)
 unfolding begun ◌<?◌
 begun_sound c n d = by_test (c <? n) (λ e. ltb-true c n e)
   where
-    by_test : (t : Bool) → (t ≡ true → c < n) → Sound c n (cond t (Becomes (Number d)) (Faulty no_room n (n + 1)))
+    by_test : (t : Bool) → (t ≡ true → c < n) → Sound c n (cond t (Becomes (Number d)) (Faulty NoRoom n (n + 1)))
     by_test true h = h refl
     by_test false h = tt
 
@@ -67,7 +68,7 @@ grown_sound : (c n x d : ℕ) → c < n → Sound c n (grown x d)
 unfolding grown
 grown_sound c n x d h = by_test (most_amount <? 10 * x + d)
   where
-    by_test : (t : Bool) → Sound c n (cond t (Faulty too_large 0 0) (Becomes (Number (10 * x + d))))
+    by_test : (t : Bool) → Sound c n (cond t (Faulty TooLarge 0 0) (Becomes (Number (10 * x + d))))
     by_test true = tt
     by_test false = h
 
@@ -105,11 +106,11 @@ module _ (by : Parting) (text : List ℕ) (from n : ℕ) (old : List ℕ) where
 
   module _ (c : ℕ) (m : Making) (i : ℕ) (cells : List ℕ) (r : Reads c m i cells) where
     -- the end
-    pub reads_end : length text < i → FoundTo (read_text by text n) from old (Numbers c) cells
+    pub reads_end : length text < i → FoundTo (read_text by text n) from old (Ok c) cells
     unfolding read_from
     reads_end h =
         let past : length (kinds_of by text) ≤ i = omega (arith, kinds_length by text) in
-        let s : left c m i ≡ found (Numbers c) [] = rw (drop_of_length-le (kinds_of by text) past) in
+        let s : left c m i ≡ found (Ok c) [] = rw (drop_of_length-le (kinds_of by text) past) in
         record {
           answered = sym (r.answer ∙ ap (λ (f : Found). f.answer) s);
           stored = sym (r.numbers ∙ ap (λ (f : Found). laid (from + c) f.numbers cells) s ∙ laid_nil (from + c) cells);
@@ -154,10 +155,10 @@ module _ (by : Parting) (text : List ℕ) (from n : ℕ) (old : List ℕ) where
                 r.numbers ∙ ap (λ (f : Found). laid (from + c) f.numbers cells) s ∙ rw at (sym (laid_one (from + c) x _ cells (omega (arith, r.long))));
           }
 
-      pub reads_stop : (fault seen wanted : ℕ) → e ≡ Faulty fault seen wanted → FoundTo (read_text by text n) from old (Fault fault (i + 1) seen wanted) cells
+      pub reads_stop : (fault : Fault) (seen wanted : ℕ) → e ≡ Faulty fault seen wanted → FoundTo (read_text by text n) from old (Err (flaw fault (i + 1) seen wanted)) cells
       unfolding follow
       reads_stop fault seen wanted was =
-          let s : left c m i ≡ found (Fault fault (i + 1) seen wanted) [] = next ∙ rw (was, follow) in
+          let s : left c m i ≡ found (Err (flaw fault (i + 1) seen wanted)) [] = next ∙ rw (was, follow) in
           record {
             answered = sym (r.answer ∙ ap (λ (f : Found). f.answer) s);
             stored = sym (r.numbers ∙ ap (λ (f : Found). laid (from + c) f.numbers cells) s ∙ laid_nil (from + c) cells);
@@ -172,20 +173,20 @@ module _ (by : Parting) (text : List ℕ) (from n : ℕ) (old : List ℕ) where
         on_ends x was room a b d = rw (a, b, d) (reads_ends x was room)
 
 -- a text that was read has as many numbers as it answers, and they are within the room for them
-read_count : (n c i : ℕ) (m : Making) (ks : List Kind) (x : ℕ) → c ≤ n → Fits c n m → (read_from n c i m ks).answer ≡ Numbers x
+read_count : (n c i : ℕ) (m : Making) (ks : List Kind) (x : ℕ) → c ≤ n → Fits c n m → (read_from n c i m ks).answer ≡ Ok x
     → (x ≡ c + length (read_from n c i m ks).numbers) × (x ≤ n)
 unfolding read_from follow before
 read_count n c i m [] x h f e = let z : c ≡ x = cc in (omega arith, omega arith)
 read_count n c i m (k ∷ r) x h f e = by_effect (effect_of c n m k) (sound c n m k f) (λ c' m'. read_count n c' (suc i) m' r x) e
   where
     by_effect : (t : Effect) → Sound c n t
-        → ((c' : ℕ) (m' : Making) → c' ≤ n → Fits c' n m' → (read_from n c' (suc i) m' r).answer ≡ Numbers x → (x ≡ c' + length (read_from n c' (suc i) m' r).numbers) × (x ≤ n))
-        → (follow i t (λ m'. read_from n c (suc i) m' r) (λ y. before y (read_from n (suc c) (suc i) Nothing r))).answer ≡ Numbers x
+        → ((c' : ℕ) (m' : Making) → c' ≤ n → Fits c' n m' → (read_from n c' (suc i) m' r).answer ≡ Ok x → (x ≡ c' + length (read_from n c' (suc i) m' r).numbers) × (x ≤ n))
+        → (follow i t (λ m'. read_from n c (suc i) m' r) (λ y. before y (read_from n (suc c) (suc i) Nothing r))).answer ≡ Ok x
         → (x ≡ c + length (follow i t (λ m'. read_from n c (suc i) m' r) (λ y. before y (read_from n (suc c) (suc i) Nothing r))).numbers) × (x ≤ n)
     by_effect (Becomes m') s ih e = ih c m' h s e
     by_effect (Ends y) s ih e = let z = ih (suc c) Nothing s tt e in (omega (arith, z.0), z.1)
     by_effect (Faulty fault seen wanted) s ih e = let z : ◌≡◌ {A = ℕ} 0 1 = cc in absurd (omega arith)
 
-pub text_count : (by : Parting) (text : List ℕ) (n x : ℕ) → (read_text by text n).answer ≡ Numbers x → (x ≡ length (read_text by text n).numbers) × (x ≤ n)
+pub text_count : (by : Parting) (text : List ℕ) (n x : ℕ) → (read_text by text n).answer ≡ Ok x → (x ≡ length (read_text by text n).numbers) × (x ≤ n)
 unfolding read_text
 text_count by text n x e = let z = read_count n 0 1 Nothing (kinds_of by text) x (omega arith) tt e in (omega (arith, z.0), z.1)

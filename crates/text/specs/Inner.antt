@@ -3,9 +3,8 @@ use Rattle.std.specs.Prelude.{◌≡◌, List, ℕ, get_or}
 use Rattle.chain.specs.Written.{over, laid}
 use Rattle.text.specs.declared.Parting.{Parting}
 use Rattle.text.specs.declared.Kind.{Kind}
-use Rattle.text.specs.declared.Parsed.{Parsed}
-use Rattle.places.specs.declared.Read.{Read}
-use Rattle.text.specs.Text.{end_kind, kinds_of, Found, Outcome}
+use Rattle.places.specs.Places.{Read}
+use Rattle.text.specs.Text.{end_kind, kinds_of, Parsed, Found, Outcome}
 
 -- the kind at a place of a text, counted from 0
 unfoldable pub kind_at : Parting → List ℕ → ℕ → Kind

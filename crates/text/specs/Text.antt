@@ -1,10 +1,11 @@
 -- Texts of numbers, read byte by byte up to their end or to the first fault (Spec 12.1, 12.2).
-use Rattle.std.specs.Prelude.{cond, List, [], ◌∷◌, ℕ, suc, ◌+◌, ◌-◌, ◌*◌}
+use Rattle.std.specs.Prelude.{cond, List, [], ◌∷◌, ℕ, suc, ◌+◌, ◌-◌, ◌*◌, Result, Ok, Err}
 use Rattle.chain.specs.Tests.{◌<?◌, ◌=?◌, ◌or◌}
 use Rattle.chain.specs.Chain.{most_amount}
 use Rattle.decimal.specs.Decimal.{blank, newline}
-use Rattle.places.specs.Faults.{no_room, unreadable, too_large, grouped, signed, no_amount}
-use Rattle.places.specs.Places.{spot_of, body_of, is_cut, refused_at, cut_text}
+use Rattle.places.specs.declared.Fault.{Fault}
+use Rattle.places.specs.declared.Fault.TheVariants.{NoRoom, Unreadable, TooLarge, Grouped, Signed, NoAmount}
+use Rattle.places.specs.Places.{spot_of, body_of, is_cut, refused_at, cut_text, Read, values}
 use Rattle.text.specs.declared.Parting.{Parting}
 use Rattle.text.specs.declared.Parting.TheVariants.{Free, Words, Fields}
 use Rattle.text.specs.declared.Kind.{Kind}
@@ -13,10 +14,7 @@ use Rattle.text.specs.declared.Making.{Making}
 use Rattle.text.specs.declared.Making.TheVariants.{Nothing, Number, Padded}
 use Rattle.text.specs.declared.Effect.{Effect}
 use Rattle.text.specs.declared.Effect.TheVariants.{Becomes, Ends, Faulty}
-use Rattle.text.specs.declared.Parsed.{Parsed}
-use Rattle.text.specs.declared.Parsed.TheVariants.{Numbers, Fault}
-use Rattle.places.specs.declared.Read.{Read}
-use Rattle.places.specs.declared.Read.TheVariants.{Values}
+use Rattle.text.specs.declared.Flaw.{Flaw}
 
 -- the bytes of a tab, a carriage return, and the digits 0 and 9
 abbrev pub tab : ℕ
@@ -32,11 +30,11 @@ abbrev pub last_digit : ℕ
 last_digit = 57
 
 -- the fault of a byte that is part of no text: ' , . _ group or part a number's digits, + - are signs
-unfoldable pub fault_of : ℕ → ℕ
+unfoldable pub fault_of : ℕ → Fault
 fault_of b =
-    cond (b =? 39 or b =? 44 or b =? 46 or b =? 95) grouped
-    (cond (b =? 43 or b =? 45) signed
-    unreadable)
+    cond (b =? 39 or b =? 44 or b =? 46 or b =? 95) Grouped
+    (cond (b =? 43 or b =? 45) Signed
+    Unreadable)
 
 -- what a byte is: a digit or a fault
 unfoldable pub plain_kind : ℕ → Kind
@@ -81,7 +79,7 @@ parted (Padded x) = Ends x
 
 -- a separator, which no empty field may stand before
 abbrev pub closed : Making → Effect
-closed Nothing = Faulty no_amount 0 0
+closed Nothing = Faulty NoAmount 0 0
 closed (Number x) = Ends x
 closed (Padded x) = Ends x
 
@@ -93,17 +91,17 @@ padded (Padded x) = Becomes (Padded x)
 
 -- a digit more for the number x
 unfoldable pub grown : ℕ → ℕ → Effect
-grown x d = cond (most_amount <? 10 * x + d) (Faulty too_large 0 0) (Becomes (Number (10 * x + d)))
+grown x d = cond (most_amount <? 10 * x + d) (Faulty TooLarge 0 0) (Becomes (Number (10 * x + d)))
 
 -- the first digit of a number where c are read and there is room for n
 unfoldable pub begun : ℕ → ℕ → ℕ → Effect
-begun c n d = cond (c <? n) (Becomes (Number d)) (Faulty no_room n (n + 1))
+begun c n d = cond (c <? n) (Becomes (Number d)) (Faulty NoRoom n (n + 1))
 
 -- a digit: in a field none may follow after a blank
 abbrev pub lengthened : ℕ → ℕ → ℕ → Making → Effect
 lengthened c n d Nothing = begun c n d
 lengthened c n d (Number x) = grown x d
-lengthened c n d (Padded x) = Faulty grouped (d + first_digit) 0
+lengthened c n d (Padded x) = Faulty Grouped (d + first_digit) 0
 
 abbrev pub effect_of : ℕ → ℕ → Making → Kind → Effect
 effect_of c n m Blank = parted m
@@ -111,6 +109,13 @@ effect_of c n m Separator = closed m
 effect_of c n m Padding = padded m
 effect_of c n m (Digit d) = lengthened c n d m
 effect_of c n m (Other fault b) = Faulty fault b 0
+
+-- what was parsed: how many numbers, or the first fault
+abbrev pub Parsed : Type 0
+Parsed = Result ℕ Flaw
+
+abbrev pub flaw : Fault → ℕ → ℕ → ℕ → Flaw
+flaw f i seen sought = record { fault = f; place = i; found = seen; wanted = sought }
 
 -- what reading comes to: the answer, and the numbers that were read whole
 pub record Found : Type 0 where
@@ -128,11 +133,11 @@ before x f = found f.answer (x ∷ f.numbers)
 unfoldable pub follow : ℕ → Effect → (Making → Found) → (ℕ → Found) → Found
 follow i (Becomes m) on whole = on m
 follow i (Ends x) on whole = whole x
-follow i (Faulty fault seen wanted) on whole = found (Fault fault i seen wanted) []
+follow i (Faulty fault seen wanted) on whole = found (Err (flaw fault i seen wanted)) []
 
 -- what is read from place i on, where c numbers are read, there is room for n, and m is in the making
 unfoldable pub read_from : ℕ → ℕ → ℕ → Making → List Kind → Found
-read_from n c i m [] = found (Numbers c) []
+read_from n c i m [] = found (Ok c) []
 read_from n c i m (k ∷ r) =
     follow i (effect_of c n m k) (λ m'. read_from n c (suc i) m' r) (λ x. before x (read_from n (suc c) (suc i) Nothing r))
 
@@ -150,14 +155,14 @@ outcome a l = record { answer = a; numbers = l }
 
 -- a text of numbers: how many there are, or the first fault
 abbrev pub told_numbers : List ℕ → Parsed → Read
-told_numbers text (Numbers c) = Values c 0
-told_numbers text (Fault fault i seen wanted) = refused_at fault (spot_of text i) seen wanted
+told_numbers text (Ok c) = values c 0
+told_numbers text (Err e) = Err (refused_at e.fault (spot_of text e.place) e.found e.wanted)
 
 abbrev pub numbers_found : List ℕ → Found → Outcome
 numbers_found text f = outcome (told_numbers text f.answer) f.numbers
 
 unfoldable pub numbers_in : List ℕ → ℕ → Outcome
-numbers_in text n = cond (is_cut text) (outcome (cut_text text) []) (numbers_found text (read_text Free text n))
+numbers_in text n = cond (is_cut text) (outcome (Err (cut_text text)) []) (numbers_found text (read_text Free text n))
 
 abbrev pub numbers_of : List ℕ → ℕ → Outcome
 numbers_of text n = numbers_in (body_of text) n

@@ -1,5 +1,5 @@
 -- All digits but the last are those of the tenth, written by the call before; the last is the remainder.
-use Rattle.std.proofs.Common.{rules, arith}
+use Rattle.std.proofs.Common.{arith}
 use Rattle.decimal.proofs.Decimal.{digit-length, more-length}
 use Rattle.decimal.proofs.Putting.{put_digit, put_digits}
 use Rattle.decimal.proofs.+put_decimal.Goals as goal

@@ -1,27 +1,20 @@
 -- Each way through compile gives the answer of its rule: what was judged first is passed on, and the slices are as before or hold the chain.
 use mathlib.Core.Path.{◌≡◌, sym, ap, ◌∙◌}
 use mathlib.Core.List.{List, [], ◌∷◌}
+use mathlib.Core.Logic.{◌⊎◌, inl, inr}
 use Prim.Native.Nat.{ℕ, ◌-◌, ◌/◌, ◌≤◌, ◌<◌}
 use native.Mathlib.Omega.{arith}
 use lib.ListN.{length, get_or}
 use Rattle.chain.specs.Verdict.{Verdict, fine, refused, Answer, done, refusal}
-use Rattle.chain.specs.Judgement.{verdict_of, counted_of}
 use Rattle.chain.specs.Chain.{Chain, most_steps, length_rule}
-use Rattle.chain.specs.declared.Judgement.{Judgement}
-use Rattle.chain.specs.declared.Judgement.TheVariants as judgement
-use Rattle.chain.specs.declared.Counted.{Counted}
-use Rattle.chain.specs.declared.Counted.TheVariants.{Fine, Refused}
 use Rattle.chain.specs.Inner.{counted_by}
-use Rattle.chain.proofs.Rules.{told_fine, told_refused_lem, pass, stop, refuse_yes, refuse_no, lt_yes, lt_no, or_left, or_right, or_none, answer_refused, answer_done, kept, renewed}
-use Rattle.chain.proofs.Told.{verdict_in, told, told_values_lem}
-use Rattle.chain.proofs.Squarings.{counts_are, squarings_few, counted_done, found_refused, found_fine, found_number}
+use Rattle.chain.proofs.Rules.{pass, stop, refuse_yes, refuse_no, lt_yes, lt_no, or_left, or_right, or_none, answer_refused, answer_done, kept, renewed}
+use Rattle.chain.proofs.Told.{told, told_values_lem}
+use Rattle.chain.proofs.Squarings.{counts_are, squarings_few}
 use Rattle.products.specs.declared.Progress.{Progress}
 use Rattle.methods.specs.Inner.{ChainStored}
 use Rattle.quote.specs.ByMethod.{chain_of, count, count_rule, ceiling_answer}
 use Rattle.compile.specs.Compile.{accepted_rule, compile_rule, compile_answer, compile_steps, compile_outputs}
-use Rattle.answers.specs.Answers.{quoted_of}
-use Rattle.answers.specs.declared.Quoted.{Quoted}
-use Rattle.answers.specs.declared.Quoted.TheVariants as quoted
 
 -- of the steps that were emitted no more are squarings
 pub squarings_within : {steps outputs steps' outputs' : List ℕ} {made : Progress} {c : Chain} → ChainStored steps outputs steps' outputs' made c
@@ -36,36 +29,25 @@ module _ (p q : ℕ) (amounts : List ℕ) (method k : ℕ) where
   accepted = accepted_rule p q amounts method k
 
   -- what was answered before the length is judged
-  module _ (t : Quoted) (told-quote : quoted_of t ≡ ceiling_answer p q amounts method k) where
-    quote_judged : verdict_in (quoted_of t) ≡ count_rule p q amounts method k
+  pub quote_refused : (number place : ℕ) → refusal number place ≡ ceiling_answer p q amounts method k → refused number place ≡ accepted
+  unfolding ceiling_answer accepted_rule
+  quote_refused number place e = stop _ _ number place (told _ _ _ e)
+
+  -- n steps were counted
+  module _ (n most : ℕ) (is : done (n ∷ most ∷ []) ≡ ceiling_answer p q amounts method k) where
+    pub quote_passed : fine ≡ count_rule p q amounts method k
     unfolding ceiling_answer
-    quote_judged = told _ _ _ told-quote
+    quote_passed = told _ _ _ is
 
-    pub quote_refused : (number place : ℕ) → t ≡ quoted.Refused number place → refused number place ≡ accepted
+    pub quote_counted : n ≡ count'
+    unfolding ceiling_answer
+    quote_counted = ap (λ (l : List ℕ). get_or l 0 0) (told_values_lem _ _ _ is)
+
+    pub length-judged : (v : Verdict) → v ≡ length_rule most_steps n → v ≡ accepted
     unfolding accepted_rule
-    quote_refused number place e = stop _ _ number place (sym (ap (λ (x : Quoted). verdict_in (quoted_of x)) e) ∙ quote_judged)
+    length-judged v judged = pass _ _ v quote_passed (judged ∙ ap (length_rule most_steps) quote_counted)
 
-    -- n steps were counted
-    module _ (n most : ℕ) (is : t ≡ quoted.Steps n most) where
-      pub quote_passed : fine ≡ count_rule p q amounts method k
-      quote_passed = sym (ap (λ (x : Quoted). verdict_in (quoted_of x)) is) ∙ quote_judged
-
-      quote_counted : n ≡ count'
-      unfolding ceiling_answer
-      quote_counted = ap (λ (l : List ℕ). get_or l 0 0) (told_values_lem _ _ _ (sym (ap quoted_of is) ∙ told-quote))
-
-      module _ (j : Judgement) (judged : verdict_of j ≡ length_rule most_steps n) where
-        length-judged : verdict_of j ≡ accepted
-        unfolding accepted_rule
-        length-judged = pass _ _ _ quote_passed (judged ∙ ap (length_rule most_steps) quote_counted)
-
-        pub too_long : (number place : ℕ) → j ≡ judgement.Refused number place → refused number place ≡ accepted
-        too_long number place e = told_refused_lem j _ number place length-judged e
-
-        pub all_accepted : j ≡ judgement.Fine → done (n ∷ []) ≡ counted_by accepted count'
-        all_accepted e = counted_done _ _ n (told_fine j _ length-judged e) quote_counted
-
-  module _ (r : Counted) (answered : counted_of r ≡ counted_by accepted count') (steps outputs : List ℕ) where
+  module _ (steps outputs : List ℕ) where
     -- the answer of compile and what it leaves in the two slices
     abbrev Leaves : Answer → List ℕ → List ℕ → Type 0
     Leaves a steps' outputs' =
@@ -78,26 +60,18 @@ module _ (p q : ℕ) (amounts : List ℕ) (method k : ℕ) where
     unfolding compile_answer compile_steps compile_outputs
     refusing number place e = (answer_refused _ _ number place e, (kept _ _ steps number place e, kept _ _ outputs number place e))
 
-    pub compile_refused : (number place : ℕ) → r ≡ Refused number place → Leaves (refusal number place) steps outputs
+    pub compile_refused : (number place : ℕ) → refused number place ≡ accepted → Leaves (refusal number place) steps outputs
     unfolding compile_rule
-    compile_refused number place e = refusing number place (stop _ _ number place (found_refused _ _ r answered number place e))
+    compile_refused number place e = refusing number place (stop _ _ number place e)
 
-    module _ (n : ℕ) (is : r ≡ Fine n) where
-      pub was_accepted : fine ≡ accepted
-      was_accepted = found_fine _ _ r answered n is
-
-      pub was_counted : n ≡ count'
-      was_counted = found_number _ _ r answered n is
-
-      pub few_pairs : length steps / 2 < n → Leaves (refusal 5 0) steps outputs
+    module _ (n : ℕ) (was_accepted : fine ≡ accepted) (was_counted : n ≡ count') where
+      -- either slice is too short
+      pub too_short : (length steps / 2 < n) ⊎ (length outputs < q) → Leaves (refusal 5 0) steps outputs
       unfolding compile_rule
-      few_pairs h =
+      too_short (inl h) =
           let e = was_counted in
           refusing 5 0 (pass _ _ _ was_accepted (refuse_yes _ 5 0 (or_left _ _ (lt_yes _ _ (omega arith)))))
-
-      pub few_outputs : length outputs < q → Leaves (refusal 5 0) steps outputs
-      unfolding compile_rule
-      few_outputs h = refusing 5 0 (pass _ _ _ was_accepted (refuse_yes _ 5 0 (or_right _ _ (lt_yes _ _ h))))
+      too_short (inr h) = refusing 5 0 (pass _ _ _ was_accepted (refuse_yes _ 5 0 (or_right _ _ (lt_yes _ _ h))))
 
       pub compiled : n ≤ length steps / 2 → q ≤ length outputs → (steps' outputs' : List ℕ) (made : Progress) (told-counts : List ℕ)
           → ChainStored steps outputs steps' outputs' made (chain_of p q amounts method k)

@@ -4,21 +4,19 @@ use mathlib.Core.List.{List}
 use Prim.Native.Nat.{ℕ, ◌*◌, ◌/◌, ◌≤◌}
 use native.Mathlib.Omega.{arith}
 use lib.ListN.{length, get_or, take}
-use Rattle.chain.specs.Verdict.{fine, refused}
+use Rattle.chain.specs.Verdict.{fine, refused, done, refusal}
 use Rattle.chain.specs.Written.{over}
 use Rattle.chain.specs.Chain.{most_amount, most_steps, pairs, flat}
 use Rattle.chain.specs.Chain as spec
 use Rattle.chain.proofs.Rules.{then_fine, refuse_if_fine, neither, not_lt, renewed}
-use Rattle.chain.proofs.Told.{verdict_in, told, told_values_lem}
+use Rattle.chain.proofs.Told.{told, told_values_lem}
 use Rattle.chain.proofs.Pairs.{pairs_flat, length-flat}
 use Rattle.chain.proofs.Written.{take-over, over-length}
 use Rattle.quote.specs.ByMethod.{chain_of, count}
 use Rattle.quote.proofs.Right.{compiled_right}
 use Rattle.compile.specs.Compile.{compile_rule, compile_answer, compile_steps, compile_outputs}
-use Rattle.answers.specs.Answers.{compiled_of}
+use Rattle.answers.specs.Answers.{counts_in}
 use Rattle.answers.specs.declared.Counts.{Counts}
-use Rattle.answers.specs.declared.Compiled.{Compiled}
-use Rattle.answers.specs.declared.Compiled.TheVariants.{Chain, Refused}
 use Rattle.compile.proofs.Fits.{accepted}
 
 -- a chain compiled: its n steps and q outputs stand at the front of the two slices
@@ -29,26 +27,23 @@ pub record Filled (p q : ℕ) (amounts : List ℕ) (method k : ℕ) (steps outpu
   pub steps_front : pairs (take (2 * n) steps) ≡ (chain_of p q amounts method k).steps
   pub outputs_front : take q outputs ≡ (chain_of p q amounts method k).outputs
 
-module _ (p q : ℕ) (amounts : List ℕ) (method k : ℕ) (steps outputs : List ℕ) (r : Compiled)
-    (answered : compiled_of r ≡ compile_answer p q amounts method k (length steps / 2) (length outputs)) where
-  found : verdict_in (compiled_of r) ≡ compile_rule p q amounts method k (length steps / 2) (length outputs)
-  unfolding compile_answer
-  found = told _ _ _ answered
-
-  pub compile_stops : (number place : ℕ) → r ≡ Refused number place
+module _ (p q : ℕ) (amounts : List ℕ) (method k : ℕ) (steps outputs : List ℕ) where
+  pub compile_stops : (number place : ℕ) → refusal number place ≡ compile_answer p q amounts method k (length steps / 2) (length outputs)
       → refused number place ≡ compile_rule p q amounts method k (length steps / 2) (length outputs)
-  compile_stops number place e = sym (ap (λ (x : Compiled). verdict_in (compiled_of x)) e) ∙ found
+  unfolding compile_answer
+  compile_stops number place e = told _ _ _ e
 
-  module _ (counts : Counts) (is : r ≡ Chain counts) where
+  module _ (counts : Counts) (answered : done (counts_in counts) ≡ compile_answer p q amounts method k (length steps / 2) (length outputs)) where
     abbrev n : ℕ
     n = counts.steps
 
     pub compile_passes : fine ≡ compile_rule p q amounts method k (length steps / 2) (length outputs)
-    compile_passes = sym (ap (λ (x : Compiled). verdict_in (compiled_of x)) is) ∙ found
+    unfolding compile_answer
+    compile_passes = told _ _ _ answered
 
     steps_told : n ≡ length (chain_of p q amounts method k).steps
     unfolding compile_answer spec.counts
-    steps_told = ap (λ (l : List ℕ). get_or l 0 0) (told_values_lem _ _ _ (sym (ap compiled_of is) ∙ answered))
+    steps_told = ap (λ (l : List ℕ). get_or l 0 0) (told_values_lem _ _ _ answered)
 
     pub compile_counts : ((j : ℕ) → get_or amounts j 0 ≤ most_amount) → n ≡ count p q amounts method k
     unfolding compile_rule

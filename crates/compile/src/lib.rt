@@ -4,7 +4,7 @@
 ghost use Rattle.std.specs.Prelude.{◌≡◌, ◌/◌, ◌≤◌, length};
 ghost use Rattle.chain.specs.Chain.{most_columns};
 ghost use Rattle.chain.specs.Verdict.{fine};
-ghost use Rattle.chain.specs.Judgement.{counted_of};
+ghost use Rattle.chain.specs.Judgement.{counted_of, answer_of};
 ghost use Rattle.chain.specs.Inner.{counted_by};
 ghost use Rattle.products.specs.Inner.{WithRoom};
 ghost use Rattle.methods.specs.Inner.{LentRoom, ChainStored};
@@ -12,11 +12,11 @@ ghost use Rattle.quote.specs.ByMethod.{chain_of, count};
 ghost use Rattle.quote.specs.Inner.{MeasuredFor};
 ghost use Rattle.compile.specs.Compile.{accepted_rule, compile_answer, compile_steps, compile_outputs};
 ghost use Rattle.compile.specs.Inner.{EmitAsked};
-ghost use Rattle.answers.specs.Answers.{compiled_of};
+ghost use Rattle.answers.specs.Answers.{counts_in};
 
-use answers::{Compiled, Quoted};
-use chain::{Counted, Judgement};
+use answers::Counts;
 use products::Progress;
+use refusal::{Reason, Refusal};
 
 // 1, 2, 3, 4: the number of steps where the sheet, the method and the parameter are accepted together; then the columns are measured too.
 fn judge_accepted(
@@ -26,20 +26,14 @@ fn judge_accepted(
     method: usize,
     k: usize,
     largest: &mut [u32],
-) -> Counted
+) -> Result<usize, Refusal>
     requires { most_columns ≤ length largest.old }
     ensures result_value { counted_of result ≡ counted_by (accepted_rule p q amounts.now method k) (count p q amounts.now method k) }
     ensures measured_for { accepted_rule p q amounts.now method k ≡ fine → MeasuredFor method p q amounts.now largest.new }
 {
-    match quote::judge_quote(p, q, amounts, method, k, largest) {
-        Quoted::Refused(number, place) => Counted::Refused(number, place),
-        Quoted::Steps { count: n, ceiling } => {
-            match shape::judge_length(chain::MOST_STEPS, n) {
-                Judgement::Refused(number, place) => Counted::Refused(number, place),
-                Judgement::Fine => Counted::Fine(n),
-            }
-        }
-    }
+    let quoted = quote::judge_quote(p, q, amounts, method, k, largest)?;
+    shape::judge_length(chain::MOST_STEPS, quoted.count)?;
+    Ok(quoted.count)
 }
 
 // The chain by its method: its steps, first and second in turn, and its outputs.
@@ -73,23 +67,16 @@ pub fn compile(
     k: usize,
     steps: &mut [u32],
     outputs: &mut [u32],
-) -> Compiled
-    ensures result_value { compiled_of result ≡ compile_answer p q amounts.now method k (length steps.old / 2) (length outputs.old) }
+) -> Result<Counts, Refusal>
+    ensures result_value { answer_of counts_in result ≡ compile_answer p q amounts.now method k (length steps.old / 2) (length outputs.old) }
     ensures steps_after { steps.new ≡ compile_steps p q amounts.now method k (length outputs.old) steps.old }
     ensures outputs_after { outputs.new ≡ compile_outputs p q amounts.now method k (length steps.old / 2) outputs.old }
 {
     let mut largest = [0u32; chain::MOST_COLUMNS];
-    match judge_accepted(p, q, amounts, method, k, &mut largest) {
-        Counted::Refused(number, place) => Compiled::Refused(number, place),
-        Counted::Fine(n) => {
-            if steps.len() / 2 < n {
-                return Compiled::Refused(5, 0);
-            }
-            if outputs.len() < q {
-                return Compiled::Refused(5, 0);
-            }
-            let made = emit(p, q, amounts, method, k, &largest, steps, outputs);
-            Compiled::Chain(answers::counts_of(made.steps, made.squarings))
-        }
+    let n = judge_accepted(p, q, amounts, method, k, &mut largest)?;
+    if steps.len() / 2 < n || outputs.len() < q {
+        return Err(Reason::Room.into());
     }
+    let made = emit(p, q, amounts, method, k, &largest, steps, outputs);
+    Ok(answers::counts_of(made.steps, made.squarings))
 }

@@ -9,7 +9,7 @@ use Rattle.products.specs.Inner.{StepsRoom, StepsStored}
 use Rattle.products.specs.declared.Progress.{Progress}
 use Rattle.methods.specs.Method.{Method}
 use Rattle.methods.specs.Powers.{largest_in}
-use Rattle.methods.specs.declared.Quote.{Quote}
+use Rattle.answers.specs.declared.Quote.{Quote}
 
 -- a sheet whose sizes keep to their ranges
 pub record SheetSized (p q : ℕ) (amounts : List ℕ) : Type 0 where

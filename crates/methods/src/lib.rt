@@ -1,4 +1,4 @@
-// What the methods share: what they tell of a chain before it is made, and powers of the bases.
+// What the methods share: powers of the bases, and the squarings that make them.
 #![tactic(auto)]
 
 ghost use Rattle.std.specs.Prelude.{◌≡◌, ◌+◌, ◌^◌, ◌≤◌, ◌<◌, length};
@@ -7,13 +7,6 @@ ghost use Rattle.products.specs.Inner.{WithRoom, begun, StepsRoom, StepsStored};
 ghost use Rattle.methods.specs.Powers.{counts_of, squarings, power_at};
 
 use products::{PartialProduct, Progress};
-
-// How many steps a chain has, and the most that its method takes for such a sheet.
-#[derive(Clone, Copy)]
-pub struct Quote {
-    pub count: usize,
-    pub ceiling: usize,
-}
 
 // The value number of the base of column c after j squarings, which are made after value first.
 #[tactic(auto, using(chain::proofs::Rules::eq_yes, chain::proofs::Rules::eq_no))]

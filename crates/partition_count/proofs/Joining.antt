@@ -10,7 +10,7 @@ use Rattle.chain.specs.Written.{over}
 use Rattle.digits.specs.Range.{sum_to, sign}
 use Rattle.digits.proofs.Range.{sum_on, sum_same, sign_low}
 use Rattle.methods.specs.Inner.{QuoteOf}
-use Rattle.methods.specs.declared.Quote.{Quote}
+use Rattle.answers.specs.declared.Quote.{Quote}
 use Rattle.groups.specs.declared.Grouping.{Grouping}
 use Rattle.groups.specs.Groups.{most_inputs, tables_count}
 use Rattle.groups.specs.Inner.{Grouped, GroupedFor, part_numbers}

@@ -13,7 +13,7 @@ ghost use Rattle.partition.specs.Method.{partition_method};
 ghost use Rattle.partition_count.specs.Inner.{TallyRoom};
 
 use groups::Grouping;
-use methods::Quote;
+use answers::Quote;
 
 // The steps of a payslip with these parts: those that are not empty less 1.
 fn joins(numbers: &[u32]) -> usize

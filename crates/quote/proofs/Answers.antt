@@ -5,7 +5,7 @@ use Prim.Native.Nat.{ℕ}
 use Rattle.chain.specs.Verdict.{Verdict, fine, refused, done, refusal, answer}
 use Rattle.chain.proofs.Rules.{not_fine, answer_refused, answer_done}
 use Rattle.methods.specs.Inner.{QuoteOf}
-use Rattle.methods.specs.declared.Quote.{Quote}
+use Rattle.answers.specs.declared.Quote.{Quote}
 use Rattle.quote.specs.ByMethod.{method_of, count_rule, ceiling_answer}
 
 -- what is refused is answered so, and whatever was to follow from its being fine follows

@@ -6,7 +6,7 @@ use native.Mathlib.Omega.{arith}
 use Rattle.chain.proofs.Rules.{eq_yes, eq_no}
 use Rattle.methods.specs.Method.{Method}
 use Rattle.methods.specs.Inner.{QuoteOf}
-use Rattle.methods.specs.declared.Quote.{Quote}
+use Rattle.answers.specs.declared.Quote.{Quote}
 use Rattle.straus.specs.Straus.{straus_method}
 use Rattle.yao.specs.Yao.{yao_method}
 use Rattle.partition.specs.Method.{partition_method}

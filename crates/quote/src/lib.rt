@@ -7,11 +7,11 @@ ghost use Rattle.chain.specs.Verdict.{fine};
 ghost use Rattle.methods.specs.Inner.{QuoteOf};
 ghost use Rattle.quote.specs.ByMethod.{method_of, count_rule, ceiling_answer};
 ghost use Rattle.quote.specs.Inner.{MeasuredFor, QuoteAsked};
-ghost use Rattle.answers.specs.Answers.{quoted_of};
+ghost use Rattle.chain.specs.Judgement.{answer_of};
+ghost use Rattle.answers.specs.Answers.{quote_in};
 
-use answers::Quoted;
-use chain::Judgement;
-use methods::Quote;
+use answers::Quote;
+use refusal::Refusal;
 
 // The largest amount of each column, for the methods that go by it: all but Straus.
 fn measure(p: usize, q: usize, amounts: &[u32], method: usize, largest: &mut [u32])
@@ -43,34 +43,26 @@ pub fn judge_quote(
     method: usize,
     k: usize,
     largest: &mut [u32],
-) -> Quoted
+) -> Result<Quote, Refusal>
     requires { most_columns ≤ length largest.old }
-    ensures result_value { quoted_of result ≡ ceiling_answer p q amounts.now method k }
+    ensures result_value { answer_of quote_in result ≡ ceiling_answer p q amounts.now method k }
     ensures measured_for { count_rule p q amounts.now method k ≡ fine → MeasuredFor method p q amounts.now largest.new }
 {
-    match sheet::judge_sheet(p, q, amounts) {
-        Judgement::Refused(number, place) => {
-            return Quoted::Refused(number, place);
-        }
-        Judgement::Fine => {}
-    }
-    match parameters::judge_method(p, method, k) {
-        Judgement::Refused(number, place) => {
-            return Quoted::Refused(number, place);
-        }
-        Judgement::Fine => {}
-    }
+    sheet::judge_sheet(p, q, amounts)?;
+    parameters::judge_method(p, method, k)?;
     measure(p, q, amounts, method, largest);
-    let quoted = quote(p, q, amounts, method, k, largest);
-    Quoted::Steps {
-        count: quoted.count,
-        ceiling: quoted.ceiling,
-    }
+    Ok(quote(p, q, amounts, method, k, largest))
 }
 
 // The number of steps of the chain that a method makes of a sheet, and its ceiling.
-pub fn ceiling(p: usize, q: usize, amounts: &[u32], method: usize, k: usize) -> Quoted
-    ensures { quoted_of result ≡ ceiling_answer p q amounts.now method k }
+pub fn ceiling(
+    p: usize,
+    q: usize,
+    amounts: &[u32],
+    method: usize,
+    k: usize,
+) -> Result<Quote, Refusal>
+    ensures { answer_of quote_in result ≡ ceiling_answer p q amounts.now method k }
 {
     let mut largest = [0u32; chain::MOST_COLUMNS];
     judge_quote(p, q, amounts, method, k, &mut largest)

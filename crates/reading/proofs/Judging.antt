@@ -9,13 +9,10 @@ use lib.ListN.{length}
 use Rattle.chain.specs.Tests.{◌<?◌}
 use Rattle.chain.specs.Verdict.{Verdict, fine, refused, ◌then◌, refuse_if, Answer}
 use Rattle.chain.specs.Written.{over}
-use Rattle.chain.specs.Judgement.{verdict_of}
 use Rattle.chain.specs.Chain.{by, pairs, step_rule, steps_rule, outputs_rule, squarings_of}
 use Rattle.chain.specs.Inner.{SquaringCounted}
-use Rattle.chain.specs.declared.Judgement.{Judgement}
-use Rattle.chain.specs.declared.Judgement.TheVariants.{Fine, Refused}
 use Rattle.chain.proofs.Squarings.{counted_one}
-use Rattle.chain.proofs.Rules.{stop, pass, told_fine, told_refused_lem, refuse_yes, refuse_no, lt_yes, lt_no}
+use Rattle.chain.proofs.Rules.{stop, pass, refuse_yes, refuse_no, lt_yes, lt_no}
 use Rattle.bits.specs.Bits.{fields_at}
 use Rattle.bits.specs.Inner.{FieldRoom, FieldTaken, TwoRoom, TwoTaken}
 use Rattle.bits.proofs.Lengthened.{long-length, fields_long}
@@ -136,30 +133,30 @@ module _ (whole : Verdict) (total : ℕ) (bytes : List ℕ) (p w n c s k : ℕ) 
           ∙ ap₂ (λ (u v : ℕ). by u v ∷ pairs (fields_at bytes (c + w + w) w after)) (sym t.first.is) (sym t.second.is)
           ∙ ap (λ (i : ℕ). by a b ∷ pairs (fields_at bytes i w after)) (sym t.second.moved)
 
-      module _ (j : Judgement) (told : verdict_of j ≡ step_rule (p + s + 1) (s + 1) (by a b)) where
-        rest : Verdict
-        rest = steps_rule p (s + 1 + 1) (pairs (fields_at bytes next w after))
+      rest : Verdict
+      rest = steps_rule p (s + 1 + 1) (pairs (fields_at bytes next w after))
 
-        here : whole ≡ (step_rule (p + s + 1) (s + 1) (by a b) then rest)
-        unfolding rest
-        here =
-            let e : p + (s + 1) ≡ p + s + 1 = omega arith in
-            inv.same ∙ ap (steps_rule p (s + 1)) one_off
-            ∙ ap₂ (λ (i v : ℕ). step_rule v (s + 1) (by a b) then steps_rule p i (pairs (fields_at bytes next w after))) (sym (add-one (s + 1))) e
+      here : whole ≡ (step_rule (p + s + 1) (s + 1) (by a b) then rest)
+      unfolding rest
+      here =
+          let e : p + (s + 1) ≡ p + s + 1 = omega arith in
+          inv.same ∙ ap (steps_rule p (s + 1)) one_off
+          ∙ ap₂ (λ (i v : ℕ). step_rule v (s + 1) (by a b) then steps_rule p i (pairs (fields_at bytes next w after))) (sym (add-one (s + 1))) e
 
-        pub step_bad : (number place : ℕ) → j ≡ Refused number place → refused number place ≡ whole
-        step_bad number place e = stop _ _ number place (told_refused_lem j _ number place told e) ∙ sym here
+      pub step_bad : (number place : ℕ) → refused number place ≡ step_rule (p + s + 1) (s + 1) (by a b) → refused number place ≡ whole
+      step_bad number place told = stop _ _ number place told ∙ sym here
 
-        pub step_on : j ≡ Fine → (d : ℕ) → SquaringCounted (by a b) d → StepsLeft whole total bytes p w n next (s + 1) (k + d)
-        unfolding rest squarings_of
-        step_on e d one_more =
-            record {
-              some_left = omega arith;
-              room = within_rest bytes (c + w) w after b next (within_rest bytes c w (suc after) a (c + w) two t.first) t.second;
-              same = here ∙ sym (pass _ _ _ (told_fine j _ told e) refl);
-              counted = omega (arith, inv.counted, ap squarings_of one_off, counted_one _ _ _ d (told_fine j _ told e) one_more);
-              few = omega (arith, inv.few, one_more.low);
-            }
+      pub step_on : fine ≡ step_rule (p + s + 1) (s + 1) (by a b) → (d : ℕ) → SquaringCounted (by a b) d
+          → StepsLeft whole total bytes p w n next (s + 1) (k + d)
+      unfolding rest squarings_of
+      step_on told d one_more =
+          record {
+            some_left = omega arith;
+            room = within_rest bytes (c + w) w after b next (within_rest bytes c w (suc after) a (c + w) two t.first) t.second;
+            same = here ∙ sym (pass _ _ _ told refl);
+            counted = omega (arith, inv.counted, ap squarings_of one_off, counted_one _ _ _ d told one_more);
+            few = omega (arith, inv.few, one_more.low);
+          }
 
 -- the invariant of the outputs' loop
 pub record OutputsLeft (whole : Verdict) (bytes : List ℕ) (top w q c i : ℕ) : Type 0 where

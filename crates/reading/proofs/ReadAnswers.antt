@@ -22,9 +22,7 @@ use Rattle.layout.specs.Inner.{SoundLayout, Sized, extent_of}
 use Rattle.layout.proofs.Lengths.{width_some, top_low, width_low, count_parts, count_fits}
 use Rattle.layout.proofs.Readable.{header_sized}
 use Rattle.reading.specs.declared.Header.{Header}
-use Rattle.reading.specs.declared.Heading.{Heading}
-use Rattle.reading.specs.declared.Heading.TheVariants as heading
-use Rattle.reading.specs.Inner.{header_in, extent_in, header_rule, headed, Proper, Contained, file_steps, file_outputs, body_rule, BodyRead, FileRead, ListsTaken}
+use Rattle.reading.specs.Inner.{header_in, extent_in, header_rule, Proper, Contained, file_steps, file_outputs, body_rule, BodyRead, FileRead, ListsTaken}
 
 -- the header's rules, in terms of what was read
 module _ (L : Layout) (bytes : List ℕ) (h : Header) (is : h ≡ header_in bytes L.bits) where
@@ -42,17 +40,10 @@ module _ (L : Layout) (bytes : List ℕ) (h : Header) (is : h ≡ header_in byte
   extent_is x e = e ∙ ap (λ (g : Header). extent_of L g.p g.q g.n) is
 
 -- what the header's judge hands on
-module _ (L : Layout) (bytes : List ℕ) (r : Heading) (told : headed L bytes r) where
-  pub not_found : (k s : ℕ) → r ≡ heading.Refused k s → refused k s ≡ header_rule L bytes
-  not_found k s e = subst (headed L bytes) e told
-
-  pub found : (x : Extent) → r ≡ heading.Found x → (fine ≡ header_rule L bytes) × (x ≡ extent_in L bytes)
-  found x e = subst (headed L bytes) e told
-
-  pub found_proper : SoundLayout L → (x : Extent) → r ≡ heading.Found x → Proper x
+module _ (L : Layout) (bytes : List ℕ) where
+  pub found_proper : SoundLayout L → (x : Extent) → (fine ≡ header_rule L bytes) × (x ≡ extent_in L bytes) → Proper x
   unfolding header_rule
-  found_proper sound x e =
-      let f = found x e in
+  found_proper sound x f =
       let few = length-fits L.limit (length_of L bytes) (then_fine _ _ (then_fine _ _ (sym f.0)).1).1 in
       let s = header_sized L bytes few in
       subst Proper (sym f.1)

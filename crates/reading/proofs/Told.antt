@@ -4,21 +4,19 @@ use mathlib.Core.List.{List, ◌∷◌}
 use Prim.Native.Nat.{ℕ, ◌*◌, ◌/◌, ◌≤◌}
 use native.Mathlib.Omega.{arith}
 use lib.ListN.{length, get_or, take, drop}
-use Rattle.chain.specs.Verdict.{fine, refused}
+use Rattle.chain.specs.Verdict.{fine, refused, done, refusal}
 use Rattle.chain.specs.Written.{over}
 use Rattle.chain.specs.Chain.{flat, counts}
 use Rattle.chain.proofs.Rules.{renewed}
-use Rattle.chain.proofs.Told.{verdict_in, told, told_values_lem}
+use Rattle.chain.proofs.Told.{told, told_values_lem}
 use Rattle.chain.proofs.Pairs.{length-flat}
 use Rattle.chain.proofs.Written.{take-over, over-length}
 use Rattle.layout.specs.declared.Layout.{Layout}
 use Rattle.layout.specs.File.{columns_of, payslips_of, length_of, steps_of, outputs_of, read_rule, read_answer, read_steps, read_outputs}
 use Rattle.layout.proofs.Readable.{readable}
 use Rattle.layout.proofs.OneFile.{length_steps_of, length-outputs_of}
-use Rattle.answers.specs.Answers.{counts_in, read_of}
+use Rattle.answers.specs.Answers.{counts_in}
 use Rattle.answers.specs.declared.Counts.{Counts}
-use Rattle.answers.specs.declared.Reading.{Reading}
-use Rattle.answers.specs.declared.Reading.TheVariants.{Chain, Refused}
 
 -- bytes that were read: their p, q and n, and their chain at the front of the two slices
 pub record ChainTaken (L : Layout) (bytes steps outputs : List ℕ) (p q n : ℕ) : Type 0 where
@@ -31,24 +29,22 @@ pub record ChainTaken (L : Layout) (bytes steps outputs : List ℕ) (p q n : ℕ
   pub steps_front : take (2 * n) steps ≡ flat (steps_of L bytes)
   pub outputs_front : take q outputs ≡ outputs_of L bytes
 
-module _ (L : Layout) (bytes steps outputs : List ℕ) (r : Reading) (answered : read_of r ≡ read_answer L bytes (length steps / 2) (length outputs)) where
-  read_found : verdict_in (read_of r) ≡ read_rule L bytes (length steps / 2) (length outputs)
+module _ (L : Layout) (bytes steps outputs : List ℕ) where
+  pub read_stops : (k s : ℕ) → refusal k s ≡ read_answer L bytes (length steps / 2) (length outputs) → refused k s ≡ read_rule L bytes (length steps / 2) (length outputs)
   unfolding read_answer
-  read_found = told _ _ _ answered
+  read_stops k s answered = told _ _ _ answered
 
-  pub read_stops : (k s : ℕ) → r ≡ Refused k s → refused k s ≡ read_rule L bytes (length steps / 2) (length outputs)
-  read_stops k s e = sym (ap (λ (x : Reading). verdict_in (read_of x)) e) ∙ read_found
-
-  module _ (p q : ℕ) (c : Counts) (is : r ≡ Chain p q c) where
+  module _ (p q : ℕ) (c : Counts) (answered : done (p ∷ q ∷ counts_in c) ≡ read_answer L bytes (length steps / 2) (length outputs)) where
     pub read_passes : fine ≡ read_rule L bytes (length steps / 2) (length outputs)
-    read_passes = sym (ap (λ (x : Reading). verdict_in (read_of x)) is) ∙ read_found
+    unfolding read_answer
+    read_passes = told _ _ _ answered
 
     abbrev n : ℕ
     n = c.steps
 
     sizes : ◌≡◌ {A = List ℕ} (p ∷ q ∷ counts_in c) (columns_of bytes ∷ payslips_of bytes ∷ counts (steps_of L bytes))
     unfolding read_answer
-    sizes = told_values_lem _ _ _ (sym (ap read_of is) ∙ answered)
+    sizes = told_values_lem _ _ _ answered
 
     pub read_counts : counts_in c ≡ counts (steps_of L bytes)
     read_counts = ap (drop 2) sizes

@@ -1,5 +1,7 @@
 -- Inner vocabulary: what the functions that read ask of bytes and of an extent, and find. Nobody has to believe it to believe an entry point's promise.
-use Rattle.std.specs.Prelude.{◌≡◌, List, ◌∷◌, ℕ, ◌+◌, ◌-◌, ◌*◌, ◌/◌, ◌^◌, ◌≤◌, ◌<◌, length}
+use Rattle.refusal.specs.declared.Refusal.{Refusal}
+use Rattle.refusal.specs.Reasons.{number_of}
+use Rattle.std.specs.Prelude.{Result, Ok, Err, ◌≡◌, List, ◌∷◌, ℕ, ◌+◌, ◌-◌, ◌*◌, ◌/◌, ◌^◌, ◌≤◌, ◌<◌, length}
 use Rattle.chain.specs.Tests.{◌<?◌, ◌≠?◌, ◌or◌}
 use Rattle.chain.specs.Verdict.{Verdict, fine, refused, ◌then◌, refuse_if, Answer, answer, on_fine}
 use Rattle.chain.specs.Written.{over}
@@ -13,8 +15,6 @@ use Rattle.layout.specs.declared.Extent.{Extent}
 use Rattle.layout.specs.File.{edition_of, columns_of, payslips_of, length_of, read_answer, read_steps, read_outputs}
 use Rattle.layout.specs.Inner.{extent_of}
 use Rattle.reading.specs.declared.Header.{Header}
-use Rattle.reading.specs.declared.Heading.{Heading}
-use Rattle.reading.specs.declared.Heading.TheVariants.{Found, Refused}
 
 -- bytes that have a header in which n takes so many bits, and what it says
 pub record HeaderRoom (bytes : List ℕ) (bits : ℕ) : Type 0 where
@@ -37,9 +37,9 @@ header_rule L bytes =
     then length_rule L.limit (length_of L bytes)
 
 -- what the judge of the header hands on
-abbrev pub headed : Layout → List ℕ → Heading → Type 0
-headed L bytes (Found x) = (fine ≡ header_rule L bytes) × (x ≡ extent_in L bytes)
-headed L bytes (Refused number place) = refused number place ≡ header_rule L bytes
+abbrev pub headed : Layout → List ℕ → Result Extent Refusal → Type 0
+headed L bytes (Ok x) = (fine ≡ header_rule L bytes) × (x ≡ extent_in L bytes)
+headed L bytes (Err r) = refused (number_of r.reason) r.place ≡ header_rule L bytes
 
 -- an extent whose parts add up, with numbers that are small enough
 pub record Proper (x : Extent) : Type 0 where

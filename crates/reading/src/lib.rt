@@ -2,21 +2,21 @@
 #![tactic(auto)]
 
 ghost use Rattle.std.specs.Prelude.{◌≡◌, ◌+◌, ◌*◌, ◌/◌, length};
-ghost use Rattle.chain.specs.Judgement.{verdict_of, counted_of};
+ghost use Rattle.chain.specs.Judgement.{verdict_of, counted_of, answer_of};
 ghost use Rattle.chain.specs.Chain.{steps_rule, outputs_rule, squarings_of};
 ghost use Rattle.chain.specs.Inner.{counted_by};
 ghost use Rattle.fields.specs.Inner.{FieldsRoom};
 ghost use Rattle.layout.specs.Layout.{edition1};
 ghost use Rattle.layout.specs.File.{read_answer, read_steps, read_outputs};
 ghost use Rattle.layout.specs.Inner.{SoundLayout};
-ghost use Rattle.answers.specs.Answers.{read_of};
+ghost use Rattle.answers.specs.Answers.{chain_in};
 ghost use Rattle.reading.specs.Inner.{HeaderRoom, header_in, headed, Proper, Contained, LongContained, file_steps, file_outputs, chain_counted, body_rule, BodyRead, FileRead, ListsTaken};
 
-use answers::Reading;
+use answers::ReadChain;
 use bits::Cursor;
-use chain::{Counted, Judgement};
 use layout::{Extent, Layout};
 use reader::BitReader;
+use refusal::{Reason, Refusal};
 
 // What a header says.
 #[derive(Clone, Copy)]
@@ -25,13 +25,6 @@ struct Header {
     p: usize,
     q: usize,
     n: usize,
-}
-
-// What its numbers come to, or a refusal.
-#[derive(Clone, Copy)]
-enum Heading {
-    Found(Extent),
-    Refused(u32, usize),
 }
 
 // The header of a file in which n has so many bits.
@@ -56,92 +49,70 @@ fn take_header(bytes: &[u8], bits: usize) -> Header
 }
 
 // 6 (under 4 bytes), 7, 4; then the width is found.
-fn judge_header(layout: Layout, bytes: &[u8]) -> Heading
+fn judge_header(layout: Layout, bytes: &[u8]) -> Result<Extent, Refusal>
     requires { SoundLayout layout }
     ensures { headed layout bytes.now result }
 {
     if bytes.len() < 4 {
-        return Heading::Refused(6, 0);
+        return Err(Reason::Length.into());
     }
     let h = take_header(bytes, layout.bits);
     if h.edition != layout.edition {
-        return Heading::Refused(7, 0);
+        return Err(Reason::Edition.into());
     }
-    match shape::judge_length(layout.limit, h.n) {
-        Judgement::Refused(number, place) => Heading::Refused(number, place),
-        Judgement::Fine => Heading::Found(layout::extent_of(layout, h.p, h.q, h.n)),
-    }
+    shape::judge_length(layout.limit, h.n)?;
+    Ok(layout::extent_of(layout, h.p, h.q, h.n))
 }
 
 // The steps of a file, in order: 9, 10, 11; and how many of them are squarings.
-fn judge_steps(bytes: &[u8], x: Extent) -> Counted
+fn judge_steps(bytes: &[u8], x: Extent) -> Result<usize, Refusal>
     requires { LongContained bytes.now x }
     ensures { counted_of result ≡ counted_by (steps_rule x.p 1 (file_steps bytes.now x)) (squarings_of (file_steps bytes.now x)) }
 {
-    let n = x.n;
     let mut c = Cursor { at: x.start };
     let mut squarings: usize = 0;
-    let mut s: usize = 0;
-    while s < n {
+    for s in 0..x.n {
         let step = c.take_two(bytes, x.width);
         let a = step.first as u32;
         let b = step.second as u32;
-        match step::judge_step(x.p + s + 1, s + 1, a, b) {
-            Judgement::Refused(number, place) => {
-                return Counted::Refused(number, place);
-            }
-            Judgement::Fine => {}
-        }
+        step::judge_step(x.p + s + 1, s + 1, a, b)?;
         squarings += chain::squaring(a, b);
-        let next = step.next;
-        c = next;
-        s += 1;
+        c = step.next;
     }
-    Counted::Fine(squarings)
+    Ok(squarings)
 }
 
 // The outputs of a file: 12.
-fn judge_outputs(bytes: &[u8], x: Extent) -> Judgement
+fn judge_outputs(bytes: &[u8], x: Extent) -> Result<(), Refusal>
     requires { Contained bytes.now x }
     ensures { verdict_of result ≡ outputs_rule (x.p + x.n) 1 (file_outputs bytes.now x) }
 {
-    let q = x.q;
     let top = x.p + x.n;
     let mut c = Cursor {
         at: x.start + 2 * x.n * x.width,
     };
-    let mut i: usize = 0;
-    while i < q {
+    for i in 0..x.q {
         let output = c.take(bytes, x.width);
-        let o = output.value;
-        if top < o {
-            return Judgement::Refused(12, i + 1);
+        if top < output.value {
+            return Err(Refusal { reason: Reason::Output, place: i + 1 });
         }
-        let next = output.next;
-        c = next;
-        i += 1;
+        c = output.next;
     }
-    Judgement::Fine
+    Ok(())
 }
 
 // The chain of a file of eight bytes or more: steps, then 12; and how many of the steps are squarings.
-fn judge_lists(bytes: &[u8], x: Extent) -> Counted
+fn judge_lists(bytes: &[u8], x: Extent) -> Result<usize, Refusal>
     requires { LongContained bytes.now x }
     ensures { counted_of result ≡ chain_counted bytes.now x }
 {
-    match judge_steps(bytes, x) {
-        Counted::Refused(number, place) => Counted::Refused(number, place),
-        Counted::Fine(squarings) => {
-            match judge_outputs(bytes, x) {
-                Judgement::Refused(number, place) => Counted::Refused(number, place),
-                Judgement::Fine => Counted::Fine(squarings),
-            }
-        }
-    }
+    let squarings = judge_steps(bytes, x)?;
+    judge_outputs(bytes, x)?;
+    Ok(squarings)
 }
 
 // The chain of a file; that of a short one is judged in a copy that is long enough.
-fn judge_chain(bytes: &[u8], x: Extent) -> Counted
+fn judge_chain(bytes: &[u8], x: Extent) -> Result<usize, Refusal>
     requires { Contained bytes.now x }
     ensures { counted_of result ≡ chain_counted bytes.now x }
 {
@@ -154,24 +125,23 @@ fn judge_chain(bytes: &[u8], x: Extent) -> Counted
 }
 
 // 6, 5, 8, steps, 12, where there is room for so many pairs and places for so many outputs. n is not trusted before the length is right.
-fn judge_body(bytes: &[u8], x: Extent, room: usize, places: usize) -> Counted
+fn judge_body(bytes: &[u8], x: Extent, room: usize, places: usize) -> Result<usize, Refusal>
     requires { Proper x }
     ensures { counted_of result ≡ counted_by (body_rule bytes.now x room places) (squarings_of (file_steps bytes.now x)) }
 {
-    let total = x.total;
     if bytes.len() != x.bytes {
-        return Counted::Refused(6, 0);
+        return Err(Reason::Length.into());
     }
     if room < x.n {
-        return Counted::Refused(5, 0);
+        return Err(Reason::Room.into());
     }
     if places < x.q {
-        return Counted::Refused(5, 0);
+        return Err(Reason::Room.into());
     }
-    let end = Cursor { at: total };
-    let filling = end.take(bytes, 8 * bytes.len() - total);
+    let end = Cursor { at: x.total };
+    let filling = end.take(bytes, 8 * bytes.len() - x.total);
     if filling.value != 0 {
-        return Counted::Refused(8, 0);
+        return Err(Reason::Filling.into());
     }
     judge_chain(bytes, x)
 }
@@ -199,39 +169,47 @@ fn take_lists(
 }
 
 // Reads the chain that stands in bytes by an extent. Everything is judged before anything is stored.
-fn read_body(x: Extent, bytes: &[u8], steps: &mut [u32], outputs: &mut [u32]) -> Reading
+fn read_body(
+    x: Extent,
+    bytes: &[u8],
+    steps: &mut [u32],
+    outputs: &mut [u32],
+) -> Result<ReadChain, Refusal>
     requires { Proper x }
-    ensures { BodyRead bytes.now x steps.old outputs.old (read_of result)
+    ensures { BodyRead bytes.now x steps.old outputs.old (answer_of chain_in result)
         steps.new outputs.new }
 {
-    match judge_body(bytes, x, steps.len() / 2, outputs.len()) {
-        Counted::Refused(number, place) => Reading::Refused(number, place),
-        Counted::Fine(squarings) => {
-            take_lists(bytes, x.start, x.width, x.n, x.q, steps, outputs);
-            Reading::Chain {
-                p: x.p,
-                q: x.q,
-                counts: answers::counts_of(x.n, squarings),
-            }
-        }
-    }
+    let squarings = judge_body(bytes, x, steps.len() / 2, outputs.len())?;
+    take_lists(bytes, x.start, x.width, x.n, x.q, steps, outputs);
+    Ok(ReadChain {
+        p: x.p,
+        q: x.q,
+        counts: answers::counts_of(x.n, squarings),
+    })
 }
 
 // The header is decoded once, and all else is read by the extent that it gives.
-fn read_as(layout: Layout, bytes: &[u8], steps: &mut [u32], outputs: &mut [u32]) -> Reading
+fn read_as(
+    layout: Layout,
+    bytes: &[u8],
+    steps: &mut [u32],
+    outputs: &mut [u32],
+) -> Result<ReadChain, Refusal>
     requires { SoundLayout layout }
-    ensures { FileRead layout bytes.now steps.old outputs.old (read_of result)
+    ensures { FileRead layout bytes.now steps.old outputs.old (answer_of chain_in result)
         steps.new outputs.new }
 {
-    match judge_header(layout, bytes) {
-        Heading::Refused(number, place) => Reading::Refused(number, place),
-        Heading::Found(x) => read_body(x, bytes, steps, outputs),
-    }
+    let x = judge_header(layout, bytes)?;
+    read_body(x, bytes, steps, outputs)
 }
 
 // Reads a file into the lent steps and outputs.
-pub fn read(bytes: &[u8], steps: &mut [u32], outputs: &mut [u32]) -> Reading
-    ensures result_value { read_of result ≡ read_answer edition1 bytes.now (length steps.old / 2) (length outputs.old) }
+pub fn read(
+    bytes: &[u8],
+    steps: &mut [u32],
+    outputs: &mut [u32],
+) -> Result<ReadChain, Refusal>
+    ensures result_value { answer_of chain_in result ≡ read_answer edition1 bytes.now (length steps.old / 2) (length outputs.old) }
     ensures steps_after { steps.new ≡ read_steps edition1 bytes.now (length outputs.old) steps.old }
     ensures outputs_after { outputs.new ≡ read_outputs edition1 bytes.now (length steps.old / 2) outputs.old }
 {

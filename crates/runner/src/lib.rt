@@ -98,5 +98,13 @@ pub fn run(
     ensures figures_after { figures.new ≡ run_figures p (pairs steps.now) outputs.now m bases.now
         (length values.old) figures.old }
 {
-    run_steps(p, &Flat { numbers: steps }, outputs, m, bases, values, figures)
+    run_steps(
+        p,
+        &Flat { numbers: steps },
+        outputs,
+        m,
+        bases,
+        values,
+        figures,
+    )
 }

@@ -6,7 +6,7 @@ ghost use Rattle.straus.specs.Straus.{straus_payslip_count, straus_payslip_ceili
 ghost use Rattle.straus.specs.Inner.{StrausAsked, PayslipAsked};
 ghost use Rattle.straus_count.specs.Inner.{straus_payslip_most};
 
-use methods::Quote;
+use answers::Quote;
 
 // The steps of payslip i, and its part of the ceiling.
 fn payslip_quote(p: usize, amounts: &[u32], k: usize, i: usize) -> Quote

@@ -10,7 +10,7 @@ ghost use Rattle.yao.specs.Yao.{amount_count, amount_ceiling, yao_payslip_count,
 ghost use Rattle.yao.specs.Inner.{DigitsFew, YaoAsked, YaoPayslipAsked, squarings_in, squarings_most};
 ghost use Rattle.yao_count.specs.Inner.{amount_most, yao_payslip_most};
 
-use methods::Quote;
+use answers::Quote;
 
 // How often the p columns measured are squared.
 fn squaring_count(p: usize, k: usize, columns: &[u32]) -> usize

@@ -1,5 +1,5 @@
 -- The operands of a legal step stand before its value; the sum at hand is that step's value, so the first that is too large is met at its place.
-use Rattle.std.proofs.Common.{◌<◌, ◌≤◌, ◌+◌, length, refl, arith}
+use Rattle.std.proofs.Common.{◌<◌, ◌≤◌, length, arith}
 use Rattle.chain.specs.Chain.{most_amount}
 use Rattle.chain.proofs.Steps.{first_within, second_within}
 use Rattle.chain.proofs.Filling.{fill_start, fill_on}

@@ -1,5 +1,5 @@
 -- What is found first answers; else the columns' verdict does, and the cleared scratch is what the definition says.
-use Rattle.std.proofs.Common.{◌≡◌, ◌∙◌, ◌+◌, ◌<◌, ℕ, length, sym, refl, arith, rules, Err}
+use Rattle.std.proofs.Common.{◌≡◌, ◌∙◌, sym, refl, arith, rules, Err}
 use Rattle.chain.proofs.Legal.{legal_parts, chain_parts}
 use Rattle.chain.proofs.Squarings.{squarings_few, counts_are, found_refused, found_fine, found_number}
 use Rattle.verify.proofs.Fitting.{fitting}

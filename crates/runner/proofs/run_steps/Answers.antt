@@ -1,5 +1,5 @@
 -- What the judgement found answers; a run that may be made leaves the residues and, of them, the outputs.
-use Rattle.std.proofs.Common.{◌≡◌, ◌∙◌, List, ℕ, length, sym, ap, arith, rules, Err}
+use Rattle.std.proofs.Common.{◌≡◌, ◌∙◌, List, ℕ, sym, ap, arith, rules, Err}
 use Rattle.chain.specs.Verdict.{done}
 use Rattle.chain.proofs.Rules.{answer_refused, answer_done, kept, renewed}
 use Rattle.chain.proofs.Squarings.{squarings_few, counts_are, found_refused, found_fine, found_number}

@@ -181,9 +181,6 @@ module _ {s : Grouping} {amounts bits : List ℕ} (grouped : Grouped s amounts b
         ap (take s.inputs) (made.members_are ∙ ap (λ (l : List ℕ). over l members₀) grouped_inputs)
         ∙ take-over s.inputs (inputs s.p s.q amounts) members₀ (members_count s.p s.q amounts ∙ sym grouped.inputs_are)
 
-    pub sheet_long_lem : s.inputs ≡ length (take s.inputs members)
-    sheet_long_lem = grouped.inputs_are ∙ sym (ap length sheet_inputs ∙ members_count s.p s.q amounts)
-
 -- the cells hold the numbers of payslip i's parts
 module _ (s : Grouping) (amounts : List ℕ) (i : ℕ) (old cells : List ℕ)
     (e : cells ≡ over (part_numbers s amounts i) old) where

@@ -22,20 +22,17 @@ pub fn close_outputs(
     requires { CloseAsked p s.old t o to done }
     ensures { Done to result (products p (closed_by s.old t o) (steps_in s.old done.steps)) s.old s.new }
 {
-    let m = t.m;
-    let k = o.k;
-    let n = t.n;
-    let clumps = o.made + k;
-    let rest = rows::transpose(s, o.clumps, k, m, clumps);
-    rows::transpose(s, o.rest, n, m, rest);
+    let clumps = o.made + o.k;
+    let rest = rows::transpose(s, o.clumps, o.k, t.m, clumps);
+    rows::transpose(s, o.rest, t.n, t.m, rest);
     let joint = Joint {
-        clumps: clumps,
+        clumps,
         made: o.made,
-        k: k,
-        rest: rest,
+        k: o.k,
+        rest,
         ins: t.ins,
-        n: n,
-        m: m,
+        n: t.n,
+        m: t.m,
     };
     row_products::join(p, joint, to, done, s)
 }

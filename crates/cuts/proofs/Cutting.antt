@@ -1,11 +1,10 @@
 -- Rows cut one after the other: those so far stand as rows of keys and as rows of overflow, and the numbers that they have together are those of the rows
 -- that were cut, so that there is room for the next. The rows to be cut are not among the cells written. A place of one kind of rows is no cell of the
 -- other, so the two may be set in any order.
-use mathlib.Core.Path.{◌≡◌, refl, sym, ap, ap₂, subst, ◌∙◌}
+use mathlib.Core.Path.{◌≡◌, sym, ap, ap₂, subst, ◌∙◌}
 use mathlib.Core.Logic.{◌⊎◌, inl, inr}
 use mathlib.Core.List.{List, map}
 use Prim.Native.Nat.{ℕ, ◌+◌, ◌-◌, ◌*◌, ◌/◌, ◌^◌, ◌≤◌, ◌<◌}
-use native.Mathlib.Nat.{mul-zero}
 use native.Mathlib.Omega.{arith}
 use lib.ListN.{length, get_or, set, length-set}
 use lib.Seq.{slice, get_or-set_same, get_or-set_other, set_comm}
@@ -13,7 +12,7 @@ use Rattle.clumps.specs.Clumps.{level, clumps_of, overflow_of}
 use Rattle.rows.specs.Inner.{members_at, row_at, Rising, Apart, RowsTo}
 use Rattle.rows.proofs.Lists.{slice_same}
 use Rattle.rows.proofs.Rows.{place_above, place_below, row_inside, row_kept, rows_kept}
-use Rattle.rows.proofs.Laying.{rows_none, rows_more, rows_all}
+use Rattle.rows.proofs.Laying.{rows_more, rows_all}
 use Rattle.keys.specs.Inner.{key_in}
 use Rattle.cuts.specs.Inner.{CutAsked, RowsCut, CutTo, RowAsked, RowCut, Placed}
 use Rattle.cuts.specs.declared.Pair.{Pair}
@@ -60,18 +59,6 @@ module _ (old : List ℕ) (at m : ℕ) (l : Pair) (keys rest : ℕ) (asked : Cut
 
   some : 0 < b
   some = omega (arith, asked.some)
-
-  pub none_cut : get_or old keys 0 ≡ keys + m + 1 → get_or old rest 0 ≡ rest + m + 1 → Done 0 (keys + m + 1) (rest + m + 1) old
-  none_cut keys_first_lem rest_first_lem =
-      let none : keys + m + 1 - (keys + m + 1) ≡ 0 = omega arith in
-      let q : at + 0 ≡ at = omega arith in
-      record {
-        keys_rows = rows_none keys m (keys_of old at m a b keys rest) old keys_first_lem (omega (arith, asked.keys_room, asked.rest_room));
-        rest_rows = rows_none rest m (rest_of old at m a b keys rest) old rest_first_lem (omega (arith, asked.rest_room));
-        apart = record { size = refl; before = λ c h. refl; behind = λ c h. refl };
-        keys_low = omega (arith, asked.keys_room);
-        whole = rw (none, q) (omega (arith, mul-zero b, asked.formed.first));
-      }
 
   module _ (j k r : ℕ) (s : List ℕ) (d : Done j k r s) where
     keys_above : keys + m + 1 ≤ k

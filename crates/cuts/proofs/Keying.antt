@@ -3,7 +3,7 @@ use mathlib.Core.Path.{◌≡◌, sym, ap, subst, ◌∙◌}
 use mathlib.Core.Logic.{◌⊎◌, inl, inr}
 use mathlib.Core.List.{List}
 use Prim.Native.Nat.{ℕ, ◌+◌, ◌-◌, ◌*◌, ◌/◌, ◌≤◌, ◌<◌}
-use native.Mathlib.Nat.{add-mul, one-mul, zero-mul, mul-le-mul_right}
+use native.Mathlib.Nat.{add-mul, one-mul, mul-le-mul_right}
 use native.Mathlib.Decide.{dec_lt}
 use native.Mathlib.Omega.{arith}
 use lib.ListN.{length, get_or, set}
@@ -12,7 +12,7 @@ use Rattle.clumps.specs.Clumps.{most_part}
 use Rattle.rows.proofs.Lists.{slice_same}
 use Rattle.keys.specs.Inner.{Climbs, weight_of, KeyAsked}
 use Rattle.cuts.specs.Inner.{clump_from, RunAsked, RunCut}
-use Rattle.cuts.proofs.Laying.{Laid, lay_none, lay_more}
+use Rattle.cuts.proofs.Laying.{Laid, lay_more}
 
 module _ (old : List ℕ) (from to b limit top r : ℕ) where
   abbrev count : ℕ
@@ -25,11 +25,6 @@ module _ (old : List ℕ) (from to b limit top r : ℕ) where
     pub within : e - r ≤ count
     pub at : i ≡ from + (e - r) * b
     pub laid : Laid key_at r old e s
-
-  pub keys_none : KeysTo r from old
-  keys_none =
-      let none : r - r ≡ 0 = omega arith in
-      record { within = omega arith; at = rw none (omega (arith, zero-mul b)); laid = lay_none key_at r old }
 
   module _ (asked : RunAsked old from to b limit top r) (e i : ℕ) (s : List ℕ) (d : KeysTo e i s) where
     abbrev m : ℕ

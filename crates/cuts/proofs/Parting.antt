@@ -4,7 +4,7 @@ use mathlib.Core.Path.{◌≡◌, sym, ap, subst, ◌∙◌}
 use mathlib.Core.Logic.{◌⊎◌, inl, inr}
 use mathlib.Core.List.{List, map}
 use Prim.Native.Nat.{ℕ, ◌+◌, ◌-◌, ◌*◌, ◌/◌, ◌%◌, ◌^◌, ◌≤◌, ◌<◌}
-use native.Mathlib.Nat.{add-mul, one-mul, mul_comm, mul-le-mul, mul-le-mul_right, div-add-mod'}
+use native.Mathlib.Nat.{add-mul, one-mul, mul_comm, mul-le-mul_right, div-add-mod'}
 use native.Mathlib.Omega.{arith}
 use lib.ListN.{length, get_or, take, drop, length-take, length-drop}
 use lib.Seq.{slice, length-slice, get_or-take, get_or-drop, drop-drop}
@@ -39,12 +39,6 @@ module _ (s : List ℕ) (from to part a b keys rest : ℕ) (asked : PartAsked s 
 
   abbrev w : ℕ
   w = to - (to - from) % b
-
-  pub limit_fits : limit < 2 ^ 32
-  limit_fits =
-      let one : part + 1 ≤ 2 ^ 23 = omega (arith, asked.low) in
-      let both : (part + 1) * a ≤ 2 ^ 23 * 8 = mul-le-mul one room.few in
-      omega arith
 
   parted : n * b + (to - from) % b ≡ to - from
   parted = div-add-mod' (to - from) b

@@ -9,7 +9,7 @@ use native.Mathlib.Nat.{le_antisymm, div-lt_iff_lt-mul, le-div_iff_mul-le}
 use native.Mathlib.Numerals.{add-one}
 use native.Mathlib.Omega.{arith}
 use lib.ListN.{length, get_or, set, get_or-eq_default}
-use lib.Pow.{pow-add, pow_pos, pow_mono, high, low, shl_lt, shl_exact, shr-shr}
+use lib.Pow.{pow-add, pow_pos, pow_mono, high, low, shl_lt, shr-shr}
 use Rattle.chain.specs.Written.{over, laid}
 use Rattle.chain.proofs.Written.{laid_nil, laid_laid, over_laid}
 use Rattle.digits.specs.Digits.{digit}
@@ -37,9 +37,6 @@ module _ (x held : ℕ) (fits : x < 2 ^ 32) (short : held < most_members) where
       let top : 2 ^ (32 + held) ≤ 2 ^ (32 + most_members) = pow_mono {i = 32 + held} {j = 32 + most_members} (omega arith) in
       let below : x * 2 ^ held < 2 ^ (32 + held) = shl_lt 32 held fits in
       omega arith
-
-pub base_word : (c : ℕ) → c ≤ most_members → 1 * 2 ^ c % 2 ^ 64 ≡ 2 ^ c
-base_word c few = shl_exact 1 c 64 (omega arith) (omega arith) ∙ one-mul (2 ^ c)
 
 pub front_low : (c row : ℕ) → c ≤ most_members → row % 2 ^ c < 2 ^ most_members
 front_low c row few =

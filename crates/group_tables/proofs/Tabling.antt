@@ -1,5 +1,5 @@
 -- A group's table is appended to those of the groups before it, and there is room for it because all of them have it.
-use mathlib.Core.Path.{◌≡◌, ap, ap₂, ◌∙◌, subst}
+use mathlib.Core.Path.{◌≡◌, ap, ap₂, ◌∙◌}
 use mathlib.Core.List.{List, ◌++◌}
 use Prim.Native.Nat.{ℕ, suc, ◌+◌, ◌*◌, ◌^◌, ◌≤◌, ◌<◌}
 use native.Mathlib.Nat.{one-mul}
@@ -15,7 +15,7 @@ use Rattle.tables.specs.Table.{table}
 use Rattle.tables.specs.Inner.{TableAsked}
 use Rattle.groups.specs.declared.Grouping.{Grouping}
 use Rattle.groups.specs.Groups.{group, group_size, group_tables}
-use Rattle.groups.specs.Inner.{TablesRoom, tables_after}
+use Rattle.groups.specs.Inner.{TablesRoom}
 use Rattle.subsets.proofs.Places.{group_parts, group_small, own_members, stretch}
 
 pub tables_begin : (p c : ℕ) (members : List ℕ) (start : List Step) (g G : ℕ) → g ≤ G
@@ -66,10 +66,3 @@ module _ {s : Grouping} {members old : List ℕ} {r : Progress} (room : TablesRo
           places_low = omega (arith, ap length own_is, group_small s.c g members few);
           numbers_low = rw own_is (omega (arith, group_parts s.c g members few, st.count));
         }
-
-pub tables_end : (s : Grouping) (members : List ℕ) (start : List Step) {old cells : List ℕ} {end : Progress} (g : ℕ)
-    → StepsStored old cells end (group_tables s.p s.c members start g) → g ≤ s.groups → s.groups ≤ g
-    → StepsStored old cells end (tables_after s members start)
-tables_end s members start {old} {cells} {end} g st h k =
-    let last : g ≡ s.groups = omega arith in
-    subst (λ (G : ℕ). StepsStored old cells end (group_tables s.p s.c members start G)) last st

@@ -1,15 +1,14 @@
 -- Groups and tables counted: division rounds up to no more groups than inputs, each begins inside the inputs, and a full group's table is the longest.
-use mathlib.Core.Path.{◌≡◌, ap, ◌∙◌}
+use mathlib.Core.Path.{◌≡◌}
 use mathlib.Core.Logic.{◌↔◌}
 use mathlib.Core.List.{List}
 use Prim.Native.Nat.{ℕ, zero, suc, ◌+◌, ◌-◌, ◌*◌, ◌^◌, ◌≤◌, ◌<◌}
 use native.Mathlib.Decide.{dec_le}
 use native.Mathlib.Nat.{mul_comm, mul-le-mul_right, mul-le-mul_left, div-add-mod', div-lt_iff_lt-mul, suc-mul, le_refl, pow-suc}
 use native.Mathlib.Omega.{arith}
-use lib.Pow.{pow_mono}
 use Rattle.digits.specs.Range.{sum_to}
-use Rattle.digits.proofs.Range.{sum_on, sum_low}
-use Rattle.groups.specs.Groups.{group_count, group_size, most_inputs, most_members, table_steps, tables_count}
+use Rattle.digits.proofs.Range.{sum_low}
+use Rattle.groups.specs.Groups.{group_count, group_size, most_inputs, table_steps, tables_count}
 use Rattle.groups.specs.Inner.{bits_less}
 use Rattle.groups.proofs.Groups.{inputs_below}
 
@@ -43,19 +42,6 @@ group_inside c w g G some e h =
 module _ (n x : ℕ) (e : x ≡ 2 ^ n) where
   pub table_some : n + 1 ≤ x
   table_some = omega (arith, inputs_below n)
-
-  pub table_told : x - n - 1 ≡ table_steps n
-  table_told = ap (λ (m : ℕ). m - n - 1) e
-
-  pub table_few : n ≤ most_members → x - n - 1 ≤ 2 ^ most_members
-  table_few h = let most : 2 ^ n ≤ 2 ^ most_members = pow_mono {j = most_members} h in omega arith
-
-pub size_few : (c w g r : ℕ) → c ≤ most_members → r ≡ group_size c w g → r ≤ most_members
-size_few c w g r few e = omega arith
-
--- one group's table more
-pub tables_on : (c w n g s r : ℕ) → s ≡ group_size c w g → r ≡ table_steps s → n ≡ tables_count c w g → n + r ≡ tables_count c w (g + 1)
-tables_on c w n g s r size is e = sum_on (λ k. table_steps (group_size c w k)) g n r (is ∙ ap table_steps size) e
 
 -- a table of more inputs has no fewer steps
 table_more : (g c : ℕ) → g ≤ c → table_steps g ≤ table_steps c

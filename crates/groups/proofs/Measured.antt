@@ -110,11 +110,6 @@ sheet_grouped {p} {q} {amounts} {c} {largest} {bits} {s} asked b =
       same_c = b.same_c;
     }
 
--- its columns, payslips and parameter are those given
-pub as_given : {A : Type 0} (f : ℕ → ℕ → ℕ → A) {p q : ℕ} {amounts : List ℕ} {c : ℕ} {bits : List ℕ} {s : Grouping}
-    → GroupedFor p q amounts c bits s → f s.p s.q s.c ≡ f p q c
-as_given f told = rw (told.same_p, told.same_q, told.same_c)
-
 -- what a grouped sheet's bits say
 module _ {s : Grouping} {amounts bits : List ℕ} (grouped : Grouped s amounts bits) where
   abbrev width : ℕ → ℕ
@@ -180,9 +175,6 @@ module _ {s : Grouping} {amounts bits : List ℕ} (grouped : Grouped s amounts b
     sheet_inputs =
         ap (take s.inputs) (made.members_are ∙ ap (λ (l : List ℕ). over l members₀) grouped_inputs)
         ∙ take-over s.inputs (inputs s.p s.q amounts) members₀ (members_count s.p s.q amounts ∙ sym grouped.inputs_are)
-
-    pub sheet_long_lem : s.inputs ≡ length (take s.inputs members)
-    sheet_long_lem = grouped.inputs_are ∙ sym (ap length sheet_inputs ∙ members_count s.p s.q amounts)
 
 -- the cells hold the numbers of payslip i's parts
 module _ (s : Grouping) (amounts : List ℕ) (i : ℕ) (old cells : List ℕ)

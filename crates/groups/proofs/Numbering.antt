@@ -80,7 +80,3 @@ module _ {bits old : List ℕ} (room : InputsRoom bits old) (col : ℕ) {at firs
   inputs_on {cells} {cells'} e g =
       columns_on (counts_of bits) (power_of (length bits) less) col at old cells cells' is e
       (g ∙ ap (λ (k : ℕ). laid at (list_to (get_or bits col 0) (power_at col k)) cells) after)
-
-pub inputs_end : (bits old : List ℕ) {cells : List ℕ} (col : ℕ) → cells ≡ over (bit_inputs bits col) old → col ≤ length bits → length bits ≤ col
-    → cells ≡ over (bit_inputs bits (length bits)) old
-inputs_end bits old col e h g = let last : col ≡ length bits = omega arith in e ∙ ap (λ (n : ℕ). over (bit_inputs bits n) old) last

@@ -1,5 +1,5 @@
 -- The numbers of a weight laid from the heaviest on: what the slice will be in the end is what is left of them, laid over what the slice is.
-use mathlib.Core.Path.{◌≡◌, refl, sym, ap, ◌∙◌}
+use mathlib.Core.Path.{◌≡◌, sym, ap, ◌∙◌}
 use mathlib.Core.List.{List, ◌∷◌}
 use Prim.Native.Nat.{ℕ, suc, ◌+◌, ◌-◌, ◌^◌, ◌≤◌, ◌<◌}
 use native.Mathlib.Omega.{arith}
@@ -15,9 +15,6 @@ module _ (to n weight r : ℕ) (old : List ℕ) where
     pub long : length s ≡ length old
     pub left : laid r (members_of to n weight) old ≡ laid e (members_of to i w) s
     pub end : r + length (members_of to n weight) ≡ e + length (members_of to i w)
-
-  pub members_none : MembersTo weight r n old
-  members_none = record { high = omega arith; long = refl; left = refl; end = refl }
 
   module _ (asked : WeightAsked old to n weight r) (w e i : ℕ) (s : List ℕ) (d : MembersTo w e i s) (some : 0 < i) where
     one : i ≡ suc (i - 1)

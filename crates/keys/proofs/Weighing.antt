@@ -31,12 +31,6 @@ module _ (u : List ℕ) (limit top : ℕ) where
     pub weighed_below : x < limit
     weighed_below = turn.1
 
-    pub weighed_near : limit - 1 - x < 32
-    weighed_near = omega (arith, turn.0)
-
-    pub weighed_more : 2 ^ (limit - 1 - x) ≤ k
-    weighed_more = omega (arith, d.left, ap (weight_of limit) parted)
-
     pub weighed_on : Weighed (k - 2 ^ (limit - 1 - x)) (i + 1)
     weighed_on =
         record {

@@ -21,24 +21,18 @@ pub fn open_outputs(s: &mut [u32], t: Problem, l: Pair, to: usize) -> Opened
     requires { OpenAsked s.old t l to }
     ensures { OutputsOpened t l to result s.old s.new }
 {
-    let m = t.m;
-    let n = t.n;
-    let outs = t.outs;
-    let members = s[outs + m] as usize - (outs + m + 1);
-    let keys = to + m;
-    let rest = keys + n + 1 + members / l.b;
-    let of = rest + n + 1 + members;
-    rows::transpose(s, outs, m, n, of);
-    let c = level::cut_level(s, of, n, m, l, keys, rest);
-    let clumps = c.clumps;
-    let k = c.k;
-    let next = c.end;
-    let made = rows::transpose(s, keys, n, k, next);
+    let members = s[t.outs + t.m] as usize - (t.outs + t.m + 1);
+    let keys = to + t.m;
+    let rest = keys + t.n + 1 + members / l.b;
+    let of = rest + t.n + 1 + members;
+    rows::transpose(s, t.outs, t.m, t.n, of);
+    let c = level::cut_level(s, of, t.n, t.m, l, keys, rest);
+    let made = rows::transpose(s, keys, t.n, c.k, c.end);
     Opened {
-        rest: rest,
-        clumps: clumps,
-        k: k,
-        next: next,
-        made: made,
+        rest,
+        clumps: c.clumps,
+        k: c.k,
+        next: c.end,
+        made,
     }
 }

@@ -8,13 +8,12 @@ use lib.ListN.{length, get_or, take}
 use Rattle.chain.specs.Chain.{most_payslips}
 use Rattle.chain.specs.Written.{over}
 use Rattle.digits.specs.Range.{sum_to, sign}
-use Rattle.digits.proofs.Range.{sum_on, sum_same, sign_low}
+use Rattle.digits.proofs.Range.{sum_on, sum_same}
 use Rattle.methods.specs.Inner.{QuoteOf}
-use Rattle.answers.specs.declared.Quote.{Quote}
 use Rattle.groups.specs.declared.Grouping.{Grouping}
 use Rattle.groups.specs.Groups.{most_inputs, tables_count}
-use Rattle.groups.specs.Inner.{Grouped, GroupedFor, part_numbers}
-use Rattle.groups.proofs.Measured.{as_given, grouped_count, numbers_at, numbers_long}
+use Rattle.groups.specs.Inner.{Grouped, part_numbers}
+use Rattle.groups.proofs.Measured.{grouped_count, numbers_at, numbers_long}
 use Rattle.partition.specs.Partition.{join_count, partition_count, partition_ceiling}
 use Rattle.partition.specs.Method.{partition_method}
 
@@ -24,20 +23,6 @@ signs_to numbers n = sum_to n (λ g. sign (get_or numbers g 0))
 
 pub signs_on : (numbers : List ℕ) (n g r : ℕ) → r ≡ sign (get_or numbers g 0) → n ≡ signs_to numbers g → n + r ≡ signs_to numbers (g + 1)
 signs_on numbers n g r told e = sum_on (λ k. sign (get_or numbers k 0)) g n r told e
-
-pub sign_added : (n g t r : ℕ) → r ≡ sign t → n ≤ g → n + r ≤ g + 1
-sign_added n g t r told h = omega (arith, sign_low t)
-
--- after the last one
-module _ (numbers : List ℕ) (g n : ℕ) (h : g ≤ length numbers) (k : length numbers ≤ g) (e : n ≡ signs_to numbers g) where
-  joins_all : n ≡ signs_to numbers (length numbers)
-  joins_all = let last : length numbers ≡ g = omega arith in rw last e
-
-  pub joins_none : n ≡ 0 → 0 ≡ signs_to numbers (length numbers) - 1
-  joins_none z = omega (arith, joins_all)
-
-  pub joins_end : n - 1 ≡ signs_to numbers (length numbers) - 1
-  joins_end = ap (λ (m : ℕ). m - 1) joins_all
 
 -- the cells hold the numbers of payslip i's parts
 pub joins_told : (s : Grouping) (amounts : List ℕ) (i : ℕ) (old cells : List ℕ) → cells ≡ over (part_numbers s amounts i) old
@@ -65,8 +50,3 @@ pub most_fits : (s : Grouping) (amounts bits : List ℕ) → Grouped s amounts b
 most_fits s amounts bits grouped l e =
     let low : l ≤ most_inputs = omega (arith, grouped.cuts.groups_few) in
     mul-le-mul grouped.sheet.q_low low
-
--- a sheet's grouping stands for what was given
-pub quote_given : {p q : ℕ} {amounts : List ℕ} {c : ℕ} {bits : List ℕ} {s : Grouping} → GroupedFor p q amounts c bits s
-    → {r : Quote} → QuoteOf r (partition_method s.p s.q amounts s.c) → QuoteOf r (partition_method p q amounts c)
-quote_given {amounts = amounts} told e = rw (← as_given (λ p q c. partition_method p q amounts c) told) e

@@ -1,5 +1,5 @@
 -- A payslip's parts by their numbers are its parts by its bits: the numbers are the bits' and each table stands where the full ones before it end.
-use mathlib.Core.Path.{◌≡◌, refl, sym, ap, ap₂, subst, ◌∙◌}
+use mathlib.Core.Path.{◌≡◌, refl, sym, ap, ap₂, ◌∙◌}
 use mathlib.Core.List.{List}
 use Prim.Native.Nat.{ℕ, zero, suc, ◌+◌, ◌*◌, ◌^◌, ◌≤◌, ◌<◌}
 use native.Mathlib.Numerals.{add-one}
@@ -48,12 +48,6 @@ module _ (s : Grouping) (members : List ℕ) (number : ℕ → ℕ) (before : Li
     pub part_on : (cells' : List ℕ) (m' : Progress) (v' : ℕ) → Emitted cells cells' m' v' (times s.p (made (steps_in cells m.steps) v) y)
         → Emitted old cells' m' v' (parts_by s members number before (g + 1))
     part_on cells' m' v' f = rw (add-one g, ← next) (emits_on (λ r. times s.p r y) e (times_begins s.p _ y) f)
-
-  pub parts_end_lem : (old cells : List ℕ) (m : Progress) (v g : ℕ) → Emitted old cells m v (parts_by s members number before g) → g ≤ s.groups → s.groups ≤ g
-      → Emitted old cells m v (parts_by s members number before s.groups)
-  parts_end_lem old cells m v g e h k =
-      let last : g ≡ s.groups = omega arith in
-      subst (λ (n : ℕ). Emitted old cells m v (parts_by s members number before n)) last e
 
 -- of payslip i of a grouped sheet
 module _ {s : Grouping} {amounts bits members cells : List ℕ} (ready : Ready s amounts bits members cells) where

@@ -1,5 +1,5 @@
 -- Squarings and tables begin the chain, so there is room for them, and the payslips stored after them make it whole.
-use mathlib.Core.Path.{◌≡◌, subst}
+use mathlib.Core.Path.{◌≡◌}
 use mathlib.Core.List.{List}
 use Prim.Native.Nat.{ℕ, ◌≤◌}
 use native.Mathlib.Omega.{arith}
@@ -13,7 +13,7 @@ use Rattle.methods.proofs.Paying.{begin_room, payslips_room, chain_stored, paid_
 use Rattle.groups.specs.declared.Grouping.{Grouping}
 use Rattle.groups.specs.Groups.{most_inputs, sheet_tables}
 use Rattle.groups.specs.Inner.{Grouped, GroupedFor, GroupsMade, GroupsRoom}
-use Rattle.groups.proofs.Measured.{as_given, groups_room, sheet_stored}
+use Rattle.groups.proofs.Measured.{groups_room, sheet_stored}
 use Rattle.partition_emit.specs.Inner.{payslip_of, payslips_of}
 use Rattle.partition.specs.Partition.{partition, partition_count}
 use Rattle.partition.proofs.Partition.{partition_count_lem}
@@ -57,9 +57,3 @@ module _ {p q : ℕ} {amounts : List ℕ} {c : ℕ} {bits : List ℕ} {s : Group
   pub room_given : {steps outputs : List ℕ} → ChainRoom q (partition_count p q amounts c) steps outputs
       → ChainRoom s.q (partition_count s.p s.q amounts s.c) steps outputs
   room_given room = rw (told.same_p, told.same_q, told.same_c) room
-
-  pub chain_given : {steps₀ outputs₀ steps outputs : List ℕ} {r' : Progress}
-      → ChainStored steps₀ outputs₀ steps outputs r' (partition s.p s.q amounts s.c)
-      → ChainStored steps₀ outputs₀ steps outputs r' (partition p q amounts c)
-  chain_given {steps₀} {outputs₀} {steps} {outputs} {r'} r =
-      subst (ChainStored steps₀ outputs₀ steps outputs r') (as_given (λ p q c. partition p q amounts c) told) r

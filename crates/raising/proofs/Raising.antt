@@ -1,7 +1,7 @@
 -- A row raised, one cell a turn: the row stands before the cells that are written, so the next number is the one that it was.
 use mathlib.Core.Path.{◌≡◌, sym, ap, ◌∙◌}
 use mathlib.Core.List.{List, map}
-use Prim.Native.Nat.{ℕ, ◌+◌, ◌-◌, ◌^◌, ◌≤◌, ◌<◌}
+use Prim.Native.Nat.{ℕ, ◌+◌, ◌-◌, ◌≤◌, ◌<◌}
 use native.Mathlib.Omega.{arith}
 use lib.ListN.{length, get_or, set}
 use lib.Seq.{slice}
@@ -9,7 +9,7 @@ use Rattle.digits.specs.Range.{list_to}
 use Rattle.digits.proofs.Listed.{length-list, get_d_list}
 use Rattle.clumps.proofs.Lists.{map-list}
 use Rattle.rows.proofs.Lists.{slice_is}
-use Rattle.cuts.proofs.Laying.{Laid, lay_none, lay_more}
+use Rattle.cuts.proofs.Laying.{Laid, lay_more}
 use Rattle.raising.specs.Inner.{RowAsked, RowRaised}
 
 module _ (old : List ℕ) (from to k r : ℕ) where
@@ -26,9 +26,6 @@ module _ (old : List ℕ) (from to k r : ℕ) where
     pub laid : Laid raised r old e s
 
   module _ (asked : RowAsked old from to k r) where
-    pub raise_none : RaisedTo r from old
-    raise_none = record { after = omega arith; within = asked.order; at = omega arith; laid = lay_none raised r old }
-
     module _ (e i : ℕ) (s : List ℕ) (d : RaisedTo e i s) where
       pub raise_room : i < to → (e < length s) × (i < length s)
       raise_room h =
@@ -36,9 +33,6 @@ module _ (old : List ℕ) (from to k r : ℕ) where
 
       next : i < to → get_or s i 0 ≡ get_or old i 0
       next h = d.laid.apart.before i (omega (arith, asked.before))
-
-      pub raise_low : i < to → k + get_or s i 0 < 2 ^ 32
-      raise_low h = omega (arith, next h, asked.low i d.after h)
 
       pub raise_more : i < to → RaisedTo (e + 1) (i + 1) (set s e (k + get_or s i 0))
       raise_more h =

@@ -23,7 +23,7 @@ use Rattle.row_products.specs.Inner.{values_at, lists_from, joined, JoinAsked, R
 use Rattle.row_products.specs.declared.Joint.{Joint}
 use Rattle.row_products.proofs.Multiplying.{stored_behind, product_begins}
 use Rattle.row_products.proofs.Reading.{row_adds, rows_few, row_asked, row_values}
-use Rattle.row_products.proofs.Chaining.{Making, slip_of, slips_few, making_none, making_so_far, making_long, making_on, making_all}
+use Rattle.row_products.proofs.Chaining.{Making, slip_of, slips_few, making_none, making_so_far, making_on, making_all}
 
 module _ (p : ℕ) (old : List ℕ) (joint : Joint) (to : ℕ) (r₀ : Progress) (asked : JoinAsked p old joint to r₀) where
   abbrev slip : ℕ → List Step → Made
@@ -179,9 +179,6 @@ module _ (p : ℕ) (old : List ℕ) (joint : Joint) (to : ℕ) (r₀ : Progress)
               sym (product-append p (made (steps_in s r.steps) 0) (clumped j) (rest j))
               ∙ ap (product p (made (steps_in s r.steps) 0)) (sym (factors_are j less)) in
               rw whole at (emits_on (λ m. product p m (rest j)) first_made (product_begins p first (rest j)) second)
-
-          pub join_long : length s'' ≡ length old
-          join_long = making_long to slip old start j r s state far s'' r'' v'' both_made product_room (omega (arith, join_room))
 
           pub join_on : Making to slip start (j + 1) r'' old (set s'' (to + j) v'')
           join_on = making_on to slip old start j r s state far s'' r'' v'' both_made product_room (omega (arith, join_room))

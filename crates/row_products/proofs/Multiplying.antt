@@ -6,7 +6,7 @@ use Prim.Native.Nat.{ℕ, suc, ◌+◌, ◌-◌, ◌*◌, ◌≤◌, ◌<◌}
 use native.Mathlib.Numerals.{add-one}
 use native.Mathlib.Omega.{arith}
 use lib.ListN.{length, get_or, drop}
-use lib.Seq.{slice, slice_empty, slice-cons, length-slice, get_or-drop}
+use lib.Seq.{slice, slice-cons, length-slice, get_or-drop}
 use Rattle.chain.specs.Chain.{flat}
 use Rattle.chain.specs.declared.Step.{Step}
 use Rattle.chain.proofs.Pairs.{length-flat}
@@ -77,13 +77,6 @@ module _ (p : ℕ) (old : List ℕ) (r₀ : Progress) (v₀ values from to : ℕ
 
     pub multiplied_long : length cells ≡ length old
     multiplied_long = stored-length state.emitted.stored (omega (arith, so_far_few, asked.before_places, asked.rises, asked.inside))
-
-    pub multiplied_all : to ≤ i → i ≤ to → Emitted old cells r v whole
-    multiplied_all h g =
-        let last : i ≡ to = omega arith in
-        let none : slice i to old ≡ [] = ap (λ (k : ℕ). slice k to old) last ∙ slice_empty to old in
-        let all : state.so_far ≡ whole = sym (ap (λ (l : List ℕ). product p state.so_far (values_at old values l)) none) ∙ state.rest in
-        rw all at state.emitted
 
     module _ (less : i < to) where
       same : (c : ℕ) → 2 * (r₀.steps + (to - from)) ≤ c → get_or cells c 0 ≡ get_or old c 0

@@ -20,7 +20,7 @@ use Rattle.rows.proofs.Rows.{row_is}
 use Rattle.row_products.specs.Inner.{values_at, lists_from, SeparatelyAsked, RowAsked, Done}
 use Rattle.row_products.specs.declared.Problem.{Problem}
 use Rattle.row_products.proofs.Reading.{row_adds, rows_few, row_asked, row_values}
-use Rattle.row_products.proofs.Chaining.{Making, slip_of, slips_few, making_none, making_so_far, making_long, making_on, making_all}
+use Rattle.row_products.proofs.Chaining.{Making, slip_of, slips_few, making_none, making_so_far, making_on, making_all}
 
 -- each output's factors
 abbrev pub factors_in : List ℕ → Problem → List (List ℕ)
@@ -101,9 +101,6 @@ module _ (p : ℕ) (old : List ℕ) (problem : Problem) (to : ℕ) (r₀ : Progr
             state.done.kept c (omega (arith, asked.values_behind)) (omega (arith, asked.values_before)))
             ∙ sym (factors_are j less) in
             rw is at e
-
-        pub separate_long : length s' ≡ length old
-        separate_long = making_long to slip old start j r s state far s' r' v emitted product_room (omega (arith, asked.room))
 
         pub separate_on : Making to slip start (j + 1) r' old (set s' (to + j) v)
         separate_on = making_on to slip old start j r s state far s' r' v emitted product_room (omega (arith, asked.room))

@@ -1,5 +1,5 @@
 -- A group is a stretch of the inputs, and the tables before it are full, so its table begins at a place told by the group's number.
-use mathlib.Core.Path.{◌≡◌, sym, ap, ap₂, ◌∙◌}
+use mathlib.Core.Path.{◌≡◌, sym, ap, ◌∙◌}
 use mathlib.Core.List.{List}
 use Prim.Native.Nat.{ℕ, zero, suc, ◌+◌, ◌-◌, ◌*◌, ◌^◌, ◌≤◌, ◌<◌, min}
 use native.Mathlib.Decide.{dec_le}
@@ -12,7 +12,6 @@ use Rattle.chain.specs.Chain.{most_columns}
 use Rattle.chain.specs.declared.Step.{Step}
 use Rattle.digits.specs.Range.{sum_to}
 use Rattle.digits.proofs.Range.{sum_same}
-use Rattle.tables.specs.Table.{entry}
 use Rattle.groups.specs.declared.Grouping.{Grouping}
 use Rattle.groups.specs.Groups.{group, group_size, group_tables, most_inputs, most_members, table_steps}
 use Rattle.groups.specs.Inner.{Cuts, PartOf, table_at}
@@ -48,9 +47,6 @@ module _ (s : Grouping) (cuts : Cuts s) (members : List ℕ) (long : length memb
 
   pub ends : g * s.c + size ≤ length members
   ends = omega (arith, starts)
-
-  pub ends_few : g * s.c + size ≤ most_inputs
-  ends_few = let few = cuts.inputs_few in omega (arith, ends)
 
   pub own_members : stretch (g * s.c) (g * s.c + size) members ≡ group s.c g members
   own_members = stretch_is s.c members g size (rw long is)
@@ -118,7 +114,3 @@ module _ {s : Grouping} {members : List ℕ} {g t : ℕ} (part : PartOf s member
 
   pub entry_number : {at : ℕ} → at < parts_end → at + t < 2 ^ 32
   entry_number h = let low = part.part in omega (arith, group_parts s.c g members part.cuts.few)
-
-  pub entry_told : {y r : ℕ} → r ≡ table_steps s.c → y ≡ entry 1 mine (s.p + s.squarings + g * r + 1) t
-      → y ≡ entry 1 (group s.c g members) (table_at s g) t
-  entry_told full e = e ∙ ap₂ (λ (l : List ℕ) (k : ℕ). entry 1 l (s.p + s.squarings + g * k + 1) t) mine_is full

@@ -3,7 +3,7 @@ use Rattle.std.proofs.Common.{arith, ◌<◌}
 use Rattle.methods.specs.Powers.{counts_of}
 use Rattle.products.specs.Inner.{steps_in}
 use Rattle.products.proofs.Emitted.{emitted_own}
-use Rattle.partition_emit.proofs.Paying.{part_on, part_room, parts_end_lem}
+use Rattle.partition_emit.proofs.Paying.{part_on, part_room}
 use Rattle.partition_emit.proofs.make_parts.Goals as goal
 
 pub loop-g-init : goal.loop-g-init
@@ -26,10 +26,3 @@ loop-g-preserved c =
     let a = c.args in
     part_on a.s a.members.now (counts_of a.numbers.now) (steps_in a.steps.now a.progress.steps) a.steps.now _ _ _ c.loop-g.g _
     c.loop-g.invariant c.part_value-y.ensures _ _ _ c.times-r.ensures
-
-pub returns : goal.returns
-returns c =
-    let a = c.args in
-    let long = c.requires.asked.numbers_long in
-    parts_end_lem a.s a.members.now (counts_of a.numbers.now) (steps_in a.steps.now a.progress.steps) a.steps.now _ _ _ c.loop-g.g
-    c.loop-g.invariant (omega (arith, long)) (omega (arith, long))

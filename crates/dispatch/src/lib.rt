@@ -2,10 +2,12 @@
 #![tactic(auto)]
 
 ghost use Rattle.chain.specs.Chain.{pairs};
-ghost use Rattle.answers.specs.Answers.{read_of};
+ghost use Rattle.chain.specs.Judgement.{answer_of};
+ghost use Rattle.answers.specs.Answers.{chain_in};
 ghost use Rattle.dispatch.specs.Inner.{Dispatched};
 
-use answers::{Reading, Written};
+use answers::ReadChain;
+use refusal::Refusal;
 
 pub fn dispatch(
     p: usize,
@@ -14,13 +16,11 @@ pub fn dispatch(
     bytes: &mut [u8],
     received: &mut [u32],
     results: &mut [u32],
-) -> Reading
+) -> Result<ReadChain, Refusal>
     ensures { Dispatched p (pairs steps.now) outputs.now
-        bytes.old received.old results.old (read_of result)
+        bytes.old received.old results.old (answer_of chain_in result)
         bytes.new received.new results.new }
 {
-    match writing::write(p, steps, outputs, bytes) {
-        Written::Refused(number, place) => Reading::Refused(number, place),
-        Written::Bytes(count) => reading::read(&bytes[..count], received, results),
-    }
+    let count = writing::write(p, steps, outputs, bytes)?;
+    reading::read(&bytes[..count], received, results)
 }

@@ -4,9 +4,11 @@
 ghost use Rattle.std.specs.Prelude.{◌≡◌};
 ghost use Rattle.path.specs.Path.{lent, path_answer, path_leaves};
 ghost use Rattle.path.specs.Demand3.{Demand3};
-ghost use Rattle.answers.specs.Answers.{figured_of};
+ghost use Rattle.chain.specs.Judgement.{answer_of};
+ghost use Rattle.answers.specs.Answers.{figures_in};
 
-use answers::{Compiled, Figured, Ran, Reading};
+use answers::Figures;
+use refusal::Refusal;
 
 // Demand 3's path: compile, write, read, check and run, each from exactly what the call before it filled. What is read stands in `received` and `results`.
 pub fn sheet_to_figures(
@@ -25,8 +27,8 @@ pub fn sheet_to_figures(
     scratch: &mut [u32],
     values: &mut [u32],
     figures: &mut [u32],
-) -> Figured
-    ensures result_value { figured_of result
+) -> Result<Figures, Refusal>
+    ensures result_value { answer_of figures_in result
         ≡ path_answer p q amounts.now method k
         (lent steps.old outputs.old bytes.old received.old results.old
         scratch.old values.old figures.old)
@@ -40,47 +42,27 @@ pub fn sheet_to_figures(
     ensures demand3 { Demand3 p q amounts.now method k m bases.now
         (lent steps.old outputs.old bytes.old received.old results.old
         scratch.old values.old figures.old)
-        (figured_of result)
+        (answer_of figures_in result)
         (lent steps.new outputs.new bytes.new received.new results.new
         scratch.new values.new figures.new) }
 {
-    match compile::compile(p, q, amounts, method, k, steps, outputs) {
-        Compiled::Refused(number, place) => Figured::Refused(number, place),
-        Compiled::Chain(compiled) => {
-            match dispatch::dispatch(
-                p,
-                &steps[..2 * compiled.steps],
-                &outputs[..q],
-                bytes,
-                received,
-                results,
-            ) {
-                Reading::Refused(number, place) => Figured::Refused(number, place),
-                Reading::Chain {
-                    p: columns,
-                    q: payslips,
-                    counts: read,
-                } => {
-                    match receive::receive(
-                        columns,
-                        &received[..2 * read.steps],
-                        &results[..payslips],
-                        amounts,
-                        m,
-                        bases,
-                        scratch,
-                        values,
-                        figures,
-                    ) {
-                        Ran::Refused(number, place) => Figured::Refused(number, place),
-                        Ran::Multiplications(made) => Figured::Counts {
-                            compiled: compiled.steps,
-                            read: read.steps,
-                            made: made.steps,
-                        },
-                    }
-                }
-            }
-        }
-    }
+    let compiled = compile::compile(p, q, amounts, method, k, steps, outputs)?;
+    let sent = &steps[..2 * compiled.steps];
+    let read = dispatch::dispatch(p, sent, &outputs[..q], bytes, received, results)?;
+    let made = receive::receive(
+        read.p,
+        &received[..2 * read.counts.steps],
+        &results[..read.q],
+        amounts,
+        m,
+        bases,
+        scratch,
+        values,
+        figures,
+    )?;
+    Ok(Figures {
+        compiled: compiled.steps,
+        read: read.counts.steps,
+        made: made.steps,
+    })
 }

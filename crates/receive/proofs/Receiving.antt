@@ -3,30 +3,24 @@ use mathlib.Core.Path.{◌≡◌, refl, sym, ap, ◌∙◌}
 use mathlib.Core.List.{List}
 use Prim.Native.Nat.{ℕ}
 use lib.ListN.{length}
-use Rattle.chain.specs.Verdict.{Verdict, fine, refused, Answer, refusal, answer}
+use Rattle.chain.specs.Verdict.{Verdict, fine, refused, Answer, done, refusal, answer}
 use Rattle.chain.specs.Chain.{counts}
 use Rattle.chain.specs.declared.Step.{Step}
 use Rattle.chain.proofs.Rules.{stop, pass, answer_refused, kept, renewed}
-use Rattle.chain.proofs.Told.{verdict_in, told}
+use Rattle.chain.proofs.Told.{told}
 use Rattle.verify.specs.Verify.{verify_rule, verify_answer, verify_scratch}
-use Rattle.answers.specs.Answers.{verified_of}
+use Rattle.answers.specs.Answers.{counts_in}
 use Rattle.answers.specs.declared.Counts.{Counts}
-use Rattle.answers.specs.declared.Verified.{Verified}
-use Rattle.answers.specs.declared.Verified.TheVariants.{Passed, Refused}
 use Rattle.run.specs.Run.{run_answer, run_values, run_figures}
 use Rattle.receive.specs.Inner.{receive_answer, receive_values, receive_figures, Received}
 
-module _ (p : ℕ) (steps : List Step) (outputs amounts : List ℕ) (m : ℕ) (bases scratch values figures : List ℕ) (w : Verified)
-    (checked : verified_of w ≡ verify_answer p steps outputs amounts (length scratch)) (scratch' : List ℕ)
+module _ (p : ℕ) (steps : List Step) (outputs amounts : List ℕ) (m : ℕ) (bases scratch values figures scratch' : List ℕ)
     (cleared : scratch' ≡ verify_scratch p steps outputs amounts scratch) where
-  found : (x : Verified) → w ≡ x → verdict_in (verified_of x) ≡ verify_rule p steps outputs amounts (length scratch)
-  unfolding verify_answer
-  found x e = sym (ap (λ (y : Verified). verdict_in (verified_of y)) e) ∙ told _ _ _ checked
-
-  pub not_passed : (k s : ℕ) → w ≡ Refused k s → Received p steps outputs amounts m bases scratch values figures (refusal k s) scratch' values figures
-  unfolding receive_answer receive_values receive_figures
+  pub not_passed : (k s : ℕ) → refusal k s ≡ verify_answer p steps outputs amounts (length scratch)
+      → Received p steps outputs amounts m bases scratch values figures (refusal k s) scratch' values figures
+  unfolding receive_answer receive_values receive_figures verify_answer
   not_passed k s e =
-      let v : refused k s ≡ verify_rule p steps outputs amounts (length scratch) = found (Refused k s) e in
+      let v : refused k s ≡ verify_rule p steps outputs amounts (length scratch) = told _ _ _ e in
       record {
         answered = answer_refused _ _ k s (stop _ _ k s v);
         scratch_left = cleared;
@@ -34,14 +28,14 @@ module _ (p : ℕ) (steps : List Step) (outputs amounts : List ℕ) (m : ℕ) (b
         figures_left_lem = kept _ _ figures k s v;
       }
 
-  pub then_run : (c : Counts) → w ≡ Passed c → (a : Answer) (values' figures' : List ℕ)
+  pub then_run : (c : Counts) → done (counts_in c) ≡ verify_answer p steps outputs amounts (length scratch) → (a : Answer) (values' figures' : List ℕ)
       → a ≡ run_answer p steps outputs m bases (length values) (length figures)
       → values' ≡ run_values p steps outputs m bases (length figures) values
       → figures' ≡ run_figures p steps outputs m bases (length values) figures
       → Received p steps outputs amounts m bases scratch values figures a scratch' values' figures'
-  unfolding receive_answer receive_values receive_figures run_answer
+  unfolding receive_answer receive_values receive_figures run_answer verify_answer
   then_run c e a values' figures' ran ev ef =
-      let v : fine ≡ verify_rule p steps outputs amounts (length scratch) = found (Passed c) e in
+      let v : fine ≡ verify_rule p steps outputs amounts (length scratch) = told _ _ _ e in
       record {
         answered = ran ∙ ap (λ (x : Verdict). answer x (counts steps)) (pass _ _ _ v refl);
         scratch_left = cleared;

@@ -2,10 +2,12 @@
 #![tactic(auto)]
 
 ghost use Rattle.chain.specs.Chain.{pairs};
-ghost use Rattle.answers.specs.Answers.{ran_of};
+ghost use Rattle.chain.specs.Judgement.{answer_of};
+ghost use Rattle.answers.specs.Answers.{counts_in};
 ghost use Rattle.receive.specs.Inner.{Received};
 
-use answers::{Ran, Verified};
+use answers::Counts;
+use refusal::Refusal;
 
 pub fn receive(
     p: usize,
@@ -17,13 +19,11 @@ pub fn receive(
     scratch: &mut [u32],
     values: &mut [u32],
     figures: &mut [u32],
-) -> Ran
+) -> Result<Counts, Refusal>
     ensures { Received p (pairs steps.now) outputs.now amounts.now m
-        bases.now scratch.old values.old figures.old (ran_of result)
+        bases.now scratch.old values.old figures.old (answer_of counts_in result)
         scratch.new values.new figures.new }
 {
-    match checker::verify(p, steps, outputs, amounts, scratch) {
-        Verified::Refused(number, place) => Ran::Refused(number, place),
-        Verified::Passed(_) => runner::run(p, steps, outputs, m, bases, values, figures),
-    }
+    checker::verify(p, steps, outputs, amounts, scratch)?;
+    runner::run(p, steps, outputs, m, bases, values, figures)
 }

@@ -151,12 +151,6 @@ module _ (k : ℕ) (inputs : List ℕ) (at : ℕ) where
   table_start p cells r steps some room =
       rw (mul-zero, next_zero k some inputs at [], append-nil (steps_in cells r.steps)) (stored_own cells r room.so_far)
 
-  pub table_end : (old cells : List ℕ) (front : List Step) (s : Progress) (d : ℕ) → d ≤ length inputs → length inputs ≤ d
-      → StepsStored old cells s (After front (2 ^ (k * d))) → StepsStored old cells s (After front (2 ^ (k * length inputs)))
-  table_end old cells front s d h g st =
-      let last : length inputs ≡ d = omega arith in
-      rw last st
-
 pub ruleset rowing = (longer_own, longer_next, longer_end)
 
-pub ruleset tabling = (row_stored, row_room, table_start, table_end)
+pub ruleset tabling = (row_stored, row_room, table_start)

@@ -127,12 +127,8 @@ pub sum-end : (f : ℕ → ℕ) (n bound s : ℕ) → n ≤ bound → bound ≤ 
 sum-end f n bound s h g e = let last : bound ≡ n = omega arith in rw last e
 
 -- the same of a sum that begins at b
-module _ (f : ℕ → ℕ) (b n s : ℕ) (e : s ≡ b + sum_to n f) where
-  pub sum-after : (x : ℕ) → x ≡ f n → s + x ≡ b + sum_to (n + 1) f
-  sum-after x is = omega (arith, sum_on f n (sum_to n f) x is refl)
-
-  pub sum-after_end : (bound : ℕ) → n ≤ bound → bound ≤ n → s ≡ b + sum_to bound f
-  sum-after_end bound h g = let last : bound ≡ n = omega arith in rw last e
+pub sum-after_end : (f : ℕ → ℕ) (b n s : ℕ) → s ≡ b + sum_to n f → (bound : ℕ) → n ≤ bound → bound ≤ n → s ≡ b + sum_to bound f
+sum-after_end f b n s e bound h g = let last : bound ≡ n = omega arith in rw last e
 
 -- signs
 pub sign_low : (x : ℕ) → sign x ≤ 1

@@ -44,8 +44,4 @@ module _ (p : ℕ) (counts old : List ℕ) (room : StepsRoom p old begun (squari
         → StepsStored old cells' r' (squarings p (counts_of counts) (c + 1))
     columns_on cells' r' v' t = rw (add-one c) (emits_on (squared p (counts_of counts c)) base begins t).stored
 
-pub columns_end : (p : ℕ) (counts old cells : List ℕ) (r : Progress) (c : ℕ) → c ≤ length counts → length counts ≤ c
-    → StepsStored old cells r (squarings p (counts_of counts) c) → StepsStored old cells r (squarings p (counts_of counts) (length counts))
-columns_end p counts old cells r c h g s = let last : length counts ≡ c = omega arith in rw last s
-
-pub ruleset squaring_columns = (columns_start, columns_room, columns_on, columns_end)
+pub ruleset squaring_columns = (columns_start, columns_room, columns_on)

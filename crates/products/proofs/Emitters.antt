@@ -1,7 +1,7 @@
 -- A product is a copy or one step more, and squarings are products in a row: each has room because the whole has it.
 use mathlib.Core.Path.{◌≡◌, refl, sym, ap, ◌∙◌}
 use mathlib.Core.List.{List, [], ◌∷◌, ◌++◌}
-use Prim.Native.Nat.{ℕ, suc, ◌+◌, ◌^◌, ◌≤◌, ◌<◌}
+use Prim.Native.Nat.{ℕ, suc, ◌+◌, ◌^◌, ◌<◌}
 use native.Mathlib.Numerals.{add-one}
 use native.Mathlib.Omega.{arith}
 use lib.ListN.{length, length-append}
@@ -59,10 +59,4 @@ module _ (p k : ℕ) (old : List ℕ) (r₀ : Progress) (m : Made) (room : Steps
       → Emitted old cells' r' v' (squared p (i + 1) m)
   squared_on cells' r' v' t = rw next (emits_on square e (times_begins p (squared p i m) _) t)
 
-pub squared_end : (p k : ℕ) (old cells : List ℕ) (r : Progress) (v i : ℕ) (m : Made) → i ≤ k → k ≤ i → Emitted old cells r v (squared p i m)
-    → Emitted old cells r v (squared p k m)
-squared_end p k old cells r v i m h g e =
-    let last : k ≡ i = omega arith in
-    rw last e
-
-pub ruleset squaring = (emitted_own, squared_room, squared_on, squared_end)
+pub ruleset squaring = (emitted_own, squared_room, squared_on)

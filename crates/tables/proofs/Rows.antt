@@ -18,7 +18,7 @@ use Rattle.products.specs.Inner.{steps_in, SoFar, MoreRoom, StepsRoom, StepsStor
 use Rattle.products.specs.declared.Progress.{Progress}
 use Rattle.products.proofs.Sound.{Begins, begins_length, begins_rise}
 use Rattle.products.proofs.Emitted.{stored_own, stored_is, stored_on, stored_so_far}
-use Rattle.tables.specs.Inner.{RowAsked, OneMore, Longer}
+use Rattle.tables.specs.Inner.{OneMore, Longer}
 use Rattle.tables.proofs.Table.{next_zero, next_unit, table_count_lem}
 use Rattle.tables.proofs.Tabling.{next_begins, next_front}
 
@@ -60,21 +60,6 @@ module _ (k d u v : ℕ) (some : 0 < k) (first : u ≡ 2 ^ (k * d)) (next : v �
         other = eq_no t _ (omega (arith, top_unit t (omega arith) high));
         inside = omega (arith, pow_mono (mul-le-mul_left k le));
       }
-
--- the places and numbers of a row fit
-module _ {k : ℕ} {inputs : List ℕ} {at d : ℕ} (asked : RowAsked k inputs at d) where
-  pub next_fits : k * (d + 1) < 32
-  next_fits =
-      let le : d + 1 ≤ length inputs = omega (arith, asked.inside) in
-      omega (arith, mul-le-mul_left k le, asked.places_low)
-
-  pub place_fits : k * d < 32
-  place_fits =
-      let le : d ≤ d + 1 = omega arith in
-      omega (arith, mul-le-mul_left k le, next_fits)
-
-  pub unit_fits : (u : ℕ) → u ≡ 2 ^ (k * d) → u + 1 < 2 ^ 32
-  unit_fits u e = omega (arith, asked.numbers_low, asked.at_some, weights_rise k asked.k_some d (length inputs) asked.inside)
 
 -- a number of digits is below the first number that has more
 below_unit : (k d : ℕ) → 0 < k → d + 1 ≤ 2 ^ (k * d)
@@ -166,12 +151,6 @@ module _ (k : ℕ) (inputs : List ℕ) (at : ℕ) where
   table_start p cells r steps some room =
       rw (mul-zero, next_zero k some inputs at [], append-nil (steps_in cells r.steps)) (stored_own cells r room.so_far)
 
-  pub table_end : (old cells : List ℕ) (front : List Step) (s : Progress) (d : ℕ) → d ≤ length inputs → length inputs ≤ d
-      → StepsStored old cells s (After front (2 ^ (k * d))) → StepsStored old cells s (After front (2 ^ (k * length inputs)))
-  table_end old cells front s d h g st =
-      let last : length inputs ≡ d = omega arith in
-      rw last st
-
 pub ruleset rowing = (longer_own, longer_next, longer_end)
 
-pub ruleset tabling = (row_stored, row_room, table_start, table_end)
+pub ruleset tabling = (row_stored, row_room, table_start)

@@ -74,13 +74,7 @@ module _ (col : Column) (d : ℕ) (old : List ℕ) (m : Made) (cells : List ℕ)
       → Emitted old cells' n' v' (gather_in col d (i + 1) m)
   powers_on cells' n' v' t = rw next (emits_on (λ b. gather_one col.p y d b w) e begins t)
 
-pub powers_end : (col : Column) (d J : ℕ) (old cells : List ℕ) (n : Progress) (v i : ℕ) (m : Made) → i ≤ J → J ≤ i → Emitted old cells n v (gather_in col d i m)
-    → Emitted old cells n v (gather_in col d J m)
-powers_end col d J old cells n v i m h g e =
-    let last : J ≡ i = omega arith in
-    rw last e
-
-pub ruleset gathering = (emitted_own, powers_room, powers_on, powers_end)
+pub ruleset gathering = (emitted_own, powers_room, powers_on)
 
 -- the products a and b after i rounds
 module _ (col : Column) (before : List Step) where

@@ -11,6 +11,3 @@ squared-requires c = search squaring_columns
 
 pub loop-c-preserved : goal.loop-c-preserved
 loop-c-preserved c = search squaring_columns
-
-pub returns : goal.returns
-returns c = search squaring_columns

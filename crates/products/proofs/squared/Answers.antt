@@ -11,6 +11,3 @@ times-r-requires c = search squaring
 
 pub loop-preserved : goal.loop-preserved
 loop-preserved c = search squaring
-
-pub returns : goal.returns
-returns c = search squaring

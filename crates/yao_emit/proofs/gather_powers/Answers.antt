@@ -22,6 +22,3 @@ gather_one-r-requires c = search gathering
 pub loop-i-preserved : goal.loop-i-preserved
 loop-i-preserved c =
     powers_on c.args.column _ _ _ _ _ _ _ c.loop-i.invariant _ _ c.digit-digit.ensures c.power_at-power.ensures _ _ _ c.gather_one-r.ensures
-
-pub returns : goal.returns
-returns c = search gathering

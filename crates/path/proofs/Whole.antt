@@ -9,14 +9,10 @@ use Rattle.chain.specs.Chain as spec
 use Rattle.chain.specs.declared.Step.{Step}
 use Rattle.chain.proofs.Rules.{stop, pass, then_fine, then_assoc, answer_refused, answer_done, kept, renewed}
 use Rattle.chain.proofs.Told.{verdict_in, told, told_values_lem}
-use Rattle.answers.specs.Answers.{ran_of, read_of}
+use Rattle.answers.specs.Answers.{counts_in}
 use Rattle.answers.specs.declared.Counts.{Counts}
-use Rattle.answers.specs.declared.Ran.{Ran}
-use Rattle.answers.specs.declared.Ran.TheVariants as ran
 use Rattle.layout.specs.Layout.{edition1}
 use Rattle.layout.specs.File.{columns_of, length_of, steps_of, outputs_of, write_bytes, read_answer}
-use Rattle.answers.specs.declared.Reading.{Reading}
-use Rattle.answers.specs.declared.Reading.TheVariants as reading
 use Rattle.reading.proofs.Told.{ChainTaken, taken}
 use Rattle.quote.specs.ByMethod.{count}
 use Rattle.compile.specs.Compile.{compile_steps, compile_outputs}
@@ -83,23 +79,23 @@ module _ (p q : ℕ) (amounts : List ℕ) (method k : ℕ) (low : (j : ℕ) → 
 
     -- compile found nothing, and s and o are the chain that it filled
     module _ (v : fine ≡ compiles p q amounts method k l) (s : List Step) (o : List ℕ) (s-is : s ≡ (compiled p q amounts method k).steps)
-        (o_is : o ≡ (compiled p q amounts method k).outputs) (r : Reading) (bytes' steps_read' outputs_read' : List ℕ)
-        (dispatched : Dispatched p s o l.bytes l.steps_read l.outputs_read (read_of r) bytes' steps_read' outputs_read') where
-      sent : Dispatched p chain.steps chain.outputs l.bytes l.steps_read l.outputs_read (read_of r) bytes' steps_read' outputs_read'
+        (o_is : o ≡ (compiled p q amounts method k).outputs) (r : Answer) (bytes' steps_read' outputs_read' : List ℕ)
+        (dispatched : Dispatched p s o l.bytes l.steps_read l.outputs_read r bytes' steps_read' outputs_read') where
+      sent : Dispatched p chain.steps chain.outputs l.bytes l.steps_read l.outputs_read r bytes' steps_read' outputs_read'
       sent = rw (s-is, o_is) at dispatched
 
       bytes_left : bytes' ≡ on_fine compiling (write_bytes edition1 p chain.steps chain.outputs l.bytes) l.bytes
       bytes_left = renewed _ _ l.bytes bytes' v sent.bytes_left
 
-      found : verdict_in (read_of r) ≡ (writing then file_read)
+      found : verdict_in r ≡ (writing then file_read)
       unfolding dispatch_answer
       found = told _ _ _ sent.answered
 
-      pub not_dispatched : (n c : ℕ) → r ≡ reading.Refused n c
+      pub not_dispatched : (n c : ℕ) → r ≡ refusal n c
           → Fulfilled (refusal n c) (lent steps' outputs' bytes' steps_read' outputs_read' l.scratch l.values l.figures)
       unfolding path_answer path_leaves dispatch_steps dispatch_outputs
       not_dispatched n c e =
-          let d : refused n c ≡ (writing then file_read) = sym (ap (λ (x : Reading). verdict_in (read_of x)) e) ∙ found in
+          let d : refused n c ≡ (writing then file_read) = sym (ap verdict_in e) ∙ found in
           let later : (x : Verdict) → refused n c ≡ (compiling then writing then file_read then x) = λ x. pass _ _ _ v (stop _ x n c d ∙ then_assoc _ _ x) in
           fulfilled _ _ (answer_refused _ _ n c (later _))
           (same_lent es eo bytes_left (by_verdict _ _ _ _ _ (pass _ _ _ v refl) sent.steps_left_lem)
@@ -108,9 +104,9 @@ module _ (p q : ℕ) (amounts : List ℕ) (method k : ℕ) (low : (j : ℕ) → 
           (kept _ _ l.values n c (later _))
           (kept _ _ l.figures n c (later _)))
 
-      module _ (columns payslips : ℕ) (read_counts : Counts) (is : r ≡ reading.Chain columns payslips read_counts) where
+      module _ (columns payslips : ℕ) (read_counts : Counts) (is : r ≡ done (columns ∷ payslips ∷ counts_in read_counts)) where
         both : fine ≡ (writing then file_read)
-        both = sym (ap (λ (x : Reading). verdict_in (read_of x)) is) ∙ found
+        both = sym (ap verdict_in is) ∙ found
 
         wrote : fine ≡ writing
         wrote = sym (then_fine _ _ (sym both)).0
@@ -122,9 +118,8 @@ module _ (p q : ℕ) (amounts : List ℕ) (method k : ℕ) (low : (j : ℕ) → 
         pub read_alone : ChainTaken edition1 file steps_read' outputs_read' columns payslips read_counts.steps
         unfolding dispatch_answer dispatch_steps dispatch_outputs read_answer
         read_alone =
-            taken edition1 file l.steps_read l.outputs_read r
-            (sent.answered ∙ sym (after_answer _ _ _ wrote))
-            columns payslips read_counts is steps_read' outputs_read'
+            taken edition1 file l.steps_read l.outputs_read columns payslips read_counts (sym is ∙ sent.answered ∙ sym (after_answer _ _ _ wrote))
+            steps_read' outputs_read'
             (sent.steps_left_lem ∙ sym (renewed _ _ l.steps_read _ wrote refl))
             (sent.outputs_left ∙ sym (renewed _ _ l.outputs_read _ wrote refl))
 
@@ -134,13 +129,13 @@ module _ (p q : ℕ) (amounts : List ℕ) (method k : ℕ) (low : (j : ℕ) → 
 
         -- s' and o' are the chain that read filled
         module _ (compiled' : ℕ) (counted : compiled' ≡ count p q amounts method k) (s' : List Step) (o' : List ℕ) (p-is : columns ≡ columns_of file)
-            (s-is' : s' ≡ steps_of edition1 file) (o-is' : o' ≡ outputs_of edition1 file) (a : Ran) (scratch' values' figures' : List ℕ)
-            (received : Received columns s' o' amounts m bases l.scratch l.values l.figures (ran_of a) scratch' values' figures') where
-          got : Received (columns_of file) (steps_of edition1 file) (outputs_of edition1 file) amounts m bases l.scratch l.values l.figures (ran_of a)
+            (s-is' : s' ≡ steps_of edition1 file) (o-is' : o' ≡ outputs_of edition1 file) (a : Answer) (scratch' values' figures' : List ℕ)
+            (received : Received columns s' o' amounts m bases l.scratch l.values l.figures a scratch' values' figures') where
+          got : Received (columns_of file) (steps_of edition1 file) (outputs_of edition1 file) amounts m bases l.scratch l.values l.figures a
               scratch' values' figures'
           got = rw (p-is, s-is', o-is') at received
 
-          last_two : verdict_in (ran_of a) ≡ (checking then ran_last)
+          last_two : verdict_in a ≡ (checking then ran_last)
           unfolding receive_answer
           last_two = told _ _ _ got.answered
 
@@ -153,21 +148,21 @@ module _ (p q : ℕ) (amounts : List ℕ) (method k : ℕ) (low : (j : ℕ) → 
               (by_verdict _ _ _ _ _ (three_calls _ _ refl) got.values_left)
               (by_verdict _ _ _ _ _ (three_calls _ _ refl) got.figures_left_lem)
 
-          pub not_received : (number place : ℕ) → a ≡ ran.Refused number place
+          pub not_received : (number place : ℕ) → a ≡ refusal number place
               → Fulfilled (refusal number place) (lent steps' outputs' bytes' steps_read' outputs_read' scratch' values' figures')
           unfolding path_answer
           not_received number place e =
               fulfilled _ _
-              (answer_refused _ _ number place (three_calls _ _ (sym (ap (λ (x : Ran). verdict_in (ran_of x)) e) ∙ last_two)))
+              (answer_refused _ _ number place (three_calls _ _ (sym (ap verdict_in e) ∙ last_two)))
               all_left
 
-          pub all_done : (made : Counts) → a ≡ ran.Multiplications made
+          pub all_done : (made : Counts) → a ≡ done (counts_in made)
               → Fulfilled (done (compiled' ∷ read_counts.steps ∷ made.steps ∷ [])) (lent steps' outputs' bytes' steps_read' outputs_read' scratch' values' figures')
           unfolding path_answer receive_answer spec.counts
           all_done made e =
               let long : read_counts.steps ≡ length_of edition1 file = read_alone.long in
-              let told-made = told_values_lem _ _ _ (sym (ap ran_of e) ∙ got.answered) in
+              let told-made = told_values_lem _ _ _ (sym e ∙ got.answered) in
               let said : made.steps ≡ length (steps_of edition1 file) = ap (λ (x : List ℕ). get_or x 0 0) told-made in
               fulfilled _ _
-              (rw (counted, long, said) (answer_done _ _ (three_calls _ _ (sym (ap (λ (x : Ran). verdict_in (ran_of x)) e) ∙ last_two))))
+              (rw (counted, long, said) (answer_done _ _ (three_calls _ _ (sym (ap verdict_in e) ∙ last_two))))
               all_left

@@ -1,5 +1,6 @@
 -- Write refuses, or the bytes that it counted are lent to read; each return is one law of `Dispatching`.
-use Rattle.std.proofs.Common.{◌≡◌, rules, Err}
+use Rattle.std.proofs.Common.{◌≡◌, sym, rules, Err}
+use lib.Seq.{length-take-le}
 use Rattle.chain.specs.Chain.{pairs}
 use Rattle.layout.specs.Layout.{edition1}
 use Rattle.writing.proofs.Told.{write_room}
@@ -19,6 +20,12 @@ slice_bounds-read-end c =
     let a = c.args in
     let wrote = c.in_ok-count.ensures in
     write_room edition1 a.p (pairs a.steps.now) a.outputs.now a.bytes.now _ wrote.result_value _ wrote.bytes_after
+
+pub slice_bounds-read-end-2 : goal.slice_bounds-read-end-2
+slice_bounds-read-end-2 c =
+    let a = c.args in
+    let wrote = c.in_ok-count.ensures in
+    sym (length-take-le _ _ (write_room edition1 a.p (pairs a.steps.now) a.outputs.now a.bytes.now _ wrote.result_value _ wrote.bytes_after))
 
 pub returns : goal.returns
 returns c =

@@ -4,7 +4,7 @@
 ghost use Rattle.std.specs.Prelude.{◌≡◌, length};
 ghost use Rattle.phrases.specs.Phrases.{phrase, phrase_number, phrase_words, phrase_text};
 
-// The phrase of a number: those of the specification's refusals, and from 101 on those of a text's faults.
+// The phrase of a number: the refusals of the specification have one, and from 101 on the faults of a text.
 fn wording(number: u32) -> &'static [u8]
     ensures { result.now ≡ phrase number }
 {

@@ -1,3 +1,2 @@
 pub mod Phrases
-pub mod Inner
 pub mod Samples

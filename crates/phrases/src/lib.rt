@@ -1,55 +1,43 @@
 // The refusals in words: the one place of their wording.
 #![tactic(auto)]
 
-ghost use Rattle.std.specs.Prelude.{◌≡◌, ◌-◌, ◌≤◌, length, take, drop};
-ghost use Rattle.chain.specs.Written.{over};
-ghost use Rattle.phrases.specs.Phrases.{phrase_number, phrase_words, phrase_text};
-ghost use Rattle.phrases.specs.Inner.{all_phrases, start_of, place_of};
+ghost use Rattle.std.specs.Prelude.{◌≡◌, length};
+ghost use Rattle.phrases.specs.Phrases.{phrase, phrase_number, phrase_words, phrase_text};
 
-// How many phrases the specification's refusals have, with one for a number that is none; the first number of a text's faults, and how many these are.
-const PHRASES: usize = 21;
-
-const FIRST_FAULT: usize = 101;
-
-const FAULTS: usize = 7;
-
-// Where each phrase begins in all of them one after the other, and where the last one ends.
-const STARTS: [usize; PHRASES + FAULTS + 1] = [
-    0, 15, 34, 59, 78, 100, 122, 166, 173, 190, 199, 230, 263, 290, 308, 349, 358, 399, 419, 467,
-    480, 504, 535, 561, 598, 646, 676, 680, 712,
-];
-
-// Where phrase n begins.
-fn phrase_start(n: usize) -> usize
-    requires { n ≤ length all_phrases }
-    ensures { result ≡ start_of all_phrases n }
+// The phrase of a number: the refusals of the specification have one, and from 101 on the faults of a text.
+fn wording(number: u32) -> &'static [u8]
+    ensures { result.now ≡ phrase number }
 {
-    STARTS[n]
-}
-
-// Which of all phrases a number has.
-fn phrase_place(number: u32) -> usize
-    ensures { result ≡ place_of number }
-{
-    let n = number as usize;
-    if n < PHRASES {
-        return n;
+    match number {
+        1 => b"p or q out of range",
+        2 => b"amounts are not p times q",
+        3 => b"method or parameter",
+        4 => b"more than 16,000 steps",
+        5 => b"a lent slice too short",
+        6 => b"file under 4 bytes, or not its stated length",
+        7 => b"edition",
+        8 => b"a filling bit set",
+        9 => b"operand 0",
+        10 => b"operand not below its own value",
+        11 => b"first operand smaller than second",
+        12 => b"output above the last value",
+        13 => b"exponent too large",
+        14 => b"an output's exponents are not its payslip",
+        15 => b"modulus 0",
+        16 => b"bases not p, or one not below the modulus",
+        17 => b"column counts differ",
+        18 => b"a digit above 9, or a sign that is not C, D or F",
+        19 => b"sign D, minus",
+        20 => b"amount above 999,999,999",
+        101 => b"neither a digit nor a separator",
+        102 => b"number above 4,294,967,295",
+        103 => b"cut off: the last line has no newline",
+        104 => b"a line with more or fewer amounts than the first",
+        105 => b"decimal point or grouping mark",
+        106 => b"sign",
+        107 => b"no amount between two separators",
+        _ => b"no such refusal",
     }
-    if n < FIRST_FAULT {
-        return 0;
-    }
-    if n < FIRST_FAULT + FAULTS {
-        return n - FIRST_FAULT + PHRASES;
-    }
-    0
-}
-
-// A part of some words over the front of a text.
-fn put_part(words: &[u8], from: usize, end: usize, text: &mut [u8])
-    requires { (from ≤ end) × (end ≤ length words.now) × (end - from ≤ length text.old) }
-    ensures { text.new ≡ over (take (end - from) (drop from words.now)) text.old }
-{
-    let _ = decimal::put_word(&words[from..end], 0, text);
 }
 
 // The phrase of a number over the front of a text; the words answer its length.
@@ -58,19 +46,12 @@ pub fn phrase(number: u32, text: &mut [u8], answer: &mut [u64; 8]) -> u32
     ensures answer_after { answer.new ≡ phrase_words number (length text.old) }
     ensures text_after { text.new ≡ phrase_text number text.old }
 {
-    let n = phrase_place(number);
-    let from = phrase_start(n);
-    let end = phrase_start(n + 1);
-    if text.len() < end - from {
+    let words = wording(number);
+    if text.len() < words.len() {
         *answer = [0, 0, 0, 0, 0, 0, 0, 0];
         return 5;
     }
-    put_part(
-        b"no such refusalp or q out of rangeamounts are not p times qmethod or parametermore than 16,000 stepsa lent slice too shortfile under 4 bytes, or not its stated lengtheditiona filling bit setoperand 0operand not below its own valuefirst operand smaller than secondoutput above the last valueexponent too largean output's exponents are not its payslipmodulus 0bases not p, or one not below the moduluscolumn counts differa digit above 9, or a sign that is not C, D or Fsign D, minusamount above 999,999,999neither a digit nor a separatornumber above 4,294,967,295cut off: the last line has no newlinea line with more or fewer amounts than the firstdecimal point or grouping marksignno amount between two separators",
-        from,
-        end,
-        text,
-    );
-    *answer = [(end - from) as u64, 0, 0, 0, 0, 0, 0, 0];
+    text[..words.len()].copy_from_slice(words);
+    *answer = [words.len() as u64, 0, 0, 0, 0, 0, 0, 0];
     0
 }

@@ -31,6 +31,7 @@ signed = 106
 abbrev pub no_amount : ℕ
 no_amount = 107
 
+-- the number of a fault
 abbrev pub number_of : Fault → ℕ
 number_of OutOfRange = out_of_range
 number_of NoRoom = no_room

@@ -1,3 +1,4 @@
+-- The tally at hand and the bytes that are left come to the whole tally, so one more of each can be counted.
 use Rattle.std.proofs.Common.{rules}
 use Rattle.lines.proofs.Lines.{tally_start_lem, tally_room, tally_next, tally_end}
 use Rattle.lines.proofs.tally_of.Goals as goal

@@ -18,6 +18,9 @@ use layout::{Extent, Layout};
 use reader::BitReader;
 use refusal::{Reason, Refusal};
 
+// A file has no fewer bytes than its header takes (Spec 4.1).
+const FEWEST_BYTES: usize = 4;
+
 // What a header says.
 #[derive(Clone, Copy)]
 struct Header {
@@ -53,7 +56,7 @@ fn judge_header(layout: Layout, bytes: &[u8]) -> Result<Extent, Refusal>
     requires { SoundLayout layout }
     ensures { headed layout bytes.now result }
 {
-    if bytes.len() < 4 {
+    if bytes.len() < FEWEST_BYTES {
         return Err(Reason::Length.into());
     }
     let h = take_header(bytes, layout.bits);

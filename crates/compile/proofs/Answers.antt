@@ -1,5 +1,5 @@
 -- Each way through compile gives the answer of its rule: what was judged first is passed on, and the slices are as before or hold the chain.
-use mathlib.Core.Path.{◌≡◌, sym, ap, ◌∙◌}
+use mathlib.Core.Path.{◌≡◌, ap, ◌∙◌}
 use mathlib.Core.List.{List, [], ◌∷◌}
 use mathlib.Core.Logic.{◌⊎◌, inl, inr}
 use Prim.Native.Nat.{ℕ, ◌-◌, ◌/◌, ◌≤◌, ◌<◌}
@@ -7,7 +7,6 @@ use native.Mathlib.Omega.{arith}
 use lib.ListN.{length, get_or}
 use Rattle.chain.specs.Verdict.{Verdict, fine, refused, Answer, done, refusal}
 use Rattle.chain.specs.Chain.{Chain, most_steps, length_rule}
-use Rattle.chain.specs.Inner.{counted_by}
 use Rattle.chain.proofs.Rules.{pass, stop, refuse_yes, refuse_no, lt_yes, lt_no, or_left, or_right, or_none, answer_refused, answer_done, kept, renewed}
 use Rattle.chain.proofs.Told.{told, told_values_lem}
 use Rattle.chain.proofs.Squarings.{counts_are, squarings_few}

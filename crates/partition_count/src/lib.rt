@@ -12,8 +12,8 @@ ghost use Rattle.partition.specs.Partition.{join_count};
 ghost use Rattle.partition.specs.Method.{partition_method};
 ghost use Rattle.partition_count.specs.Inner.{TallyRoom};
 
-use groups::Grouping;
 use answers::Quote;
+use groups::Grouping;
 
 // The steps of a payslip with these parts: those that are not empty less 1.
 fn joins(numbers: &[u32]) -> usize

@@ -1,10 +1,9 @@
 -- What two parts that pool leave room for and leave behind: no number goes past 32 bits, and both lists one after the other are the pool's.
 use mathlib.Core.Path.{◌≡◌, sym, ap, ap₂, ◌∙◌}
 use mathlib.Core.List.{List, ◌++◌, map}
-use Prim.Native.Nat.{ℕ, ◌+◌, ◌*◌, ◌/◌, ◌^◌, ◌≤◌, ◌<◌}
+use Prim.Native.Nat.{ℕ, ◌+◌, ◌*◌, ◌/◌, ◌≤◌, ◌<◌}
 use native.Mathlib.Omega.{arith}
 use lib.ListN.{length, get_or, take, length-append, length-map}
-use lib.Seq.{get_or-take, take-length}
 use Rattle.chain.specs.Verdict.{fine, refused, done, refusal}
 use Rattle.chain.specs.Written.{over}
 use Rattle.chain.specs.Chain.{most_columns, most_steps, pairs, flat, steps_rule, outputs_rule, counts}

@@ -97,7 +97,10 @@ fn judge_outputs(bytes: &[u8], x: Extent) -> Result<(), Refusal>
     for i in 0..x.q {
         let output = c.take(bytes, x.width);
         if top < output.value {
-            return Err(Refusal { reason: Reason::Output, place: i + 1 });
+            return Err(Refusal {
+                reason: Reason::Output,
+                place: i + 1,
+            });
         }
         c = output.next;
     }
@@ -207,11 +210,7 @@ fn read_as(
 }
 
 // Reads a file into the lent steps and outputs.
-pub fn read(
-    bytes: &[u8],
-    steps: &mut [u32],
-    outputs: &mut [u32],
-) -> Result<ReadChain, Refusal>
+pub fn read(bytes: &[u8], steps: &mut [u32], outputs: &mut [u32]) -> Result<ReadChain, Refusal>
     ensures result_value { answer_of chain_in result ≡ read_answer edition1 bytes.now (length steps.old / 2) (length outputs.old) }
     ensures steps_after { steps.new ≡ read_steps edition1 bytes.now (length outputs.old) steps.old }
     ensures outputs_after { outputs.new ≡ read_outputs edition1 bytes.now (length steps.old / 2) outputs.old }

@@ -34,7 +34,7 @@ pub extern "C" fn spoutbasket_ceiling(
     ensures answer_after { answer.new ≡ words_of (ceiling_answer p q amounts.now method k) }
 {
     let quoted = quote::ceiling(p, q, amounts, method, k);
-    tell_sender::tell_quoted(quoted, answer)
+    tell::tell(quoted, answer)
 }
 
 // A sheet compiled by the method of a number and its parameter.
@@ -56,7 +56,7 @@ pub extern "C" fn spoutbasket_compile(
     ensures outputs_after { outputs.new ≡ compile_outputs p q amounts.now method k (length steps.old / 2) outputs.old }
 {
     let compiled = compile::compile(p, q, amounts, method, k, steps, outputs);
-    tell_sender::tell_compiled(compiled, answer)
+    tell::tell(compiled, answer)
 }
 
 // The width of a file's numbers and its bytes, from the sizes of its chain.
@@ -66,7 +66,7 @@ pub extern "C" fn spoutbasket_extent(p: usize, q: usize, n: usize, answer: &mut 
     ensures answer_after { answer.new ≡ words_of (extent_answer edition1 p q n) }
 {
     let measured = extent::extent(p, q, n);
-    tell_files::tell_measured(measured, answer)
+    tell::tell(measured, answer)
 }
 
 // The file of a chain, written.
@@ -83,7 +83,7 @@ pub extern "C" fn spoutbasket_write(
     ensures bytes_after { bytes.new ≡ write_bytes edition1 p (pairs steps.now) outputs.now bytes.old }
 {
     let written = writing::write(p, steps, outputs, bytes);
-    tell_sender::tell_written(written, answer)
+    tell::tell(written, answer)
 }
 
 // The file of a chain, read.
@@ -101,7 +101,7 @@ pub extern "C" fn spoutbasket_read(
     ensures outputs_after { outputs.new ≡ read_outputs edition1 bytes.now (length steps.old / 2) outputs.old }
 {
     let reading = reading::read(bytes, steps, outputs);
-    tell_files::tell_read(reading, answer)
+    tell::tell(reading, answer)
 }
 
 // The check of a chain against a sheet.
@@ -121,7 +121,7 @@ pub extern "C" fn spoutbasket_verify(
     ensures scratch_after { scratch.new ≡ verify_scratch p (pairs steps.now) outputs.now amounts.now scratch.old }
 {
     let verified = checker::verify(p, steps, outputs, amounts, scratch);
-    tell_chain::tell_verified(verified, answer)
+    tell::tell(verified, answer)
 }
 
 // The check of a chain whose steps are lent as structs, each a pair of 32-bit numbers, against a sheet.
@@ -140,7 +140,7 @@ pub extern "C" fn spoutbasket_verify_pairs(
     ensures scratch_after { scratch.new ≡ verify_scratch p steps.now outputs.now amounts.now scratch.old }
 {
     let verified = pairs::verify_pairs(p, steps, outputs, amounts, scratch);
-    tell_chain::tell_verified(verified, answer)
+    tell::tell(verified, answer)
 }
 
 // The run of a chain over residues.
@@ -165,7 +165,7 @@ pub extern "C" fn spoutbasket_run(
         (length values.old) figures.old }
 {
     let ran = runner::run(p, steps, outputs, m, bases, values, figures);
-    tell_chain::tell_ran(ran, answer)
+    tell::tell(ran, answer)
 }
 
 // The run of a chain whose steps are lent as structs, each a pair of 32-bit numbers, over residues.
@@ -190,7 +190,7 @@ pub extern "C" fn spoutbasket_run_pairs(
         (length values.old) figures.old }
 {
     let ran = pairs::run_pairs(p, steps, outputs, m, bases, values, figures);
-    tell_chain::tell_ran(ran, answer)
+    tell::tell(ran, answer)
 }
 
 // Two chains over the same columns pooled into one.
@@ -216,7 +216,7 @@ pub extern "C" fn spoutbasket_pool(
         (part p2 (pairs steps2.now) outputs2.now) (length steps.old / 2) outputs.old }
 {
     let pooled = pooler::pool(p1, steps1, outputs1, p2, steps2, outputs2, steps, outputs);
-    tell_chain::tell_pooled(pooled, answer)
+    tell::tell(pooled, answer)
 }
 
 // A sheet of packed fields, read.
@@ -233,7 +233,7 @@ pub extern "C" fn spoutbasket_unpack(
     ensures amounts_after { amounts.new ≡ unpack_amounts p q bytes.now amounts.old }
 {
     let transferred = unpacking::unpack(p, q, bytes, amounts);
-    tell_sender::tell_transferred(transferred, answer)
+    tell::tell(transferred, answer)
 }
 
 // A sheet written as packed fields.
@@ -250,7 +250,7 @@ pub extern "C" fn spoutbasket_pack(
     ensures bytes_after { bytes.new ≡ pack_bytes p q amounts.now bytes.old }
 {
     let transferred = packing::pack(p, q, amounts, bytes);
-    tell_sender::tell_transferred(transferred, answer)
+    tell::tell(transferred, answer)
 }
 
 // The choice between two files: which of them is handed back. The scratch slices are left free in content.
@@ -273,7 +273,7 @@ pub extern "C" fn spoutbasket_choose(
         (length numbers.old))) }
 {
     let chosen = choose::decide(p, q, amounts, a, b, steps, outputs, numbers);
-    tell_files::tell_chosen(chosen, answer)
+    tell::tell(chosen, answer)
 }
 
 // The listing of a file, as text over the front of an array with room for every listing; the answer is its length.
@@ -288,7 +288,7 @@ pub extern "C" fn spoutbasket_list(
     ensures text_after { text.new ≡ over (listing bytes.now) text.old }
 {
     let length = listing::list(bytes, text);
-    tell::tell_listed(length, answer)
+    tell::tell(Ok(length), answer)
 }
 
 // The whole path from a sheet to its figures: compile, write, read, check and run. The chain read stands in `received` and `results`.
@@ -326,7 +326,7 @@ pub extern "C" fn spoutbasket_path(
         p, q, amounts, method, k, m, bases, steps, outputs, bytes, received, results, scratch,
         values, figures,
     );
-    tell_sender::tell_figured(figured, answer)
+    tell::tell(figured, answer)
 }
 
 ghost use Rattle.places.specs.Places.{number_told, words_told};

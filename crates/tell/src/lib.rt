@@ -49,7 +49,16 @@ impl Told for Counts {
     ghost values = { counts_in };
 
     fn words(&self) -> [u64; 8] {
-        [self.steps as u64, self.squarings as u64, self.products as u64, 0, 0, 0, 0, 0]
+        [
+            self.steps as u64,
+            self.squarings as u64,
+            self.products as u64,
+            0,
+            0,
+            0,
+            0,
+            0,
+        ]
     }
 }
 
@@ -90,7 +99,16 @@ impl Told for Figures {
     ghost values = { figures_in };
 
     fn words(&self) -> [u64; 8] {
-        [self.compiled as u64, self.read as u64, self.made as u64, 0, 0, 0, 0, 0]
+        [
+            self.compiled as u64,
+            self.read as u64,
+            self.made as u64,
+            0,
+            0,
+            0,
+            0,
+            0,
+        ]
     }
 }
 

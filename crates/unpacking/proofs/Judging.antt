@@ -3,7 +3,7 @@ use mathlib.Core.Path.{◌≡◌, sym, ap, ◌∙◌}
 use mathlib.Core.List.{List, []}
 use Prim.Native.Nat.{ℕ, ◌+◌, ◌*◌, ◌≤◌, ◌<◌}
 use native.Mathlib.Omega.{arith}
-use lib.ListN.{length, get_or}
+use lib.ListN.{get_or}
 use Rattle.chain.specs.Verdict.{Verdict, fine, refused, in_order}
 use Rattle.chain.proofs.InOrder.{left, judge_start_lem, judge_on, judge_bad, judge_end_lem}
 use Rattle.packed.specs.Field.{field_bytes, field_rule, field_from, fields_in}

@@ -20,7 +20,7 @@ returns-then-steps-n c =
     let leaves =
     too_short a.p a.q a.amounts.now a.method a.k a.steps.now a.outputs.now _ accepted counted
     (elim c.then-steps-n.branch [
-      then-steps-n-via-then-steps-n w ↦ inl w.if-steps-n.true
+      | then-steps-n-via-then-steps-n w ↦ inl w.if-steps-n.true
       | then-steps-n-via-else-steps-n+then-outputs-q w ↦ inr w.if-outputs-q.true
     ]) in
     record { result_value = rw c.into.ensures leaves.0; steps_after = leaves.1.0; outputs_after = leaves.1.1 }

@@ -1,6 +1,5 @@
 -- Each return is a line of the rule: what was refused before the steps were counted, the length's refusal, or none; the columns were measured by then.
-use Rattle.std.proofs.Common.{◌≡◌, ◌∙◌, sym, rules, Err}
-use Rattle.chain.specs.Verdict.{refused}
+use Rattle.std.proofs.Common.{◌≡◌, sym, rules, Err}
 use Rattle.chain.specs.Inner.{counted_by}
 use Rattle.chain.proofs.Squarings.{counted_done}
 use Rattle.quote.proofs.Answers.{stopped}

@@ -1,6 +1,5 @@
 -- Edition 1 is sound, and sizes that pass are sizes that it holds; so the extent found is that of a file.
 use Rattle.std.proofs.Common.{◌≡◌, sym, rules, Err}
-use Rattle.chain.specs.Verdict.{fine}
 use Rattle.chain.proofs.Rules.{answer_refused, answer_done}
 use Rattle.layout.specs.Layout.{edition1}
 use Rattle.layout.specs.File.{extent_answer}

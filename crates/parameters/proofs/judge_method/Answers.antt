@@ -23,7 +23,7 @@ pub returns-in_default-k : goal.returns-in_default-k
 returns-in_default-k c =
     rw c.into-in_default-k.ensures
     (elim c.in_default-k.branch [
-      in_default-k-via-then-k-lt1 w ↦ first_low _ _ _ (omega arith) (omega arith)
+      | in_default-k-via-then-k-lt1 w ↦ first_low _ _ _ (omega arith) (omega arith)
       | in_default-k-via-else-k-lt1+else-k-lt6 w ↦ first_high _ _ _ (omega arith) (omega arith)
     ])
 
@@ -31,7 +31,7 @@ pub returns-in_default-k-2 : goal.returns-in_default-k-2
 returns-in_default-k-2 c =
     rw c.into-in_default-k-2.ensures
     (elim c.in_default-k-2.branch [
-      in_default-k-2-via-then-k-lt1-2 w ↦ second_low _ _ _ (omega arith) (omega arith) (omega arith)
+      | in_default-k-2-via-then-k-lt1-2 w ↦ second_low _ _ _ (omega arith) (omega arith) (omega arith)
       | in_default-k-2-via-else-k-lt1-2+else-k-lt9 w ↦ second_high _ _ _ (omega arith) (omega arith) (omega arith)
     ])
 
@@ -39,6 +39,6 @@ pub returns-in_default : goal.returns-in_default
 returns-in_default c =
     rw c.into-in_default.ensures
     (elim c.in_default.branch [
-      in_default-via-then-method-lt1 w ↦ below_all _ _ _ (omega arith) (omega arith)
+      | in_default-via-then-method-lt1 w ↦ below_all _ _ _ (omega arith) (omega arith)
       | in_default-via-else-method-lt1+else-method-lt4 w ↦ above_all _ _ _ (omega arith)
     ])

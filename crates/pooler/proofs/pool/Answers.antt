@@ -1,5 +1,5 @@
 -- What was found against the parts answers, then what is lent; where nothing is found, both lists of each kind, put one after the other, are the pool's.
-use Rattle.std.proofs.Common.{◌≡◌, ◌∙◌, ◌*◌, ◌/◌, List, ℕ, length, take, sym, ap, refl, arith, rules, Err}
+use Rattle.std.proofs.Common.{◌≡◌, ◌∙◌, ◌*◌, ◌/◌, List, ℕ, length, sym, ap, refl, arith, rules, Err}
 use lib.Seq.{length-take-le}
 use Rattle.chain.specs.Written.{over}
 use Rattle.chain.specs.Chain.{pairs}
@@ -26,7 +26,7 @@ returns-then-steps-n1 c =
     let leaves =
     refused_leaves (part a.p1 (pairs a.steps1.now) a.outputs1.now) (part a.p2 (pairs a.steps2.now) a.outputs2.now) a.steps.now a.outputs.now 5 0
     (elim c.then-steps-n1.branch [
-      then-steps-n1-via-then-steps-n1 w ↦ steps_short _ _ _ _ agreed (omega (arith, pool.count, w.if-steps-n1.true))
+      | then-steps-n1-via-then-steps-n1 w ↦ steps_short _ _ _ _ agreed (omega (arith, pool.count, w.if-steps-n1.true))
       | then-steps-n1-via-else-steps-n1+then-outputs-outputs1 w ↦ outputs_short _ _ _ _ agreed (omega (arith, pool.payslips, w.if-outputs-outputs1.true))
     ]) in
     record { result_value = rw c.into.ensures leaves.0; steps_after = leaves.1.0; outputs_after = leaves.1.1 }

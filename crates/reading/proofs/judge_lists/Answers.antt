@@ -1,6 +1,6 @@
 -- The steps' verdict, then the outputs': a refusal of the steps stops, and else the outputs decide; the squarings are those that the steps' judge counted.
 use Rattle.std.proofs.Common.{◌≡◌, rules, Err}
-use Rattle.chain.proofs.Rules.{judging, stop, pass}
+use Rattle.chain.proofs.Rules.{stop, pass}
 use Rattle.chain.proofs.Squarings.{counted_refused, counted_done, found_refused, found_fine, found_number}
 use Rattle.reading.proofs.ReadAnswers.{chain_is}
 use Rattle.reading.proofs.judge_lists.Goals as goal

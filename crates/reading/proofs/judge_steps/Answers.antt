@@ -1,5 +1,5 @@
 -- Each turn judges one step, counts it and moves past it.
-use Rattle.std.proofs.Common.{◌≡◌, rules, arith, Err}
+use Rattle.std.proofs.Common.{◌≡◌, rules, Err}
 use Rattle.chain.proofs.Squarings.{counted_refused, counted_done}
 use Rattle.fields.proofs.Taking.{number_fits}
 use Rattle.reading.proofs.Judging.{steps_within, steps_start, step_room, step_bad, step_on, steps_end, squarings_end}

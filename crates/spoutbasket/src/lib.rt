@@ -1,6 +1,6 @@
 // The C interface: one function for each entry point, on numbers and slices, and for the check and the run a second one, with the steps as structs.
 // Each returns the refusal's number, 0 for none, and writes eight words: the values that the call answers, or the refusal's place, and zeros.
-#![tactic(auto)]
+#![tactic(auto, using(crate::proofs::Told::telling))]
 
 ghost use Rattle.std.specs.Prelude.{◌≡◌, [], ◌∷◌, ◌/◌, length};
 ghost use Rattle.chain.specs.Chain.{pairs};

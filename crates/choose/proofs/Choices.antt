@@ -1,17 +1,17 @@
 -- What is found before either file decides alone; else the choice depends on the two verdicts, and on the counts only where both files pass.
-use mathlib.Core.Path.{◌≡◌, sym, ap, ap₂, subst, ◌∙◌}
+use mathlib.Core.Path.{◌≡◌, sym, ap, ap₂, ◌∙◌}
 use mathlib.Core.List.{List}
 use Prim.Native.Nat.{ℕ}
-use denote.Ref.{Bor}
 use Rattle.chain.specs.Verdict.{Verdict, fine, refused}
 use Rattle.chain.proofs.Rules.{then_fine, refuse_if_fine, neither as no_test, not_lt}
 use Rattle.layout.specs.Layout.{edition1}
 use Rattle.layout.specs.File.{length_of}
-use Rattle.choose.specs.Choose.{file_rule, better, unless, choose_rule, choice, Handed}
-use Rattle.answers.specs.Answers.{Choice, neither}
+use Rattle.choose.specs.Choose.{file_rule, better, unless, choose_rule, choice}
+use Rattle.answers.specs.Answers.{neither}
 use Rattle.choose.specs.Answers.{count_of}
 use Rattle.choose.specs.Inner.{Enough, FileJudged}
-use Rattle.choose.specs.declared.Judged.{Judged}
+use Rattle.refusal.specs.declared.Refusal.{Refusal}
+use Rattle.std.specs.Prelude.{Result}
 use Rattle.choose.proofs.Preferring.{better_of, same_better}
 
 -- enough is lent for any file
@@ -27,7 +27,7 @@ module _ (p q : ℕ) (amounts a b : List ℕ) (x y z : ℕ) where
   unfolding choice unless
   choice_refused k s e = rw (← e)
 
-  pub choice_made : (i j : Judged) → fine ≡ choose_rule p q amounts x y z
+  pub choice_made : (i j : Result ℕ Refusal) → fine ≡ choose_rule p q amounts x y z
       → FileJudged p q amounts a i → FileJudged p q amounts b j
       → better_of i j ≡ choice p q amounts a b x y z
   unfolding choice unless
@@ -35,7 +35,3 @@ module _ (p q : ℕ) (amounts a b : List ℕ) (x y z : ℕ) where
       ap₂ (λ (v w : Verdict). better v w (count_of i) (count_of j)) f.verdict g.verdict
       ∙ same_better _ _ _ _ _ _ f.count g.count
       ∙ ap (λ (v : Verdict). unless v (better (file_rule p q amounts a) (file_rule p q amounts b) (length_of edition1 a) (length_of edition1 b))) e
-
--- the contract at the choice that was found
-pub handed : {v w : Choice} (a b r : Bor (List ℕ)) (n s : ℕ) → v ≡ w → Handed w a b r n s → Handed v a b r n s
-handed a b r n s e h = subst (λ (u : Choice). Handed u a b r n s) (sym e) h

@@ -1,15 +1,15 @@
--- What each case of the code's `Judged` says (Spec 8).
-use Rattle.std.specs.Prelude.{ℕ}
+-- What each case of a judged file says (Spec 8): its number of steps where it reads and passes, or a refusal.
+use Rattle.std.specs.Prelude.{Result, Ok, Err, ℕ}
 use Rattle.chain.specs.Verdict.{Verdict, fine, refused}
-use Rattle.choose.specs.declared.Judged.{Judged}
-use Rattle.choose.specs.declared.Judged.TheVariants as judged
+use Rattle.refusal.specs.declared.Refusal.{Refusal}
+use Rattle.refusal.specs.Reasons.{number_of}
 
 -- the verdict on a file
-abbrev pub verdict_of : Judged → Verdict
-verdict_of (judged.Passed n) = fine
-verdict_of (judged.Refused number place) = refused number place
+abbrev pub verdict_of : Result ℕ Refusal → Verdict
+verdict_of (Ok n) = fine
+verdict_of (Err r) = refused (number_of r.reason) r.place
 
 -- the number of steps of a file that passed
-abbrev pub count_of : Judged → ℕ
-count_of (judged.Passed n) = n
-count_of (judged.Refused number place) = 0
+abbrev pub count_of : Result ℕ Refusal → ℕ
+count_of (Ok n) = n
+count_of (Err r) = 0

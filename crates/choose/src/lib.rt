@@ -8,17 +8,11 @@ ghost use Rattle.choose.specs.Choose.{better, choose_rule, choice};
 ghost use Rattle.choose.specs.Answers.{verdict_of, count_of};
 ghost use Rattle.choose.specs.Inner.{Enough, FileJudged};
 
-use answers::{Chosen, Reading, Verified};
-use chain::Judgement;
-
-// A file's number of steps where it reads and passes, or a refusal.
-#[derive(Clone, Copy)]
-pub enum Judged {
-    Passed(usize),
-    Refused(u32, usize),
-}
+use answers::Chosen;
+use refusal::{Reason, Refusal};
 
 // 1, 2, then 5: what is found before either file, for so many pairs, outputs and numbers lent.
+#[tactic(auto, using(chain::proofs::Rules::judging), unfolding(crate::specs::Choose::choose_rule))]
 fn judge_lent(
     p: usize,
     q: usize,
@@ -26,48 +20,37 @@ fn judge_lent(
     pairs: usize,
     outputs: usize,
     numbers: usize,
-) -> Judgement
+) -> Result<(), Refusal>
     ensures { judgement.verdict_of result ≡ choose_rule p q amounts.now pairs outputs numbers }
 {
-    match sheet::judge_sheet(p, q, amounts) {
-        Judgement::Refused(number, place) => {
-            return Judgement::Refused(number, place);
-        }
-        Judgement::Fine => {}
+    sheet::judge_sheet(p, q, amounts)?;
+    if pairs < layout::EDITION_1_STEPS
+        || outputs < chain::MOST_PAYSLIPS
+        || numbers < layout::EDITION_1_VALUES
+    {
+        return Err(Reason::Room.into());
     }
-    if pairs < layout::EDITION_1_STEPS {
-        return Judgement::Refused(5, 0);
-    }
-    if outputs < chain::MOST_PAYSLIPS {
-        return Judgement::Refused(5, 0);
-    }
-    if numbers < layout::EDITION_1_VALUES {
-        return Judgement::Refused(5, 0);
-    }
-    Judgement::Fine
+    Ok(())
 }
 
 // The file with fewer steps, the first on equality; else the first file's refusal.
-fn better(x: Judged, y: Judged) -> Chosen
+#[tactic(auto, using(chain::proofs::Rules::le_yes, chain::proofs::Rules::le_no), unfolding(crate::specs::Choose::better))]
+fn better(x: Result<usize, Refusal>, y: Result<usize, Refusal>) -> Result<Chosen, Refusal>
     ensures { choice_of result ≡ better (verdict_of x) (verdict_of y) (count_of x) (count_of y) }
 {
-    match x {
-        Judged::Passed(m) => match y {
-            Judged::Passed(n) => if m <= n {
-                Chosen::First
-            } else {
-                Chosen::Second
-            },
-            Judged::Refused(_, _) => Chosen::First,
+    match (x, y) {
+        (Ok(m), Ok(n)) => if m <= n {
+            Ok(Chosen::First)
+        } else {
+            Ok(Chosen::Second)
         },
-        Judged::Refused(number, place) => match y {
-            Judged::Passed(_) => Chosen::Second,
-            Judged::Refused(_, _) => Chosen::Neither(number, place),
-        },
+        (Ok(_), Err(_)) => Ok(Chosen::First),
+        (Err(_), Ok(_)) => Ok(Chosen::Second),
+        (Err(refusal), Err(_)) => Err(refusal),
     }
 }
 
-// Whether the file in the lent bytes reads and makes the sheet. The lent slices are large enough for any file.
+// How many steps the file in the lent bytes has, where it reads and makes the sheet. The lent slices are large enough for any file.
 fn judge_file(
     p: usize,
     q: usize,
@@ -76,35 +59,17 @@ fn judge_file(
     steps: &mut [u32],
     outputs: &mut [u32],
     numbers: &mut [u32],
-) -> Judged
+) -> Result<usize, Refusal>
     requires { Enough (length steps.old / 2) (length outputs.old) (length numbers.old) }
     ensures { FileJudged p q amounts.now bytes.now result }
 {
-    match reading::read(bytes, steps, outputs) {
-        Reading::Refused(number, place) => Judged::Refused(number, place),
-        Reading::Chain {
-            p: columns,
-            q: payslips,
-            counts,
-        } => {
-            if columns != p {
-                return Judged::Refused(14, 0);
-            }
-            if payslips != q {
-                return Judged::Refused(14, 0);
-            }
-            match checker::verify(
-                p,
-                &steps[..2 * counts.steps],
-                &outputs[..q],
-                amounts,
-                numbers,
-            ) {
-                Verified::Refused(number, place) => Judged::Refused(number, place),
-                Verified::Passed(_) => Judged::Passed(counts.steps),
-            }
-        }
+    let read = reading::read(bytes, steps, outputs)?;
+    if read.p != p || read.q != q {
+        return Err(Reason::Payslip.into());
     }
+    let n = read.counts.steps;
+    checker::verify(p, &steps[..2 * n], &outputs[..q], amounts, numbers)?;
+    Ok(n)
 }
 
 // Which file is chosen.
@@ -117,16 +82,12 @@ pub fn decide(
     steps: &mut [u32],
     outputs: &mut [u32],
     numbers: &mut [u32],
-) -> Chosen
+) -> Result<Chosen, Refusal>
     ensures { choice_of result ≡ choice p q amounts.now a.now b.now
         (length steps.old / 2) (length outputs.old) (length numbers.old) }
 {
-    match judge_lent(p, q, amounts, steps.len() / 2, outputs.len(), numbers.len()) {
-        Judgement::Refused(number, place) => Chosen::Neither(number, place),
-        Judgement::Fine => {
-            let x = judge_file(p, q, amounts, a, steps, outputs, numbers);
-            let y = judge_file(p, q, amounts, b, steps, outputs, numbers);
-            better(x, y)
-        }
-    }
+    judge_lent(p, q, amounts, steps.len() / 2, outputs.len(), numbers.len())?;
+    let x = judge_file(p, q, amounts, a, steps, outputs, numbers);
+    let y = judge_file(p, q, amounts, b, steps, outputs, numbers);
+    better(x, y)
 }

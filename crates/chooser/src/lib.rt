@@ -27,11 +27,11 @@ pub fn choose<'a>(
     *number = 0;
     *place = 0;
     match choose::decide(p, q, amounts, a, b, steps, outputs, numbers) {
-        Chosen::First => a,
-        Chosen::Second => b,
-        Chosen::Neither(k, s) => {
-            *number = k;
-            *place = s;
+        Ok(Chosen::First) => a,
+        Ok(Chosen::Second) => b,
+        Err(refusal) => {
+            *number = refusal.reason.number();
+            *place = refusal.place;
             &a[..0]
         }
     }

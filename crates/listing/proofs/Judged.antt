@@ -10,14 +10,17 @@ use Rattle.chain.specs.Chain.{most_columns, most_payslips, pairs, steps_rule, ou
 use Rattle.chain.specs.declared.Step.{Step}
 use Rattle.chain.proofs.Rules.{stop, pass, refuse_yes, refuse_no, lt_yes, lt_no, answer_refused, answer_done, not_fine}
 use Rattle.chain.proofs.Legal.{chain_parts}
-use Rattle.chain.proofs.Pairs.{pairs_flat}
+use Rattle.chain.specs.Inner.{ChainSound}
+use Rattle.chain.proofs.Pairs.{length_pairs, pairs_flat}
 use Rattle.verify.specs.Verify.{exponents_rule}
 use Rattle.layout.specs.Layout.{edition1}
-use Rattle.layout.specs.File.{longest_file, columns_of, payslips_of, steps_of, outputs_of, read_rule}
+use Rattle.layout.specs.File.{longest_file, columns_of, payslips_of, steps_of, outputs_of, read_rule, read_answer, read_steps, read_outputs}
 use Rattle.layout.proofs.Readable.{readable, columns_low}
-use Rattle.reading.proofs.Good.{Good}
+use Rattle.reading.proofs.Good.{Good, read_good}
+use Rattle.answers.specs.Answers.{chain_in}
+use Rattle.answers.specs.declared.ReadChain.{ReadChain}
 use Rattle.listing.specs.Listing.{amount_of, listing_rule}
-use Rattle.listing.specs.Inner.{TableHolds, AmountsTold, sizes_of}
+use Rattle.listing.specs.Inner.{TableHolds, AmountsTold, sizes_of, FileRoom}
 use Rattle.listing.proofs.Tables.{at_outputs}
 
 -- the answer to a refusal, and what it says of a table, which is nothing
@@ -34,20 +37,28 @@ module _ (bytes : List ℕ) where
   unfolding listing_rule
   unread h k s e = pass _ _ _ (refuse_no _ 6 0 (lt_no _ _ h)) (stop _ _ k s e)
 
+-- what a file that was read tells, where there is room for every file
+module _ (bytes steps outputs scratch table : List ℕ) (room : FileRoom steps outputs scratch table) where
+  pub read_file : (r : ReadChain) → done (chain_in r) ≡ read_answer edition1 bytes (length steps / 2) (length outputs) → (steps' outputs' : List ℕ)
+      → steps' ≡ read_steps edition1 bytes (length outputs) steps → outputs' ≡ read_outputs edition1 bytes (length steps / 2) outputs
+      → Good edition1 bytes steps' outputs' r.p r.q r.counts.steps
+  read_file r e steps' outputs' es eo =
+      read_good edition1 bytes steps outputs (omega (arith, room.steps_whole)) (omega (arith, room.outputs_whole)) r.p r.q r.counts e steps' outputs' es eo
+
 -- a file that was read
 module _ (bytes steps outputs : List ℕ) (p q n : ℕ) (t : Good edition1 bytes steps outputs p q n) where
   steps_are : pairs (take (2 * n) steps) ≡ steps_of edition1 bytes
   steps_are = ap pairs t.taken.steps_front ∙ pairs_flat (steps_of edition1 bytes)
 
-  pub columns_few : p ≤ most_columns
+  columns_few : p ≤ most_columns
   columns_few = rw t.taken.columns (columns_low bytes)
 
-  pub steps_fine : steps_rule p 1 (pairs (take (2 * n) steps)) ≡ fine
+  steps_fine : steps_rule p 1 (pairs (take (2 * n) steps)) ≡ fine
   steps_fine =
       ap₂ (λ (k : ℕ) (l : List Step). steps_rule k 1 l) t.taken.columns steps_are
       ∙ (chain_parts _ _ (outputs_of edition1 bytes) (readable edition1 bytes _ _ (sym t.reads)).chain).0
 
-  pub outputs_fine : outputs_rule (p + length (pairs (take (2 * n) steps))) 1 (take q outputs) ≡ fine
+  outputs_fine : outputs_rule (p + length (pairs (take (2 * n) steps))) 1 (take q outputs) ≡ fine
   outputs_fine =
       ap₂ (λ (k : ℕ) (l : List Step). outputs_rule (k + length l) 1 (take q outputs)) t.taken.columns steps_are
       ∙ ap (outputs_rule (columns_of bytes + length (steps_of edition1 bytes)) 1) t.taken.outputs_front
@@ -56,8 +67,18 @@ module _ (bytes steps outputs : List ℕ) (p q n : ℕ) (t : Good edition1 bytes
   pub outputs_few : length (take q outputs) ≤ most_payslips
   outputs_few = omega (arith, length-take-le q outputs t.taken.outputs_room, (readable edition1 bytes _ _ (sym t.reads)).outputs_room, t.taken.payslips)
 
-  pub room : p + length (take (2 * n) steps) / 2 < most_columns + edition1.limit + 1
-  room = omega (arith, length-take-le (2 * n) steps t.taken.steps_room, t.taken.few, columns_few)
+  -- its chain is sound in scratch for any file's
+  pub sound : (scratch : List ℕ) → length scratch ≡ most_columns + edition1.limit + 1 → ChainSound p (pairs (take (2 * n) steps)) (take q outputs) scratch
+  sound scratch whole =
+      record {
+        steps_sound =
+            record {
+              p_low = columns_few;
+              steps_fine = steps_fine;
+              room = omega (arith, length_pairs (take (2 * n) steps), length-take-le (2 * n) steps t.taken.steps_room, t.taken.few, columns_few, whole);
+            };
+        outputs_fine = outputs_fine;
+      }
 
   module _ (h : length bytes ≤ longest_file) where
     pub measured : (v : Verdict) → v ≡ exponents_rule p (pairs (take (2 * n) steps)) → v ≡ listing_rule bytes

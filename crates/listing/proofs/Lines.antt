@@ -9,6 +9,8 @@ use Rattle.decimal.specs.Decimal.{refused_word, blank, newline, decimal}
 use Rattle.digits.specs.Range.{list_to}
 use Rattle.listing.specs.Listing.{more_fields, line_of, payslip_lines, chain_text, refused_text}
 use Rattle.decimal.specs.Inner.{Put}
+use Rattle.listing.specs.Inner.{SizesAsked}
+use Rattle.decimal.proofs.Decimal.{decimal_short}
 use Rattle.decimal.proofs.Putting.{put_none, put_more, put_one}
 
 -- a part under another name
@@ -42,6 +44,15 @@ put_two at x y l m l' e l'' h w v =
     like at _ _ l e l''
     (ap (λ (t : List ℕ). (blank ∷ decimal x) ++ t) (sym (append-nil (blank ∷ decimal y))))
     (put_more at (blank ∷ decimal x) l m l' w (blank ∷ decimal y) e l'' h v)
+
+-- the sizes have few digits
+pub sizes_short : (bytes p q n : ℕ) (text : List ℕ) → SizesAsked bytes p q n text
+    → (length (decimal p) ≤ 2) × (length (decimal q) ≤ 2) × (length (decimal n) ≤ 5)
+sizes_short bytes p q n text asked = (
+  decimal_short 1 p (omega (arith, asked.sizes_low.p_low)),
+  decimal_short 1 q (omega (arith, asked.sizes_low.q_low)),
+  decimal_short 4 n (omega (arith, asked.n_low)),
+)
 
 -- a line: its first field, the others, and the newline
 module _ (at x : ℕ) (r l : List ℕ) (m : ℕ) (l' : List ℕ) (e : ℕ) (l'' : List ℕ) (w : Put at (decimal x) l m l') (v : Put m (more_fields r) l' e l'') where

@@ -4,20 +4,18 @@ use mathlib.Core.List.{List, [], ◌∷◌, ◌++◌}
 use Prim.Native.Nat.{ℕ, zero, suc, ◌≤◌, ◌<◌}
 use native.Mathlib.Omega.{arith}
 use lib.ListN.{length, get_or}
-use Rattle.chain.specs.Verdict.{fine, refused, answer}
+use Rattle.chain.specs.Verdict.{fine, refused, done, refusal, answer}
 use Rattle.chain.specs.Written.{over}
 use Rattle.chain.specs.Chain.{most_columns, most_payslips, counts}
 use Rattle.chain.proofs.Rules.{then_fine}
 use Rattle.chain.proofs.Written.{over_laid}
 use Rattle.layout.specs.Layout.{edition1}
 use Rattle.layout.specs.File.{columns_of, payslips_of, length_of}
-use Rattle.answers.specs.Answers.{counts_in, read_of}
+use Rattle.answers.specs.Answers.{counts_in}
 use Rattle.answers.specs.declared.Counts.{Counts}
-use Rattle.answers.specs.declared.Reading.{Reading}
-use Rattle.answers.specs.declared.Reading.TheVariants as reading
 use Rattle.layout.proofs.Readable.{readable, columns_low, payslips_low}
 use Rattle.layout.proofs.OneFile.{length_steps_of}
-use Rattle.chain.proofs.Told.{verdict_in, told, told_values_lem}
+use Rattle.chain.proofs.Told.{told, told_values_lem}
 use Rattle.digits.proofs.Listed.{list_same}
 use Rattle.listing.specs.Listing.{line_of, payslip_lines, amount_of, listing_rule, chain_text, refused_text, text_for, listing}
 use Rattle.listing.specs.Inner.{amount_in, TableHolds, sizes_of}
@@ -34,23 +32,20 @@ over_front : (t old : List ℕ) (r : ℕ) (new : List ℕ) → Put 0 t old r new
 over_front t old r new w = (w.place ∙ omega arith, w.text ∙ sym (over_laid t old))
 
 -- what the file's answer tells, and the text that was written
-module _ (bytes : List ℕ) (a : Reading) (answered : read_of a ≡ answer (listing_rule bytes) (sizes_of bytes)) where
-  found : verdict_in (read_of a) ≡ listing_rule bytes
-  found = told _ _ _ answered
-
-  pub listed_refused : (k s : ℕ) (old : List ℕ) (r : ℕ) (new : List ℕ) → a ≡ reading.Refused k s → Put 0 (refused_text k) old r new
+module _ (bytes : List ℕ) where
+  pub listed_refused : (k s : ℕ) (old : List ℕ) (r : ℕ) (new : List ℕ) → refusal k s ≡ answer (listing_rule bytes) (sizes_of bytes) → Put 0 (refused_text k) old r new
       → (r ≡ length (listing bytes)) × (new ≡ over (listing bytes) old)
   unfolding listing text_for
-  listed_refused k s old r new is w =
-      let e : listing_rule bytes ≡ refused k s = sym found ∙ ap (λ (x : Reading). verdict_in (read_of x)) is in
+  listed_refused k s old r new answered w =
+      let e : listing_rule bytes ≡ refused k s = sym (told _ _ _ answered) in
       rw e (over_front (refused_text k) old r new w)
 
-  module _ (p q : ℕ) (c : Counts) (is : a ≡ reading.Chain p q c) where
+  module _ (p q : ℕ) (c : Counts) (answered : done (p ∷ q ∷ counts_in c) ≡ answer (listing_rule bytes) (sizes_of bytes)) where
     abbrev n : ℕ
     n = c.steps
 
     sizes_are : ◌≡◌ {A = List ℕ} (p ∷ q ∷ counts_in c) (sizes_of bytes)
-    sizes_are = told_values_lem _ _ _ (sym (ap read_of is) ∙ answered)
+    sizes_are = told_values_lem _ _ _ answered
 
     columns_are : p ≡ columns_of bytes
     columns_are = ap (λ (l : List ℕ). get_or l 0 0) sizes_are
@@ -63,7 +58,7 @@ module _ (bytes : List ℕ) (a : Reading) (answered : read_of a ≡ answer (list
     steps_are = ap (λ (l : List ℕ). get_or l 2 0) sizes_are ∙ length_steps_of edition1 bytes
 
     rule_fine : listing_rule bytes ≡ fine
-    rule_fine = sym found ∙ ap (λ (x : Reading). verdict_in (read_of x)) is
+    rule_fine = sym (told _ _ _ answered)
 
     pub columns_few : p ≤ most_columns
     columns_few = rw columns_are (columns_low bytes)

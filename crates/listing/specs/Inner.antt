@@ -2,7 +2,7 @@
 -- believe it to believe an entry point's promise.
 use Rattle.std.specs.Prelude.{◌≡◌, List, ◌∷◌, ℕ, ◌+◌, ◌*◌, ◌≤◌, ◌<◌, length, get_or}
 use Rattle.chain.specs.Verdict.{Verdict, fine}
-use Rattle.chain.specs.Chain.{most_columns, most_payslips, counts}
+use Rattle.chain.specs.Chain.{most_columns, most_payslips, pairs, counts}
 use Rattle.chain.specs.Inner.{SizesLow, ChainSound, FiguresAble}
 use Rattle.layout.specs.Layout.{edition1}
 use Rattle.layout.specs.File.{columns_of, payslips_of, steps_of}
@@ -76,7 +76,7 @@ pub record GatherAsked (c : ℕ) (outputs values table : List ℕ) : Type 0 wher
 
 -- a chain whose amounts have room in the table
 pub record MeasureAsked (p : ℕ) (steps outputs scratch table : List ℕ) : Type 0 where
-  pub chain_sound : ChainSound p steps outputs scratch
+  pub chain_sound : ChainSound p (pairs steps) outputs scratch
   pub outputs_few : length outputs ≤ most_payslips
   pub table_whole : length table ≡ table_size
 

@@ -5,10 +5,10 @@ ghost use Rattle.std.specs.Prelude.{◌≡◌, [], ◌∷◌, ◌+◌, ◌*◌, 
 ghost use Rattle.chain.specs.Verdict.{answer};
 ghost use Rattle.chain.specs.Written.{over, laid};
 ghost use Rattle.chain.specs.Chain.{most_payslips, pairs, pick, exponent_of};
-ghost use Rattle.chain.specs.Judgement.{verdict_of};
+ghost use Rattle.chain.specs.Judgement.{verdict_of, answer_of};
 ghost use Rattle.verify.specs.Verify.{exponents_rule};
 ghost use Rattle.layout.specs.File.{columns_of, payslips_of};
-ghost use Rattle.answers.specs.Answers.{read_of};
+ghost use Rattle.answers.specs.Answers.{chain_in};
 ghost use Rattle.listing.specs.Listing.{more_fields, line_of, payslip_lines, amount_of, listing_rule, chain_text, refused_text, listing};
 ghost use Rattle.listing.specs.Inner.{amount_in, TableHolds, AmountsTold, sizes_of, most_field, most_sizes, most_line, most_text};
 ghost use Rattle.listing.specs.Inner.{LineAsked, LinesAsked, SizesAsked, ListingAsked, GatherAsked, MeasureAsked, FileRoom};
@@ -16,8 +16,9 @@ ghost use Rattle.decimal.specs.Inner.{Put, PutShort};
 ghost use Rattle.decimal.specs.Decimal.{blank, decimal};
 ghost use Rattle.digits.specs.Range.{list_to};
 
-use answers::Reading;
-use chain::Judgement;
+use answers::ReadChain;
+use chain::Flat;
+use refusal::{Reason, Refusal};
 
 // The longest parts of a listing: a blank and the digits of an amount; the first line; a payslip's line.
 const MOST_FIELD: usize = 11;
@@ -47,10 +48,8 @@ fn put_amounts(i: usize, p: usize, table: &[u32], at: usize, text: &mut [u8]) ->
     ensures { PutShort (most_field * p) at (more_fields (list_to p (amount_in table.now i))) text.old result text.new }
 {
     let mut end = at;
-    let mut c: usize = 0;
-    while c < p {
+    for c in 0..p {
         end = put_field(table[chain::MOST_PAYSLIPS * c + i], end, text);
-        c += 1;
     }
     end
 }
@@ -72,10 +71,8 @@ fn put_payslips(p: usize, q: usize, table: &[u32], at: usize, text: &mut [u8]) -
     ensures { Put at (payslip_lines p (amount_in table.now) q) text.old result text.new }
 {
     let mut end = at;
-    let mut i: usize = 0;
-    while i < q {
+    for i in 0..q {
         end = put_payslip(i, p, table, end, text);
-        i += 1;
     }
     end
 }
@@ -113,6 +110,7 @@ fn put_refused(number: u32, text: &mut [u8]) -> usize
 }
 
 // The amounts of column c at the outputs, into the column's cells of the table.
+#[tactic(auto, using(crate::proofs::Tables::over_part))]
 fn gather(c: usize, outputs: &[u32], values: &[u32], table: &mut [u32])
     requires { GatherAsked c outputs.now values.now table.old }
     ensures { table.new ≡ laid (most_payslips * c) (pick values.now outputs.now) table.old }
@@ -127,23 +125,24 @@ fn measure(
     outputs: &[u32],
     scratch: &mut [u32],
     table: &mut [u32],
-) -> Judgement
+) -> Result<(), Refusal>
     requires { MeasureAsked p steps.now outputs.now scratch.old table.old }
     ensures { AmountsTold (verdict_of result) (exponents_rule p (pairs steps.now)) (verdict_of result)
         (TableHolds table.new (length outputs.now) p (λ i c. exponent_of p (pairs steps.now) c (get_or outputs.now i 0))) }
 {
     let mut large: usize = 0;
-    let mut c: usize = 0;
-    while c < p {
-        let place = checker::column(p, c, steps, scratch);
+    for c in 0..p {
+        let place = checker::column(p, c, &Flat { numbers: steps }, scratch);
         gather(c, outputs, scratch, table);
         large = verify::earlier(large, place);
-        c += 1;
     }
     if large != 0 {
-        return Judgement::Refused(13, large);
+        return Err(Refusal {
+            reason: Reason::Exponent,
+            place: large,
+        });
     }
-    Judgement::Fine
+    Ok(())
 }
 
 // The file's p, q and n, and its amounts into the table, or the refusal.
@@ -153,23 +152,23 @@ fn measure_file(
     outputs: &mut [u32],
     scratch: &mut [u32],
     table: &mut [u32],
-) -> Reading
+) -> Result<ReadChain, Refusal>
     requires { FileRoom steps.old outputs.old scratch.old table.old }
-    ensures { AmountsTold (read_of result) (answer (listing_rule bytes.now) (sizes_of bytes.now)) (listing_rule bytes.now)
+    ensures { AmountsTold (answer_of chain_in result) (answer (listing_rule bytes.now) (sizes_of bytes.now)) (listing_rule bytes.now)
         (TableHolds table.new (payslips_of bytes.now) (columns_of bytes.now) (amount_of bytes.now)) }
 {
     if MOST_BYTES < bytes.len() {
-        return Reading::Refused(6, 0);
+        return Err(Reason::Length.into());
     }
-    match reading::read(bytes, steps, outputs) {
-        Reading::Refused(number, place) => Reading::Refused(number, place),
-        Reading::Chain { p, q, counts } => {
-            match measure(p, &steps[..2 * counts.steps], &outputs[..q], scratch, table) {
-                Judgement::Refused(number, place) => Reading::Refused(number, place),
-                Judgement::Fine => Reading::Chain { p, q, counts },
-            }
-        }
-    }
+    let read = reading::read(bytes, steps, outputs)?;
+    measure(
+        read.p,
+        &steps[..2 * read.counts.steps],
+        &outputs[..read.q],
+        scratch,
+        table,
+    )?;
+    Ok(read)
 }
 
 // The listing of a file over the front of the text; how many bytes it has.
@@ -182,7 +181,7 @@ pub fn list(bytes: &[u8], text: &mut [u8; MOST_TEXT]) -> usize
     let mut scratch = [0u32; layout::EDITION_1_VALUES];
     let mut table = [0u32; chain::MOST_PAYSLIPS * chain::MOST_COLUMNS];
     match measure_file(bytes, &mut steps, &mut outputs, &mut scratch, &mut table) {
-        Reading::Refused(number, _) => put_refused(number, text),
-        Reading::Chain { p, q, counts } => put_chain(p, q, counts.steps, &table, text),
+        Ok(read) => put_chain(read.p, read.q, read.counts.steps, &table, text),
+        Err(refusal) => put_refused(refusal.reason.number(), text),
     }
 }

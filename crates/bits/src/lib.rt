@@ -81,12 +81,13 @@ fn gather(file: &[u8], i: usize) -> u64
 }
 
 // A file's bytes, over the front of a longer slice. What is taken from a file of fewer than eight bytes is taken from such a copy.
-#[tactic(auto, unfolding(chain::specs::Written::over))]
 pub fn lengthen(file: &[u8], long: &mut [u8])
     requires { length file.now ≤ length long.old }
     ensures { long.new ≡ over file.now long.old }
 {
-    long[..file.len()].copy_from_slice(file);
+    for i in 0..file.len() {
+        long[i] = file[i];
+    }
 }
 
 impl Cursor {

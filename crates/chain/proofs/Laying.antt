@@ -1,19 +1,13 @@
--- A list is laid from a cell on, as a whole or number by number: what the slice will be in the end is always what is left of the list, laid over what the slice is.
+-- A list is laid from a cell on, number by number: what the slice will be in the end is always what is left of the list, laid over what the slice is.
 use mathlib.Core.Path.{◌≡◌, refl, sym, ap, ◌∙◌}
-use mathlib.Core.List.{List, ◌∷◌, ◌++◌}
-use Prim.Native.Nat.{ℕ, ◌+◌, ◌-◌, ◌≤◌, ◌<◌}
+use mathlib.Core.List.{List, ◌∷◌}
+use Prim.Native.Nat.{ℕ, ◌+◌, ◌≤◌, ◌<◌}
 use native.Mathlib.Numerals.{add-one}
 use native.Mathlib.Omega.{arith}
-use lib.ListN.{length, get_or, take, drop, set, length-set, drop_of_length-le}
-use borrow.Rule.Slice.PartMut.{put_mid, Post-is}
+use lib.ListN.{length, get_or, drop, set, length-set, drop_of_length-le}
 use lib.Seq.{drop-cons}
 use Rattle.chain.specs.Written.{over, laid}
 use Rattle.chain.proofs.Written.{laid_nil, laid_on, over_laid}
-
--- a list put in the place of as many cells
-pub part_laid : (at : ℕ) (l old : List ℕ) → put_mid at (at + length l - at) old l ≡ laid at l old
-unfolding laid
-part_laid at l old = ap (λ (t : List ℕ). take at old ++ (l ++ t)) (Post-is at (at + length l) old (omega arith))
 
 module _ (numbers : List ℕ) (at : ℕ) (old : List ℕ) where
   -- the loop's invariant: i numbers are laid

@@ -1,10 +1,9 @@
 -- Parts written one after the other are one part: each is laid where the one before ended.
-use mathlib.Core.Path.{◌≡◌, refl, sym, ap, ◌∙◌}
+use mathlib.Core.Path.{sym, ap, ◌∙◌}
 use mathlib.Core.List.{List, [], ◌∷◌, ◌++◌}
 use Prim.Native.Nat.{ℕ, ◌+◌, ◌/◌, ◌%◌, ◌≤◌, ◌<◌}
 use native.Mathlib.Omega.{arith}
-use lib.ListN.{length, take, drop, set, length-append}
-use lib.Seq.{drop-drop}
+use lib.ListN.{length, set, length-append}
 use Rattle.chain.specs.Written.{laid}
 use Rattle.chain.proofs.Written.{laid_nil, laid-length, laid_one, laid_laid}
 use Rattle.decimal.specs.Decimal.{decimal}
@@ -50,8 +49,3 @@ pub put_digits : (at x : ℕ) (l : List ℕ) (m : ℕ) (l' : List ℕ) → 10 �
 put_digits at x l m l' h room w =
     let more = more-length x h in
     rw (decimal_more x h) (put_one at (decimal (x / 10)) l m l' w (48 + x % 10) (omega arith))
-
--- a word over a part of the text
-pub put_part : (at k : ℕ) (word l m : List ℕ) → k ≡ length word → m ≡ word → Put at word l (at + length word) (take at l ++ (m ++ drop k (drop at l)))
-unfolding laid
-put_part at k word l m e f = record { place = refl; text = rw (f, e, drop-drop (length word) at l) }

@@ -24,7 +24,8 @@ pub fn put_word(word: &[u8], at: usize, text: &mut [u8]) -> usize
     requires { at + length word.now ≤ length text.old }
     ensures { Put at word.now text.old result text.new }
 {
-    let end = at + word.len();
-    text[at..end].copy_from_slice(word);
-    end
+    for i in 0..word.len() {
+        text[at + i] = word[i];
+    }
+    at + word.len()
 }

@@ -1,12 +1,13 @@
 -- A number that is none of a phrase has none, and a phrase fits the text or not.
 use mathlib.Core.Path.{◌≡◌, refl, sym}
-use mathlib.Core.List.{List, [], ◌∷◌, ◌++◌}
+use mathlib.Core.List.{List, [], ◌∷◌}
 use Prim.Native.Nat.{ℕ, zero, suc, ◌-◌, ◌≤◌, ◌<◌}
 use native.Mathlib.Decide.{dec_lt}
 use native.Mathlib.Omega.{arith}
-use lib.ListN.{length, get_or, drop, get_or-eq_default}
-use Rattle.chain.specs.Written.{over}
+use lib.ListN.{length, get_or, get_or-eq_default}
+use Rattle.chain.specs.Written.{laid}
 use Rattle.chain.proofs.Rules.{lt_yes, lt_no}
+use Rattle.chain.proofs.Written.{over_laid}
 use Rattle.decimal.proofs.Choices.{choosing}
 use Rattle.phrases.specs.Phrases.{no_phrase, phrases, first_fault, fault_phrases, phrase, lacks, phrase_number, phrase_words, phrase_text}
 
@@ -38,12 +39,12 @@ module _ (number : ℕ) (text words : List ℕ) (is : words ≡ phrase number) w
     unfolding phrase_number phrase_words phrase_text lacks
     phrase_refused = let h = short' in (search choosing, (search choosing, search choosing))
 
-  module _ (room : length words ≤ length text) (copied : List ℕ) (same : copied ≡ words) where
+  module _ (room : length words ≤ length text) (put : List ℕ) (same : put ≡ laid 0 words text) where
     room' : length (phrase number) ≤ length text
     room' = rw is at room
 
     pub phrase_told : (0 ≡ phrase_number number (length text)) ×
         ((length words ∷ 0 ∷ 0 ∷ 0 ∷ 0 ∷ 0 ∷ 0 ∷ 0 ∷ [] ≡ phrase_words number (length text))
-        × (copied ++ drop (length words) text ≡ phrase_text number text))
-    unfolding phrase_number phrase_words phrase_text lacks over
-    phrase_told = let h = room' in rw (same, is) (search choosing, (search choosing, search choosing))
+        × (put ≡ phrase_text number text))
+    unfolding phrase_number phrase_words phrase_text lacks
+    phrase_told = let h = room' in rw (same, sym (over_laid words text), is) (search choosing, (search choosing, search choosing))

@@ -51,7 +51,7 @@ pub fn phrase(number: u32, text: &mut [u8], answer: &mut [u64; 8]) -> u32
         *answer = [0, 0, 0, 0, 0, 0, 0, 0];
         return 5;
     }
-    text[..words.len()].copy_from_slice(words);
+    let _ = decimal::put_word(words, 0, text);
     *answer = [words.len() as u64, 0, 0, 0, 0, 0, 0, 0];
     0
 }

@@ -1,13 +1,13 @@
--- The list that is laid, renumbered: how long it is and what its numbers are; with another list before it, it is one list over the front.
+-- The list that is laid, renumbered, and what its numbers are; two such lists, one after the other, are one over the front.
 use mathlib.Core.Path.{◌≡◌, refl, sym, ap, ◌∙◌}
 use mathlib.Core.List.{List, [], ◌∷◌, ◌++◌, map}
 use Prim.Native.Nat.{ℕ, zero, suc, ◌+◌, ◌≤◌, ◌<◌, zero-le}
 use native.Mathlib.Omega.{arith}
-use lib.ListN.{length, get_or, drop}
+use lib.ListN.{length, get_or}
 use Rattle.chain.specs.Written.{over, laid}
 use Rattle.chain.proofs.Written.{over_laid, laid_laid}
 use Rattle.pool.specs.Pool.{renumbered}
-use Rattle.pool.proofs.Numbers.{renumbered_start, renumbered_step_lem}
+use Rattle.pool.proofs.Numbers.{renumbered_none, renumbered_start, renumbered_step_lem}
 
 module _ (p n : ℕ) where
   pub number_laid : (i : ℕ) (numbers : List ℕ) → i < length numbers → renumbered p n (get_or numbers i 0) ≡ get_or (map (renumbered p n) numbers) i 0
@@ -15,14 +15,12 @@ module _ (p n : ℕ) where
   number_laid zero (x ∷ l) h = refl
   number_laid (suc i) (x ∷ l) h = number_laid i l (omega arith)
 
-  -- `s` is what was copied, `w` the slice in the end
-  pub both_laid : (first second old s w : List ℕ) → s ≡ first → length first ≤ length old
-      → w ≡ laid (length first) (map (renumbered p n) second) (s ++ drop (length first) old) → w ≡ over (first ++ map (renumbered p n) second) old
-  unfolding over
-  both_laid first second old s w is room e =
-      e
-      ∙ ap (λ (l : List ℕ). laid (length first) (map (renumbered p n) second) (l ++ drop (length first) old)) is
-      ∙ ap (laid (length first) (map (renumbered p n) second)) (over_laid first old)
+  -- `m` is the slice after the first list, `w` after the second
+  pub both_laid : (first second old m w : List ℕ) → m ≡ laid 0 (map (renumbered p 0) first) old → w ≡ laid (length first) (map (renumbered p n) second) m
+      → w ≡ over (first ++ map (renumbered p n) second) old
+  both_laid first second old m w e f =
+      f
+      ∙ ap (laid (length first) (map (renumbered p n) second)) (e ∙ ap (λ (l : List ℕ). laid 0 l old) (renumbered_none p first))
       ∙ laid_laid 0 (length first) first (map (renumbered p n) second) old (omega arith) zero-le
       ∙ sym (over_laid (first ++ map (renumbered p n) second) old)
 

@@ -46,7 +46,7 @@ fn put(to: Numbering, first: &[u32], second: &[u32], cells: &mut [u32])
     requires { PutAsked to first.now second.now cells.old }
     ensures { cells.new ≡ over (first.now ++ map (renumbered to.p to.n) second.now) cells.old }
 {
-    cells[..first.len()].copy_from_slice(first);
+    lay(Numbering { p: to.p, n: 0 }, first, 0, cells);
     lay(to, second, first.len(), cells);
 }
 

@@ -54,7 +54,9 @@ fn lay(numbers: &[u32], at: usize, cells: &mut [u32])
     requires { at + length numbers.now ≤ length cells.old }
     ensures { cells.new ≡ laid at numbers.now cells.old }
 {
-    cells[at..at + numbers.len()].copy_from_slice(numbers);
+    for (i, x) in numbers.iter().enumerate() {
+        cells[at + i] = *x;
+    }
 }
 
 // Value 0 and the bases, over the front of the slice.

@@ -9,5 +9,5 @@ returns-then-text-words c =
 
 pub returns : goal.returns
 returns c =
-    let says = phrase_told _ _ _ c.wording-words.ensures c.if-text-words.false _ c.copy_from_slice.ensures.after in
+    let says = phrase_told _ _ _ c.wording-words.ensures c.if-text-words.false _ c.put_word.ensures.text in
     record { value = says.0; answer_after = says.1.0; text_after = says.1.1 }

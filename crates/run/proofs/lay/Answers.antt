@@ -1,6 +1,13 @@
--- The part copied into holds the numbers.
-use Rattle.chain.proofs.Laying.{part_laid}
+-- A turn lays one number more.
+use Rattle.std.proofs.Common.{refl, arith}
+use Rattle.chain.proofs.Laying.{lay_none, lay_more, lay_all}
 use Rattle.run.proofs.lay.Goals as goal
 
+pub loop-i-init : goal.loop-i-init
+loop-i-init c = lay_none _ _ _
+
+pub loop-i-preserved : goal.loop-i-preserved
+loop-i-preserved c = lay_more _ _ _ _ _ _ c.loop-i-test.true c.requires refl c.loop-i.invariant
+
 pub returns : goal.returns
-returns c = rw (c.copy_from_slice.ensures.after) (part_laid c.args.at c.args.numbers.now c.args.cells.now)
+returns c = lay_all _ _ _ _ _ (omega (arith, c.loop-i-test.false)) c.loop-i.invariant

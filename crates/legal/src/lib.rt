@@ -33,10 +33,12 @@ fn count_steps<S: StepList>(p: usize, steps: &S) -> Tally
 {
     let mut legal: u32 = 0;
     let mut squarings: u32 = 0;
+    let mut v = (p + 1) as u32;
     for s in 0..steps.count() {
         let x = steps.at(s);
-        legal += step::legal((p + s + 1) as u32, x.first, x.second);
+        legal += step::legal(v, x.first, x.second);
         squarings += equal(x.first, x.second);
+        v += 1;
     }
     Tally { legal, squarings }
 }

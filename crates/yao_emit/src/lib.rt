@@ -49,7 +49,11 @@ fn gather_one(
     if digit == d {
         products::times(p, b, power, steps)
     } else {
-        b
+        // field by field, since a product handed on whole is kept in memory
+        PartialProduct {
+            progress: b.progress,
+            value: b.value,
+        }
     }
 }
 

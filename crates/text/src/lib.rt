@@ -235,7 +235,7 @@ pub fn parse(
 {
     let mut made = 0;
     let mut making = Making::Nothing;
-    for i in 0..=text.len() {
+    for i in 0..text.len() + 1 {
         match effect_of(made, room, making, kind_at(by, text, i)) {
             Effect::Becomes(next) => making = next,
             Effect::Ends(x) => {

@@ -7,7 +7,7 @@ ghost use Rattle.chain.specs.Verdict.{done};
 ghost use Rattle.chain.specs.Judgement.{answer_of, number_in};
 ghost use Rattle.answers.specs.Answers.{counts_in, quote_in, size_in, chain_in, figures_in};
 ghost use Rattle.tell.specs.Told.{words_of, chosen_in};
-ghost use Rattle.tell.specs.Inner.{ToldAs};
+ghost use Rattle.tell.specs.Inner.{WordsWritten, ToldAs};
 
 use answers::{Chosen, Counts, Figures, FileSize, Quote, ReadChain};
 use refusal::Refusal;
@@ -20,6 +20,22 @@ pub trait Told {
         ensures { result ≡ words_of (done (values self.now)) };
 }
 
+// A number returned and five words, whatever they are; the other three are zeros.
+pub fn tell_words(
+    number: u32,
+    a: usize,
+    b: usize,
+    c: usize,
+    d: usize,
+    e: usize,
+    answer: &mut [u64; 8],
+) -> u32
+    ensures { WordsWritten number a b c d e result answer.new }
+{
+    *answer = [a as u64, b as u64, c as u64, d as u64, e as u64, 0, 0, 0];
+    number
+}
+
 // The number returned, and the eight words.
 pub fn tell<T: Told + Copy>(told: Result<T, Refusal>, answer: &mut [u64; 8]) -> u32
     ensures { ToldAs (answer_of T.values told) result answer.new }
@@ -29,10 +45,7 @@ pub fn tell<T: Told + Copy>(told: Result<T, Refusal>, answer: &mut [u64; 8]) -> 
             *answer = values.words();
             0
         }
-        Err(refusal) => {
-            *answer = [refusal.place as u64, 0, 0, 0, 0, 0, 0, 0];
-            refusal.reason.number()
-        }
+        Err(refusal) => tell_words(refusal.reason.number(), refusal.place, 0, 0, 0, 0, answer),
     }
 }
 

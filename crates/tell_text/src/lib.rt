@@ -14,18 +14,14 @@ pub fn tell_text(read: Result<(usize, usize), Refusal>, answer: &mut [u64; 8]) -
             *answer = [a as u64, b as u64, 0, 0, 0, 0, 0, 0];
             0
         }
-        Err(refusal) => {
-            *answer = [
-                refusal.spot.line as u64,
-                refusal.spot.column as u64,
-                refusal.found as u64,
-                refusal.wanted as u64,
-                0,
-                0,
-                0,
-                0,
-            ];
-            refusal.fault.number()
-        }
+        Err(refusal) => tell::tell_words(
+            refusal.fault.number(),
+            refusal.spot.line,
+            refusal.spot.column,
+            refusal.found,
+            refusal.wanted,
+            0,
+            answer,
+        ),
     }
 }

@@ -1,10 +1,9 @@
 -- At each turn the verdict on all numbers is the verdict on those that are left.
 use Rattle.std.proofs.Common.{◌≡◌}
-use Rattle.refusal.specs.Reasons.{number_of}
 use Rattle.chain.specs.Chain.{limit_rule}
 use Rattle.chain.proofs.Limits.{numbers_left}
-use Rattle.limit.proofs.judge_numbers.Given as goal
+use Rattle.limit.proofs.judge_by_number.Given as goal
 
 abbrev pub invariant-loop-i : goal.invariant-loop-i
 invariant-loop-i l =
-    limit_rule (number_of l.reason) l.most 1 l.numbers ≡ numbers_left (number_of l.reason) l.most l.numbers l.i
+    limit_rule l.number l.most 1 l.numbers ≡ numbers_left l.number l.most l.numbers l.i

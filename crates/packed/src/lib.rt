@@ -35,18 +35,13 @@ fn count_pairs(bytes: &[u8], at: usize) -> usize
 fn judge_sign(sign: u8, i: usize) -> Result<(), Refusal>
     ensures { verdict_of result ≡ sign_rule i sign }
 {
-    match sign {
-        12 => Ok(()),
-        15 => Ok(()),
-        13 => Err(Refusal {
-            reason: Reason::Minus,
-            place: i,
-        }),
-        _ => Err(Refusal {
-            reason: Reason::Field,
-            place: i,
-        }),
-    }
+    let reason = match sign {
+        12 => return Ok(()),
+        15 => return Ok(()),
+        13 => Reason::Minus,
+        _ => Reason::Field,
+    };
+    Err(Refusal { reason, place: i })
 }
 
 // Field i, which begins at a byte: 18, then 19.

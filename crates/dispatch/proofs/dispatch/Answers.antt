@@ -18,14 +18,14 @@ returns-in_err-count c =
 pub slice_bounds-read-end : goal.slice_bounds-read-end
 slice_bounds-read-end c =
     let a = c.args in
-    let wrote = c.in_ok-count.ensures in
-    write_room edition1 a.p (pairs a.steps.now) a.outputs.now a.bytes.now _ wrote.result_value _ wrote.bytes_after
+    let told = c.in_ok-count.ensures in
+    write_room edition1 a.p (pairs a.steps.now) a.outputs.now a.bytes.now _ told.result_value _ told.bytes_after
 
 pub slice_bounds-read-end-2 : goal.slice_bounds-read-end-2
 slice_bounds-read-end-2 c =
     let a = c.args in
-    let wrote = c.in_ok-count.ensures in
-    sym (length-take-le _ _ (write_room edition1 a.p (pairs a.steps.now) a.outputs.now a.bytes.now _ wrote.result_value _ wrote.bytes_after))
+    let known = c.in_ok-count.ensures in
+    sym (length-take-le _ _ (write_room edition1 a.p (pairs a.steps.now) a.outputs.now a.bytes.now _ known.result_value _ known.bytes_after))
 
 pub returns : goal.returns
 returns c =

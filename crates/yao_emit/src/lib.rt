@@ -49,7 +49,7 @@ fn gather_one(
     if digit == d {
         products::times(p, b, power, steps)
     } else {
-        // field by field, since a product handed on whole is kept in memory
+        // by its fields and not as a whole, which was slower where it was measured (docs/NOTES.md, Speed)
         PartialProduct {
             progress: b.progress,
             value: b.value,

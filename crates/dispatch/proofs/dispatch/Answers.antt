@@ -1,4 +1,5 @@
--- Write refuses, or the bytes that it counted are lent to read; each return is one law of `Dispatching`.
+-- Write refuses, or the bytes that it counted are lent to read; each return is one law of `Dispatching`. What
+-- write told has a name of its own in each answer, so that an edit can follow every line.
 use Rattle.std.proofs.Common.{◌≡◌, sym, rules, Err}
 use lib.Seq.{length-take-le}
 use Rattle.chain.specs.Chain.{pairs}

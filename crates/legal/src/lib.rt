@@ -74,7 +74,7 @@ pub fn judge_steps<S: StepList>(p: usize, steps: &S) -> Result<usize, Refusal>
 pub fn judge_outputs(top: usize, outputs: &[u32]) -> Result<(), Refusal>
     ensures { verdict_of result ≡ outputs_rule top 1 outputs.now }
 {
-    limit::judge_numbers(Reason::Output, top, outputs)
+    limit::judge_by_reason(Reason::Output, top, outputs)
 }
 
 // The steps, then 12.

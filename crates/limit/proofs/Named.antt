@@ -8,15 +8,15 @@ use Rattle.chain.specs.Verdict.{Verdict, fine, refused, ◌then◌, refuse_if}
 use Rattle.chain.specs.Chain.{limit_rule}
 use Rattle.chain.proofs.Rules.{not_fine}
 
-number_in : Verdict → ℕ
-number_in fine = 0
-number_in (refused n s) = n
+refused_under : Verdict → ℕ
+refused_under fine = 0
+refused_under (refused n s) = n
 
 pub named : (number most i : ℕ) (l : List ℕ) (n s : ℕ) → refused n s ≡ limit_rule number most i l → n ≡ number
-unfolding ◌then◌ refuse_if number_in
+unfolding ◌then◌ refuse_if refused_under
 named number most i [] n s e = absurd (not_fine e)
 named number most i (x ∷ l) n s e = by_test (most <? x) refl (named number most (suc i) l n s)
   where
     by_test : (t : Bool) → most <? x ≡ t → (refused n s ≡ limit_rule number most (suc i) l → n ≡ number) → n ≡ number
-    by_test true f later = ap number_in (e ∙ ap (λ (u : Bool). refuse_if u number i then limit_rule number most (suc i) l) f)
+    by_test true f later = ap refused_under (e ∙ ap (λ (u : Bool). refuse_if u number i then limit_rule number most (suc i) l) f)
     by_test false f later = later (e ∙ ap (λ (u : Bool). refuse_if u number i then limit_rule number most (suc i) l) f)

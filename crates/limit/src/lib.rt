@@ -9,7 +9,7 @@ ghost use Rattle.limit.specs.Numbered.{numbered_verdict};
 
 use refusal::{Reason, Refusal};
 
-// A refusal under a bare number, for callers whose numbers are their own.
+// A refusal under a bare number: a caller's numbers may be its own.
 #[derive(Clone, Copy, PartialEq, Eq)]
 pub struct Numbered {
     pub number: u32,
@@ -18,7 +18,7 @@ pub struct Numbered {
 
 // A number above most, refused under a refusal's number, whatever that is; its place counts from 1.
 #[tactic(auto, using(chain::proofs::Limits::limiting))]
-pub fn judge_by_number(number: u32, most: usize, numbers: &[u32]) -> Result<(), Numbered>
+pub fn judge_numbers(number: u32, most: usize, numbers: &[u32]) -> Result<(), Numbered>
     ensures { numbered_verdict result ≡ limit_rule number most 1 numbers.now }
 {
     for (i, x) in numbers.iter().enumerate() {
@@ -33,10 +33,10 @@ pub fn judge_by_number(number: u32, most: usize, numbers: &[u32]) -> Result<(), 
 }
 
 // The same, refused for a reason.
-pub fn judge_numbers(reason: Reason, most: usize, numbers: &[u32]) -> Result<(), Refusal>
+pub fn judge_by_reason(reason: Reason, most: usize, numbers: &[u32]) -> Result<(), Refusal>
     ensures { verdict_of result ≡ limit_rule (number_of reason) most 1 numbers.now }
 {
-    match judge_by_number(reason.number(), most, numbers) {
+    match judge_numbers(reason.number(), most, numbers) {
         Ok(()) => Ok(()),
         Err(found) => Err(Refusal {
             reason,

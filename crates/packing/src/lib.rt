@@ -51,7 +51,7 @@ fn judge_writable(p: usize, q: usize, amounts: &[u32]) -> Result<(), Refusal>
     ensures { verdict_of result ≡ writable_rule p q amounts.now }
 {
     sheet::judge_sheet(p, q, amounts)?;
-    limit::judge_numbers(Reason::Unpackable, MOST_PACKED, amounts)
+    limit::judge_by_reason(Reason::Unpackable, MOST_PACKED, amounts)
 }
 
 // Writes a sheet as fields, each with plus; nothing where an amount is refused.

@@ -2,7 +2,7 @@
 use Rattle.std.proofs.Common.{◌≡◌}
 use Rattle.chain.specs.Chain.{limit_rule}
 use Rattle.chain.proofs.Limits.{numbers_left}
-use Rattle.limit.proofs.judge_by_number.Given as goal
+use Rattle.limit.proofs.judge_numbers.Given as goal
 
 abbrev pub invariant-loop-i : goal.invariant-loop-i
 invariant-loop-i l =

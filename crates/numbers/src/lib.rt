@@ -7,11 +7,11 @@ ghost use Rattle.places.specs.Places.{number_told, words_told};
 ghost use Rattle.text.specs.Text.{numbers_in, numbers_of};
 ghost use Rattle.text.specs.Inner.{ReadTo};
 
-use places::Refusal;
+use places::{Fault, Refusal};
 use text::Parting;
 
 // A text of numbers after its mark.
-fn read_numbers(text: &[u8], numbers: &mut [u32]) -> Result<(usize, usize), Refusal>
+fn read_numbers(text: &[u8], numbers: &mut [u32]) -> Result<(usize, usize), Refusal<Fault>>
     ensures { ReadTo (numbers_in text.now (length numbers.old)) numbers.old result numbers.new }
 {
     if ends::is_cut(text) {

@@ -33,16 +33,16 @@ unfoldable pub is_cut : List ℕ → Bool
 is_cut text = cond (length text =? 0) false (get_or text (length text - 1) 0 ≠? newline)
 
 -- the refusal of a text by a fault at a spot
-abbrev pub refused_at : Fault → Spot → ℕ → ℕ → Refusal
+abbrev pub refused_at : {F : Type 0} → F → Spot → ℕ → ℕ → Refusal F
 refused_at f s seen sought = record { fault = f; spot = s; found = seen; wanted = sought }
 
 -- that of a text cut off, just past its last byte
-unfoldable pub cut_text : List ℕ → Refusal
+unfoldable pub cut_text : List ℕ → Refusal Fault
 cut_text text = refused_at CutOff (spot_of text (length text + 1)) 0 0
 
 -- what a text answers: two values, or a refusal at a line and a column
 abbrev pub Read : Type 0
-Read = Result (ℕ × ℕ) Refusal
+Read = Result (ℕ × ℕ) (Refusal Fault)
 
 abbrev pub values : ℕ → ℕ → Read
 values a b = Ok (a, b)
@@ -50,12 +50,15 @@ values a b = Ok (a, b)
 abbrev pub refused : Fault → ℕ → ℕ → ℕ → ℕ → Read
 refused fault l c seen wanted = Err (refused_at fault (record { line = l; column = c }) seen wanted)
 
--- what is returned: 0, or the refusal's number
+-- what is returned: 0, or the number that the refusal's fault has
+abbrev pub number_by : {F : Type 0} → (F → ℕ) → Result (ℕ × ℕ) (Refusal F) → ℕ
+number_by number (Ok v) = 0
+number_by number (Err r) = number r.fault
+
 abbrev pub number_told : Read → ℕ
-number_told (Ok v) = 0
-number_told (Err r) = number_of r.fault
+number_told = number_by number_of
 
 -- what the eight words are: the values; or line, column, what was found and what was wanted; then zeros
-abbrev pub words_told : Read → List ℕ
+abbrev pub words_told : {F : Type 0} → Result (ℕ × ℕ) (Refusal F) → List ℕ
 words_told (Ok v) = v.0 ∷ v.1 ∷ 0 ∷ 0 ∷ 0 ∷ 0 ∷ 0 ∷ 0 ∷ []
 words_told (Err r) = r.spot.line ∷ r.spot.column ∷ r.found ∷ r.wanted ∷ 0 ∷ 0 ∷ 0 ∷ 0 ∷ []

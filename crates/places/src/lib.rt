@@ -35,10 +35,10 @@ pub struct Spot {
     pub column: usize,
 }
 
-// Why a text is turned down: its fault, where it is, what was found and what was wanted.
+// Why a text is turned down: its fault, or what stands for one, where it is, what was found and what was wanted.
 #[derive(Clone, Copy)]
-pub struct Refusal {
-    pub fault: Fault,
+pub struct Refusal<F> {
+    pub fault: F,
     pub spot: Spot,
     pub found: usize,
     pub wanted: usize,
@@ -76,7 +76,7 @@ fn spot_of(text: &[u8], place: usize) -> Spot
 }
 
 // The refusal of a text by a fault at a place.
-pub fn refuse(text: &[u8], fault: Fault, place: usize, found: usize, wanted: usize) -> Refusal
+pub fn refuse<F>(text: &[u8], fault: F, place: usize, found: usize, wanted: usize) -> Refusal<F>
     ensures { result ≡ refused_at fault (spot_of text.now place) found wanted }
 {
     Refusal {
@@ -89,7 +89,7 @@ pub fn refuse(text: &[u8], fault: Fault, place: usize, found: usize, wanted: usi
 
 // The refusal of a text that was cut off.
 #[tactic(auto, unfolding(crate::specs::Places::cut_text))]
-pub fn cut_text(text: &[u8]) -> Refusal
+pub fn cut_text(text: &[u8]) -> Refusal<Fault>
     ensures { result ≡ cut_text text.now }
 {
     refuse(text, Fault::CutOff, text.len() + 1, 0, 0)

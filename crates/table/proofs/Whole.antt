@@ -8,6 +8,7 @@ use lib.ListN.{length, take, drop, drop_of_length-le}
 use Rattle.chain.specs.Chain.{most_columns}
 use Rattle.chain.proofs.Rules.{lt_yes, lt_no, eq_yes, eq_no, or_left, or_right, or_none}
 use Rattle.std.specs.Prelude.{Err}
+use Rattle.places.specs.declared.Fault.{Fault}
 use Rattle.places.specs.declared.Fault.TheVariants.{OutOfRange}
 use Rattle.places.specs.declared.Refusal.{Refusal}
 use Rattle.places.specs.Places.{is_cut, cut_text, Read, refused}
@@ -45,9 +46,9 @@ module _ (h : Head) (n : ℕ) (all rest : List (List ℕ)) (old : List ℕ) wher
         read_same _ _ old a new (rw (or_none _ _ (eq_no h.fields 0 some) (lt_no most_columns h.fields few), eq_no h.digits 0 e)) r
 
 module _ (text : List ℕ) (t : Bool) (told : t ≡ is_cut text) (n : ℕ) (old : List ℕ) where
-  pub table_cut : (r : Refusal) → t ≡ true → r ≡ cut_text text → ReadTo (table_in text n) old (Err r) old
+  pub table_cut : (r : Refusal Fault) → t ≡ true → r ≡ cut_text text → ReadTo (table_in text n) old (Err r) old
   unfolding table_in
-  table_cut r cut e = read_none _ old _ _ (rw (← told, cut)) (ap (λ (x : Refusal). Err x) e)
+  table_cut r cut e = read_none _ old _ _ (rw (← told, cut)) (ap (λ (x : Refusal Fault). Err x) e)
 
   module _ (whole : t ≡ false) where
     on : table_lines (lines_of text) n ≡ table_in text n

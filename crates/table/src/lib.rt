@@ -78,7 +78,7 @@ fn read_rows(
     start: usize,
     text: &[u8],
     amounts: &mut [u32],
-) -> Result<(usize, usize), Refusal>
+) -> Result<(usize, usize), Refusal<Fault>>
     requires { (p ≤ most_columns) × (start ≤ length text.now + 1) × (first ≤ start + 2) }
     ensures { ReadTo (rows_from by p (length amounts.old) 0 0 first (lines_of (drop start text.now))) amounts.old result
         amounts.new }
@@ -125,7 +125,7 @@ fn read_headed(
     end: usize,
     text: &[u8],
     amounts: &mut [u32],
-) -> Result<(usize, usize), Refusal>
+) -> Result<(usize, usize), Refusal<Fault>>
     requires { (end ≤ length text.now) × (head.stop + 1 < 2 ^ 64) }
     ensures { ReadTo (headed head (length amounts.old) (lines_of text.now) (lines_of (drop (end + 1) text.now)))
         amounts.old result amounts.new }
@@ -150,7 +150,7 @@ fn read_headed(
 }
 
 // A table after its mark.
-fn read_table(text: &[u8], amounts: &mut [u32]) -> Result<(usize, usize), Refusal>
+fn read_table(text: &[u8], amounts: &mut [u32]) -> Result<(usize, usize), Refusal<Fault>>
     ensures { ReadTo (table_in text.now (length amounts.old)) amounts.old result amounts.new }
 {
     if ends::is_cut(text) {

@@ -8,8 +8,10 @@ use Rattle.chain.specs.Written.{over}
 use Rattle.chain.proofs.Written.{over_laid, laid_nil}
 use Rattle.text.specs.declared.Parting.TheVariants.{Free}
 use Rattle.std.specs.Prelude.{Ok, Err}
+use Rattle.places.specs.declared.Fault.{Fault}
 use Rattle.places.specs.declared.Refusal.{Refusal}
 use Rattle.text.specs.declared.Flaw.{Flaw}
+use Rattle.places.specs.Faults.{number_of}
 use Rattle.places.specs.Places.{mark_length, body_of, is_cut, refused_at, spot_of, cut_text, Read, values, number_told, words_told}
 use Rattle.text.specs.Text.{read_text, Parsed, told_numbers, numbers_found, outcome, Outcome, numbers_in}
 use Rattle.places.specs.Inner.{ReadTold}
@@ -30,9 +32,9 @@ module _ (text : List ℕ) (t : Bool) (told : t ≡ is_cut text) where
     unfolding numbers_in
     numbers_out = rw (← told, cut)
 
-    pub numbers_cut : (old : List ℕ) (r : Refusal) → r ≡ cut_text text → ReadTo (numbers_in text n) old (Err r) old
+    pub numbers_cut : (old : List ℕ) (r : Refusal Fault) → r ≡ cut_text text → ReadTo (numbers_in text n) old (Err r) old
     numbers_cut old r e =
-        read_same _ _ old (Err r) old numbers_out (record { answered = ap (λ (x : Refusal). Err x) e; stored = over_none old })
+        read_same _ _ old (Err r) old numbers_out (record { answered = ap (λ (x : Refusal Fault). Err x) e; stored = over_none old })
 
   module _ (n : ℕ) (whole : t ≡ false) where
     numbers_on : numbers_found text (read_text Free text n) ≡ numbers_in text n
@@ -47,13 +49,13 @@ module _ (text : List ℕ) (t : Bool) (told : t ≡ is_cut text) where
     pub numbers_count : (old : List ℕ) (x : ℕ) (new : List ℕ) → FoundTo (read_text Free text n) 0 old (Ok x) new → ReadTo (numbers_in text n) old (values x 0) new
     numbers_count old x new r = numbers_read old (Ok x) _ new r refl
 
-    pub numbers_flaw : (old : List ℕ) (f : Flaw) (r : Refusal) (new : List ℕ) → FoundTo (read_text Free text n) 0 old (Err f) new
+    pub numbers_flaw : (old : List ℕ) (f : Flaw) (r : Refusal Fault) (new : List ℕ) → FoundTo (read_text Free text n) 0 old (Err f) new
         → r ≡ refused_at f.fault (spot_of text f.place) f.found f.wanted → ReadTo (numbers_in text n) old (Err r) new
-    numbers_flaw old f r new h e = numbers_read old (Err f) _ new h (ap (λ (x : Refusal). Err x) e)
+    numbers_flaw old f r new h e = numbers_read old (Err f) _ new h (ap (λ (x : Refusal Fault). Err x) e)
 
 -- what is read of the text after its mark is told
 pub body_told : (f : List ℕ → ℕ → Outcome) (text : List ℕ) (start n : ℕ) (old : List ℕ) (a : Read) (new : List ℕ) (number : ℕ) (words : List ℕ)
-    → start ≡ mark_length text → ReadTo (f (take (length text - start) (drop start text)) n) old a new → ReadTold a number words
+    → start ≡ mark_length text → ReadTo (f (take (length text - start) (drop start text)) n) old a new → ReadTold number_of a number words
     → let o = f (body_of text) n in (number ≡ number_told o.answer) × ((words ≡ words_told o.answer) × (new ≡ over o.numbers old))
 body_told f text start n old a new number words e r t =
     let s = read_same _ _ old a new (ap (λ (b : List ℕ). f b n) (body_part text start e)) r in

@@ -1,9 +1,9 @@
 -- Samples of texts of numbers, computed. What each text is stands in its row's comment, as in C.
-use Rattle.std.specs.Prelude.{◌≡◌, refl, List, [], ◌∷◌, ℕ, map}
+use Rattle.std.specs.Prelude.{◌≡◌, refl, List, [], ◌∷◌, ℕ, map, Err}
 use Rattle.chain.specs.Tests.{◌<?◌, ◌=?◌, ◌≠?◌, ◌or◌}
 use Rattle.places.specs.declared.Fault.TheVariants.{OutOfRange, NoRoom, Unreadable, TooLarge, CutOff, OtherFields, Grouped, Signed, NoAmount}
 use Rattle.places.specs.Faults.{number_of}
-use Rattle.places.specs.Places.{after_byte, spot_of, mark_length, is_cut, cut_text, values, refused, number_told, words_told}
+use Rattle.places.specs.Places.{after_byte, spot_of, mark_length, is_cut, cut_text, refused_at, values, refused, number_by, number_told, words_told}
 use Rattle.text.specs.Text.{fault_of, plain_kind, word_kind, free_kind, grown, begun, before, follow, read_from, read_text, outcome, numbers_in, numbers_of}
 
 -- "12\n3x4\n"
@@ -63,6 +63,8 @@ pub record Samples : Type 0 where
   pub told_values : words_told (values 4 0) ≡ 4 ∷ 0 ∷ 0 ∷ 0 ∷ 0 ∷ 0 ∷ 0 ∷ 0 ∷ []
   pub told_refused : words_told (refused NoRoom 2 3 7 8) ≡ 2 ∷ 3 ∷ 7 ∷ 8 ∷ 0 ∷ 0 ∷ 0 ∷ 0 ∷ []
   pub told_number : number_told (refused NoRoom 2 3 7 8) ≡ 5
+  -- a number that stands for a fault is told as it is
+  pub told_own : number_by (λ n. n) (Err (refused_at 4294967295 (record { line = 2; column = 3 }) 7 8)) ≡ 4294967295
   -- the faults' numbers
   pub told_faults : map number_of (OutOfRange ∷ NoRoom ∷ Unreadable ∷ TooLarge ∷ CutOff ∷ OtherFields ∷ Grouped ∷ Signed ∷ NoAmount ∷ [])
       ≡ 1 ∷ 5 ∷ 101 ∷ 102 ∷ 103 ∷ 104 ∷ 105 ∷ 106 ∷ 107 ∷ []
@@ -100,6 +102,7 @@ samples_hold =
       told_values = refl;
       told_refused = refl;
       told_number = refl;
+      told_own = refl;
       told_faults = refl;
       spot = refl;
       first = refl;

@@ -1,9 +1,7 @@
--- Write refuses, or the bytes that it counted are lent to read; each return is one law of `Dispatching`. What
--- write told has a name of its own in each answer, so that an edit can follow every line.
+-- Write refuses, or the bytes that it counted are lent to read; each return is one law of `Dispatching`.
 use Rattle.std.proofs.Common.{◌≡◌, sym, rules, Err}
 use lib.Seq.{length-take-le}
 use Rattle.chain.specs.Chain.{pairs}
-use Rattle.layout.specs.Layout.{edition1}
 use Rattle.writing.proofs.Told.{write_room}
 use Rattle.dispatch.proofs.Dispatching.{not_written, then_read}
 use Rattle.dispatch.proofs.dispatch.Goals as goal
@@ -17,16 +15,11 @@ returns-in_err-count c =
     (not_written a.p (pairs a.steps.now) a.outputs.now a.bytes.now a.received.now a.results.now _ wrote.bytes_after _ _ wrote.result_value)
 
 pub slice_bounds-read-end : goal.slice_bounds-read-end
-slice_bounds-read-end c =
-    let a = c.args in
-    let told = c.in_ok-count.ensures in
-    write_room edition1 a.p (pairs a.steps.now) a.outputs.now a.bytes.now _ told.result_value _ told.bytes_after
+slice_bounds-read-end c = write_room _ _ _ _ _ _ c.in_ok-count.ensures.result_value _ c.in_ok-count.ensures.bytes_after
 
 pub slice_bounds-read-end-2 : goal.slice_bounds-read-end-2
 slice_bounds-read-end-2 c =
-    let a = c.args in
-    let known = c.in_ok-count.ensures in
-    sym (length-take-le _ _ (write_room edition1 a.p (pairs a.steps.now) a.outputs.now a.bytes.now _ known.result_value _ known.bytes_after))
+    sym (length-take-le _ _ (write_room _ _ _ _ _ _ c.in_ok-count.ensures.result_value _ c.in_ok-count.ensures.bytes_after))
 
 pub returns : goal.returns
 returns c =

@@ -1,9 +1,14 @@
 -- How an answer crosses the C interface: a number and eight words (Req 05).
-use Rattle.std.specs.Prelude.{◌≡◌, List, [], ◌∷◌, ◌++◌, ℕ, length, take}
+use Rattle.std.specs.Prelude.{◌≡◌, List, [], ◌∷◌, ◌++◌, ℕ, length, take, Result, Ok, Err}
 use Rattle.chain.specs.Verdict.{Answer, done, refusal}
 use Rattle.answers.specs.Answers.{Choice, first, second, neither}
 use Rattle.answers.specs.declared.Chosen.{Chosen}
 use Rattle.answers.specs.declared.Chosen.TheVariants.{First, Second}
+
+-- a call's answer by what tells why it refuses: the values, or that number and that place
+abbrev pub answer_by : {A R : Type 0} → (R → ℕ) → (R → ℕ) → (A → List ℕ) → Result A R → Answer
+answer_by number place words (Ok a) = done (words a)
+answer_by number place words (Err r) = refusal (number r) (place r)
 
 -- what is returned: 0 where the call is done, else the refusal's number
 abbrev pub number_of : Answer → ℕ

@@ -3,10 +3,11 @@
 #![tactic(auto)]
 
 ghost use Rattle.std.specs.Prelude.{List, ℕ, ◌≡◌};
+ghost use Rattle.refusal.specs.Reasons.{number_of};
 ghost use Rattle.chain.specs.Verdict.{done};
 ghost use Rattle.chain.specs.Judgement.{answer_of, number_in};
 ghost use Rattle.answers.specs.Answers.{counts_in, quote_in, size_in, chain_in, figures_in};
-ghost use Rattle.tell.specs.Told.{words_of, chosen_in};
+ghost use Rattle.tell.specs.Told.{words_of, chosen_in, answer_by};
 ghost use Rattle.tell.specs.Inner.{WordsWritten, ToldAs};
 
 use answers::{Chosen, Counts, Figures, FileSize, Quote, ReadChain};
@@ -18,6 +19,19 @@ pub trait Told {
 
     fn words(&self) -> [u64; 8]
         ensures { result ≡ words_of (done (values self.now)) };
+}
+
+// Why a call refuses, as it is told: a number, and a place.
+pub trait Refuses {
+    ghost number: { Self → ℕ };
+
+    ghost place: { Self → ℕ };
+
+    fn number(&self) -> u32
+        ensures { result ≡ number self.now };
+
+    fn place(&self) -> usize
+        ensures { result ≡ place self.now };
 }
 
 // A number returned and five words, whatever they are; the other three are zeros.
@@ -36,16 +50,52 @@ pub fn tell_words(
     number
 }
 
-// The number returned, and the eight words.
-pub fn tell<T: Told + Copy>(told: Result<T, Refusal>, answer: &mut [u64; 8]) -> u32
-    ensures { ToldAs (answer_of T.values told) result answer.new }
+// The number returned, and the eight words, whatever the numbers of refusals are.
+pub fn tell_any<T: Told + Copy, R: Refuses + Copy>(told: Result<T, R>, answer: &mut [u64; 8]) -> u32
+    ensures { ToldAs (answer_by R.number R.place T.values told) result answer.new }
 {
     match told {
         Ok(values) => {
             *answer = values.words();
             0
         }
-        Err(refusal) => tell_words(refusal.reason.number(), refusal.place, 0, 0, 0, 0, answer),
+        Err(refusal) => tell_words(refusal.number(), refusal.place(), 0, 0, 0, 0, answer),
+    }
+}
+
+// The same where they are the reasons'.
+pub fn tell<T: Told + Copy>(told: Result<T, Refusal>, answer: &mut [u64; 8]) -> u32
+    ensures { ToldAs (answer_of T.values told) result answer.new }
+{
+    tell_any(told, answer)
+}
+
+impl Refuses for Refusal {
+    ghost number = { λ r. number_of r.reason };
+
+    ghost place = { λ r. r.place };
+
+    fn number(&self) -> u32 {
+        self.reason.number()
+    }
+
+    fn place(&self) -> usize {
+        self.place
+    }
+}
+
+// A caller's numbers may be its own.
+impl Refuses for (u32, usize) {
+    ghost number = { λ r. r.0 };
+
+    ghost place = { λ r. r.1 };
+
+    fn number(&self) -> u32 {
+        self.0
+    }
+
+    fn place(&self) -> usize {
+        self.1
     }
 }
 

@@ -63,7 +63,7 @@ pub fn tell_any<T: Told + Copy, R: Refuses + Copy>(told: Result<T, R>, answer: &
     }
 }
 
-// The same where they are the reasons'.
+// The same for a refusal with a reason.
 pub fn tell<T: Told + Copy>(told: Result<T, Refusal>, answer: &mut [u64; 8]) -> u32
     ensures { ToldAs (answer_of T.values told) result answer.new }
 {
